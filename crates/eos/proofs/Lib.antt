@@ -1,0 +1,11 @@
+pub mod Basics
+pub mod MultisetLaws
+pub mod OrderLaws
+pub mod VectorLaws
+pub mod FiringLaws
+pub mod CauseLaws
+pub mod WeightLaws
+pub mod BoundLaws
+pub mod RunLaws
+pub mod SpreadLaws
+pub mod Cases
