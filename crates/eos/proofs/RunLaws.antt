@@ -1,17 +1,16 @@
 -- Demand 3, for any way of bringing steps, any way of holding markings, and any engine that agrees with the rule within the limits.
-use mathlib.Core.Path.{_≡_, refl, sym, ap, ap₂, _∙_}
+use mathlib.Core.Path.{_≡_, refl, sym, ap, _∙_}
 use mathlib.Core.Bool.{Bool, true, false, cond, true≢false}
-use mathlib.Core.Logic.{_≢_}
-use mathlib.Core.List.{List, [], _∷_, _++_, map}
+use mathlib.Core.List.{List, [], _∷_, map}
 use mathlib.Core.Option.{Option, none, some}
-use Prim.Native.Nat.{ℕ, zero, suc, _+_, _≤_, _<_}
+use Prim.Native.Nat.{ℕ, zero, suc}
 use native.Mathlib.Omega.{arith}
 use native.Mathlib.Nat.{le-of-eq}
 use lib.Dec.{T}
 use lib.IntN.{pos}
-use lib.ListN.{length, getD}
+use lib.ListN.{getD}
 use Rattle.eos.specs.Multiset as M
-use Rattle.eos.specs.Model.{NetToken, Marking, like, before, canonical, Model, event, proper}
+use Rattle.eos.specs.Model.{Marking, like, before, canonical, Model, event, proper}
 use Rattle.eos.specs.Firing.{Step, StepOf, fires, after}
 use Rattle.eos.specs.Causes.{Refusal}
 use Rattle.eos.specs.Weights.{Weights, Shaped, weigh, Balanced, covers, Fits}

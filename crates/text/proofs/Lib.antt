@@ -1,0 +1,17 @@
+pub mod Basics
+pub mod DecimalLaws
+pub mod Standing
+pub mod NumberSteps
+pub mod NumberLaws
+pub mod ListLaws
+pub mod LineLaws
+pub mod TokenLaws
+pub mod Loops
+pub mod Spelled
+pub mod Exactly
+pub mod LinesExactly
+pub mod TokenExactly
+pub mod AnyList
+pub mod Refused
+pub mod Unique
+pub mod Cases

@@ -1,0 +1,94 @@
+-- `number_line` meets its contract: the key, the number with LF, and then its range, each from what the callee ensures.
+use borrow.Author.Needs.{needs}
+use Rattle.text.proofs.lines.number_line.Statement.{statement}
+use Rattle.text.proofs.lines.number_line.Tie as tie
+use Prim.Native.Nat.{_+_}
+use mathlib.Core.Path.{_≡_, sym, _∙_}
+use mathlib.Core.Bool.{true}
+use native.Mathlib.Omega.{arith}
+use borrow.Author.Tests.{not-true, not-false}
+use lib.ListN.{length, drop}
+use denote.Ref.{now}
+use Rattle.text.specs.Bytes.{lf}
+use Rattle.text.specs.Number.{number}
+use Rattle.text.specs.Lists.{item}
+use Rattle.text.specs.Lines.{starts, within}
+use Rattle.text.proofs.NumberLaws.{Exact, Capped, missing-of, exact-of}
+use Rattle.text.proofs.LineLaws.{key-past, within-most, line-other, line-missing, line-out, line-value}
+
+key-is : (c : tie.Else1) → let a = c .before .before .before .before .args in starts (now (a .key)) (drop (a .at) (now (a .s))) ≡ true
+key-is c = sym (c .before .starts .ensures) ∙ not-false _ (c .if1 .left)
+
+-- what `item` read
+read : (c : tie.After-known-told) →
+    let a = c .before .before .before .before .before .before .before .before .args in
+    Exact (item number lf (now (a .s)) (a .at + length (now (a .key)))) (Capped (c .before .value .given .0 .0)) (c .before .value .given .0 .1 .0)
+read c = exact-of _ _ _ (sym (c .before .value .given .1) ∙ c .before .before .before .item .ensures)
+
+inside : (c : tie.Else2) →
+    let m = c .before .before in
+    let a = m .before .before .before .before .before .before .before .before .args in
+    within (a .lo) (a .hi) (m .before .value .given .0 .0) ≡ true
+inside c = sym (c .before .in-range .ensures) ∙ not-false _ (c .if2 .left)
+
+starts-requires : tie.Need-starts-requires
+starts-requires c κs = search needs
+
+returns : tie.Need-returns
+returns c = sym (line-other _ _ _ _ _ (sym (c .before .starts .ensures) ∙ not-true _ (c .if1 .taken)))
+
+add-item : tie.Need-add-item
+add-item c = let a = c .before .before .before .before .args in omega (arith, key-past (a .key .now) (a .s .now) (a .at) (key-is c))
+
+item-requires : tie.Need-item-requires
+item-requires c κs = search needs
+
+enum-known-value : tie.Need-enum-known-value
+enum-known-value c = search needs
+
+enum-told : tie.Need-enum-told
+enum-told c = search needs
+
+returns-2 : tie.Need-returns-2
+returns-2 c =
+    let m = c .before .before in
+    sym (line-missing _ _ _ _ _ (key-is (m .before)) (missing-of _ (sym (c .enum-told .given .1) ∙ m .item .ensures)))
+
+in-range-requires : tie.Need-in-range-requires
+in-range-requires c κs = search needs
+
+returns-3 : tie.Need-returns-3
+returns-3 c =
+    let m = c .before .before in
+    let e = m .before .before .before .before in
+    let f = e .before .before .before .before .fits in
+    sym (line-out _ _ _ _ _ (key-is e) (f .lo .fits) (f .hi .fits) _ _ (read m) (sym (c .before .in-range .ensures) ∙ not-true _ (c .if2 .taken)))
+
+cast-t16 : tie.Need-cast-t16
+cast-t16 c =
+    let m = c .before .before in
+    let b = m .before .before .before .before .before .before .before .before in
+    omega (arith, within-most (b .args .lo) (b .args .hi) (m .before .value .given .0 .0) (inside c), b .fits .hi .fits)
+
+returns-4 : tie.Need-returns-4
+returns-4 c =
+    let m = c .before .before in
+    let e = m .before .before .before .before in
+    let f = e .before .before .before .before .fits in
+    sym (line-value _ _ _ _ _ (key-is e) (f .lo .fits) (f .hi .fits) _ _ (read m) (inside c))
+
+pub number-line-spec : {M : Type 1} → statement M
+number-line-spec =
+    tie.close
+    (tie.spec
+    starts-requires
+    returns
+    add-item
+    item-requires
+    enum-known-value
+    enum-told
+    returns-2
+    in-range-requires
+    returns-3
+    cast-t16
+    returns-4)

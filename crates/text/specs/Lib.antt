@@ -1,0 +1,8 @@
+pub mod Bytes
+pub mod Number
+pub mod Lists
+pub mod Lines
+pub mod Repeat
+pub mod Token
+pub mod Printed
+pub mod Answers

@@ -1,0 +1,53 @@
+-- Lists of values in a line, joined by commas: of numbers and of signed numbers alike.
+use Prim.Native.Nat.{ℕ, zero, suc, _+_}
+use mathlib.Core.List.{List, [], _∷_}
+use mathlib.Core.Bool.{Bool, true, false, _&&_, _||_}
+use lib.Dec.{eqb}
+use lib.ListN.{length, getD}
+use Rattle.text.specs.Bytes.{Text, lf, comma}
+use Rattle.text.specs.Number.{Read, missing, found, number}
+
+-- what ends a value with n more to come: LF after the last, else a comma
+unfoldable pub stopOf : ℕ → ℕ
+stopOf zero = lf
+stopOf (suc n) = comma
+
+module _ {A : Type 0} where
+  -- what was found, if the byte `stop` stands right after it
+  unfoldable pub ended : ℕ → Text → Read A → Read A
+  ended stop s missing = missing
+  ended stop s (found a end) = elim (eqb (getD s end 0) stop) [ true ↦ found a (end + 1) | false ↦ missing ]
+
+  -- a before the others
+  unfoldable pub before : A → Read (List A) → Read (List A)
+  before a missing = missing
+  before a (found l end) = found (a ∷ l) end
+
+-- over a reader of one value
+module _ {A : Type 0} (value : Text → ℕ → Read A) where
+  -- a value and the byte `stop` right after it
+  unfoldable pub item : ℕ → Text → ℕ → Read A
+  item stop s at = ended stop s (value s at)
+
+  -- n values, joined by commas and ended by LF; for no value, nothing at all
+  unfoldable pub items : ℕ → Text → ℕ → Read (List A)
+  items zero s at = found [] at
+  items (suc n) s at = elim (item (stopOf n) s at) [ missing ↦ missing | found a next ↦ before a (items n s next) ]
+
+  -- a list of n values to the end of its line. 01: "a list of length 0 is nothing after the sign"
+  unfoldable pub listEnd : ℕ → Text → ℕ → Read (List A)
+  listEnd zero s at = ended lf s (found [] at)
+  listEnd (suc n) s at = items (suc n) s at
+
+-- numbers to the end of the line, at least one and at most k
+unfoldable pub anyItems : ℕ → Text → ℕ → Bool
+anyItems zero s at = false
+anyItems (suc k) s at =
+    elim (number s at) [
+      | missing ↦ false
+      | found v end ↦ eqb (getD s end 0) lf || (eqb (getD s end 0) comma && anyItems k s (end + 1))
+    ]
+
+-- a list of numbers of any length to the end of its line; a text has fewer numbers than bytes
+unfoldable pub anyList : Text → ℕ → Bool
+anyList s at = eqb (getD s at 0) lf || anyItems (length s) s at

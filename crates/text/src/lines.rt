@@ -1,0 +1,121 @@
+// Lines `key=number`, `key=list` and `key=weights`. A key has its '=' at its end.
+ghost use mathlib.Core.Path.{_≡_};
+ghost use Prim.Native.Nat.{_+_};
+ghost use lib.Dec.{leb};
+ghost use lib.ListN.{drop, take};
+ghost use Rattle.text.specs.Lines.{starts, within, readNumber, readHead, readList, readWeights, modest, newlines};
+ghost use Rattle.text.specs.Answers.{lineOf, rowOf, weightRowOf};
+use super::Decimal;
+use super::Fault;
+use super::Line;
+use super::Row;
+use super::WeightRow;
+use super::lists::list_end;
+use super::lists::no_row;
+use super::lists::no_weights;
+use super::lists::weights_end;
+use super::numbers::item;
+
+// Whether key stands at `at`.
+pub fn starts(s: &[u8], at: usize, key: &[u8]) -> bool
+    ensures { λ r. ⌜ r ≡ starts (now (key .entry)) (drop at (now (s .entry))) ⌝ }
+{
+    if s.len() < at {
+        return key.len() == 0;
+    }
+    let mut i = 0;
+    while i < key.len() {
+        if s.len() - at <= i {
+            return false;
+        }
+        if s[at + i] != key[i] {
+            return false;
+        }
+        i += 1;
+    }
+    true
+}
+
+fn in_range(v: u32, lo: u16, hi: u16) -> bool
+    ensures { λ r. ⌜ r ≡ within lo hi v ⌝ }
+{
+    if v < lo as u32 {
+        return false;
+    }
+    v <= hi as u32
+}
+
+// The line of key and one number from lo to hi.
+pub fn number_line(s: &[u8], at: usize, key: &[u8], lo: u16, hi: u16) -> Line
+    ensures { λ r. ⌜ r ≡ lineOf (readNumber (now (key .entry)) (within lo hi) (now (s .entry)) at) ⌝ }
+{
+    if !starts(s, at, key) {
+        return Line::Refused {
+            fault: Fault { why: 2, at },
+        };
+    }
+    let Decimal::Found { value, end } = item(s, at + key.len(), 10) else {
+        return Line::Refused {
+            fault: Fault { why: 2, at },
+        };
+    };
+    if !in_range(value, lo, hi) {
+        return Line::Refused {
+            fault: Fault { why: 3, at },
+        };
+    }
+    Line::Value {
+        value: value as u16,
+        next: end,
+    }
+}
+
+// The first line of a file, whose number is 1; any other number is a fault of the syntax.
+pub fn head_line(s: &[u8], at: usize, key: &[u8]) -> Line
+    ensures { λ r. ⌜ r ≡ lineOf (readHead (now (key .entry)) (now (s .entry)) at) ⌝ }
+{
+    let Line::Value { value, next } = number_line(s, at, key, 1, 1) else {
+        return Line::Refused {
+            fault: Fault { why: 2, at },
+        };
+    };
+    Line::Value { value, next }
+}
+
+// The line of key and n numbers up to hi.
+pub fn list_line(s: &[u8], at: usize, key: &[u8], n: usize, hi: u16) -> Row
+    ensures { λ r. ⌜ r ≡ rowOf (readList (now (key .entry)) n (λ v. leb v hi) (now (s .entry)) at) ⌝ }
+{
+    if starts(s, at, key) {
+        return list_end(s, at, at + key.len(), n, hi);
+    }
+    no_row(2, at)
+}
+
+// The line of key and n weights of at most hi either side of 0.
+pub fn weight_line(s: &[u8], at: usize, key: &[u8], n: usize, hi: u16) -> WeightRow
+    ensures { λ r. ⌜ r ≡ weightRowOf (readWeights (now (key .entry)) n (modest hi) (now (s .entry)) at) ⌝ }
+{
+    if starts(s, at, key) {
+        return weights_end(s, at, at + key.len(), n, hi);
+    }
+    no_weights(2, at)
+}
+
+// How many lines end before `at`.
+pub fn lines_before(s: &[u8], at: usize) -> usize
+    ensures { λ r. ⌜ r ≡ newlines (take at (now (s .entry))) ⌝ }
+{
+    let mut n = 0;
+    let mut i = 0;
+    while i < s.len() {
+        if at <= i {
+            return n;
+        }
+        if s[i] == 10 {
+            n += 1;
+        }
+        i += 1;
+    }
+    n
+}
