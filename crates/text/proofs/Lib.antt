@@ -6,9 +6,14 @@ pub mod NumberLaws
 pub mod ListLaws
 pub mod LineLaws
 pub mod TokenLaws
+pub mod PaddedLaws
 pub mod Loops
 pub mod Spelled
 pub mod Exactly
+pub mod TestLaws
+pub mod LengthLaws
+pub mod ManyExactly
+pub mod ChainExactly
 pub mod LinesExactly
 pub mod TokenExactly
 pub mod AnyList

@@ -6,8 +6,9 @@ use native.Mathlib.Omega.{arith}
 use native.Mathlib.Numerals.{add-one}
 use Rattle.text.specs.Lines.{Outcome, got, bad, then, many}
 use Rattle.text.specs.Repeat.{manyAt, fill, filled}
-use Rattle.text.specs.Answers.{endedOf}
+use Rattle.text.specs.Answers.{lineOf, endedOf}
 use Rattle.text.specs.declared.Fault.{Fault}
+use Rattle.text.specs.declared.Line.the-variants.{Value, Refused}
 use Rattle.text.specs.declared.Ended.{Ended}
 use Rattle.text.specs.declared.Ended.the-variants.{Past, Stopped}
 
@@ -30,6 +31,17 @@ module _ {A : Type 0} (o : Outcome A) (e : Ended) where
       go : (o : Outcome A) → endedOf o ≡ Stopped d → o ≡ bad d
       go (got a t) r = let y : Past t ≡ Stopped d = unfold endedOf in r in let z : _≡_ {A = ℕ} 0 1 = cc in absurd (omega arith)
       go (bad c) r = let z : Stopped c ≡ Stopped d = unfold endedOf in r in cc
+
+-- the same of the line of one number
+pub line-got : (o : Outcome ℕ) (v next : ℕ) → Value v next ≡ lineOf o → o ≡ got v next
+unfolding lineOf
+line-got (got w t) v next e = cc
+line-got (bad d) v next e = let z : _≡_ {A = ℕ} 0 1 = cc in absurd (omega arith)
+
+pub line-bad : (o : Outcome ℕ) (d : Fault) → Refused d ≡ lineOf o → o ≡ bad d
+unfolding lineOf
+line-bad (got w t) d e = let z : _≡_ {A = ℕ} 0 1 = cc in absurd (omega arith)
+line-bad (bad c) d e = cc
 
 -- what is put behind the thing just read
 put-next : {A B : Type 0} (put : ℕ → A → B → B) (i : ℕ) (t : B) (o : Outcome (List A)) (a : A)

@@ -42,6 +42,11 @@ unfoldable pub lineOf : Outcome ℕ → Line
 lineOf (got v next) = Value v next
 lineOf (bad e) = Refused e
 
+-- how the line of one number ended
+abbrev pub endedIn : Line → Ended
+endedIn (Value v next) = Past next
+endedIn (Refused e) = Stopped e
+
 unfoldable pub endedOf : {A : Type 0} → Outcome A → Ended
 endedOf (got a next) = Past next
 endedOf (bad e) = Stopped e

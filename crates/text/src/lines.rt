@@ -4,8 +4,9 @@ ghost use Prim.Native.Nat.{_+_};
 ghost use lib.Dec.{leb};
 ghost use lib.ListN.{drop, take};
 ghost use Rattle.text.specs.Lines.{starts, within, readNumber, readHead, readList, readWeights, modest, newlines};
-ghost use Rattle.text.specs.Answers.{lineOf, rowOf, weightRowOf};
+ghost use Rattle.text.specs.Answers.{lineOf, endedIn, rowOf, weightRowOf};
 use super::Decimal;
+use super::Ended;
 use super::Fault;
 use super::Line;
 use super::Row;
@@ -67,6 +68,16 @@ pub fn number_line(s: &[u8], at: usize, key: &[u8], lo: u16, hi: u16) -> Line
     Line::Value {
         value: value as u16,
         next: end,
+    }
+}
+
+// How the line of one number ended.
+pub fn ended_of(line: Line) -> Ended
+    ensures { λ r. ⌜ r ≡ endedIn line ⌝ }
+{
+    match line {
+        Line::Value { value: _, next } => Ended::Past { next },
+        Line::Refused { fault } => Ended::Stopped { fault },
     }
 }
 

@@ -1,0 +1,6 @@
+pub mod BlockExactly
+pub mod OrderLaws
+pub mod HoldLaws
+pub mod RowLaws
+pub mod BlockLaws
+pub mod TestLaws

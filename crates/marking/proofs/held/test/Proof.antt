@@ -1,0 +1,70 @@
+use borrow.Author.Needs.{needs}
+use Rattle.marking.proofs.held.test.Statement.{statement}
+use Rattle.marking.proofs.held.test.Tie as tie
+use Rattle.marking.proofs.held.test.Reads as reads
+use Rattle.marking.proofs.held.test.Lts as lts
+use Rattle.marking.proofs.held.right_rows.Reads as right-rows-reads
+use Rattle.rows.proofs.empty_from.Reads as empty-from-reads
+use Rattle.rows.proofs.in_order.Reads as in-order-reads
+use mathlib.Core.Path.{_≡_, sym, _∙_}
+use native.Mathlib.Omega.{arith}
+use borrow.Author.Tests.{not-true, not-false}
+use lib.ListN.{length}
+use Rattle.marking.proofs.TestLaws.{held-many, held-disordered, held-beyond, held-rest}
+
+returns : tie.Need-returns
+returns c = held-many _ _ (c .if1 .taken)
+
+slice-aggregate-in-order : tie.Need-slice-aggregate-in-order
+slice-aggregate-in-order c = search needs
+
+in-order-requires : tie.Need-in-order-requires
+in-order-requires c κs = search needs
+
+returns-2 : tie.Need-returns-2
+returns-2 c = held-disordered _ _ (omega arith) (sym (c .before .in-order .ensures) ∙ not-true _ (c .if2 .taken))
+
+slice-aggregate-empty-from : tie.Need-slice-aggregate-empty-from
+slice-aggregate-empty-from c = search needs
+
+mul-empty-from : tie.Need-mul-empty-from
+mul-empty-from c = search needs
+
+empty-from-requires : tie.Need-empty-from-requires
+empty-from-requires c κs = search needs
+
+returns-3 : tie.Need-returns-3
+returns-3 c =
+    let o = c .before .before .before in
+    held-beyond _ _ (omega arith) (sym (o .before .in-order .ensures) ∙ not-false _ (o .if2 .left)) (sym (c .before .empty-from .ensures) ∙ not-true _ (c .if3 .taken))
+
+slice-aggregate-right-rows : tie.Need-slice-aggregate-right-rows
+slice-aggregate-right-rows c = search needs
+
+right-rows-requires : tie.Need-right-rows-requires
+right-rows-requires c κs =
+    let n : length (c .before .before .before .before .before .before .before .before .before .args .k .rows) ≡ 8448 = search needs in
+    (omega arith, omega arith)
+
+returns-4 : tie.Need-returns-4
+returns-4 c =
+    let e = c .before .before in
+    let o = e .before .before .before in
+    c .right-rows .ensures
+    ∙ held-rest _ _ (omega arith) (sym (o .before .in-order .ensures) ∙ not-false _ (o .if2 .left)) (sym (e .before .empty-from .ensures) ∙ not-false _ (e .if3 .left))
+
+pub test-spec : {M : Type 1} → statement M
+test-spec =
+    tie.close
+    (tie.spec
+    returns
+    slice-aggregate-in-order
+    in-order-requires
+    returns-2
+    slice-aggregate-empty-from
+    mul-empty-from
+    empty-from-requires
+    returns-3
+    slice-aggregate-right-rows
+    right-rows-requires
+    returns-4)

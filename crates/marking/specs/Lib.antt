@@ -1,0 +1,5 @@
+pub mod Held
+pub mod Reading
+pub mod Printed
+pub mod Answers
+pub mod Writing

@@ -1,0 +1,44 @@
+// The held marking: net-tokens in canonical order, read from their lines, tested and written.
+ghost use mathlib.Core.Path.{_≡_};
+ghost use Rattle.marking.specs.Held.{noMarking};
+use text::Ended;
+
+pub mod blocks;
+pub mod held;
+
+// One net-token: its place's number, from 1, and its counts. Unused room is 0.
+pub struct NetToken {
+    pub place: u16,
+    pub counts: [u16; 32],
+}
+
+// Up to 256 net-tokens in canonical order. A net-token is a row of 33 numbers: its place's number, from 1, and its counts. Unused room
+// is 0.
+pub struct Marking {
+    pub len: usize,
+    pub rows: [u16; 8448],
+}
+
+impl Marking {
+    // No net-token.
+    pub fn empty() -> Marking
+        ensures { λ r. ⌜ r ≡ noMarking ⌝ }
+    {
+        Marking {
+            len: 0,
+            rows: [0u16; 8448],
+        }
+    }
+}
+
+// How the reading of net-tokens ended, and the net-tokens; a refusal holds none.
+pub struct Block {
+    pub ended: Ended,
+    pub marking: Marking,
+}
+
+// How writing a marking ended: the whole text, so many bytes, or not at all, and so many bytes are needed.
+pub enum Wrote {
+    Whole { bytes: usize },
+    Short { needed: usize },
+}

@@ -1,0 +1,12 @@
+pub mod RuleLaws
+pub mod PadLaws
+pub mod SlotLaws
+pub mod TableLaws
+pub mod HoldLaws
+pub mod TestLaws
+pub mod HeldBack
+pub mod HoldHeld
+pub mod HeldRight
+pub mod HeldLaws
+pub mod RuleLoops
+pub mod TestLoops

@@ -1,0 +1,4 @@
+pub mod Rules
+pub mod Held
+pub mod Test
+pub mod Parts

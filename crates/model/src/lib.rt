@@ -1,0 +1,100 @@
+// The held model: a plant's places, moves, object nets and events in arrays of fixed room. Its rules, and the test of a held model.
+ghost use mathlib.Core.Path.{_≡_};
+ghost use Rattle.model.specs.Held.{noNet, noEvent, noModel};
+
+pub mod held;
+pub mod rules;
+
+// An object net; arcs at transition * 32 + place. Unused room is 0.
+pub struct ObjectNet {
+    pub places: usize,
+    pub transitions: usize,
+    pub pre: [u8; 1024],
+    pub post: [u8; 1024],
+}
+
+impl ObjectNet {
+    pub fn empty() -> ObjectNet
+        ensures { λ r. ⌜ r ≡ noNet ⌝ }
+    {
+        ObjectNet {
+            places: 0,
+            transitions: 0,
+            pre: [0u8; 1024],
+            post: [0u8; 1024],
+        }
+    }
+}
+
+// An event: of kind 1 a move, of kind 2 idling at a place; the index is the move's or the place's number, from 1. The count of a
+// transition stands at net * 32 + transition. Unused room is 0.
+pub struct Event {
+    pub kind: u8,
+    pub index: u8,
+    pub sync: [u8; 256],
+}
+
+impl Event {
+    pub fn empty() -> Event
+        ensures { λ r. ⌜ r ≡ noEvent ⌝ }
+    {
+        Event {
+            kind: 0,
+            index: 0,
+            sync: [0u8; 256],
+        }
+    }
+}
+
+// The held model; arcs at move * 32 + place. Unused room is 0.
+pub struct Model {
+    pub nets: usize,
+    pub places: usize,
+    pub moves: usize,
+    pub listed: usize,
+    pub types: [u8; 32],
+    pub pre: [u8; 1024],
+    pub post: [u8; 1024],
+    pub objects: [ObjectNet; 8],
+    pub events: [Event; 64],
+}
+
+impl Model {
+    // 01's limits.
+    pub const NETS: u16 = 8;
+
+    pub const PLACES: u16 = 32;
+
+    pub const MOVES: u16 = 32;
+
+    pub const INNER: u16 = 32;
+
+    pub const STEPS: u16 = 32;
+
+    pub const EVENTS: u16 = 64;
+
+    pub const ARC: u16 = 255;
+
+    pub const TOKENS: u16 = 256;
+
+    pub const COUNT: u16 = 65535;
+
+    // The empty model: no places.
+    pub fn empty() -> Model
+        ensures { λ r. ⌜ r ≡ noModel ⌝ }
+    {
+        let net = ObjectNet::empty();
+        let event = Event::empty();
+        Model {
+            nets: 0,
+            places: 0,
+            moves: 0,
+            listed: 0,
+            types: [0u8; 32],
+            pre: [0u8; 1024],
+            post: [0u8; 1024],
+            objects: [net; 8],
+            events: [event; 64],
+        }
+    }
+}

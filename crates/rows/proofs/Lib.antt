@@ -1,0 +1,7 @@
+pub mod Compare
+pub mod Shift
+pub mod Place
+pub mod RowLaws
+pub mod Walk
+pub mod Change
+pub mod KeptLaws
