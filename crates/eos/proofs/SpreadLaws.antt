@@ -32,7 +32,7 @@ unfolding spread binomial
 spread-none zero = refl
 spread-none (suc k) = rw (zero-add (suc k), zero-add k, binomial-self (suc k), binomial-self k)
 
-spread-more : (n k : ℕ) → spread (suc n) (suc k) ≡ spread (suc n) k + spread n (suc k)
+pub spread-more : (n k : ℕ) → spread (suc n) (suc k) ≡ spread (suc n) k + spread n (suc k)
 unfolding spread binomial
 spread-more n zero = refl
 spread-more n (suc k) = rw (suc-add n (suc k), suc-add n k, add-suc n k)

@@ -4,3 +4,5 @@ pub mod HoldLaws
 pub mod RowLaws
 pub mod BlockLaws
 pub mod TestLaws
+pub mod LayLaws
+pub mod WriteLaws

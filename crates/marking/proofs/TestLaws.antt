@@ -1,7 +1,7 @@
 -- Laws of the held test as the code makes it: one row, and row after row.
 use Prim.Native.Nat.{ℕ, suc, _+_, _-_, _*_, _≤_, _<_}
 use mathlib.Core.Path.{_≡_, _∙_}
-use mathlib.Core.List.{List}
+use mathlib.Core.List.{List, [], _∷_}
 use mathlib.Core.Bool.{Bool, true, false, and-false}
 use native.Mathlib.Omega.{arith}
 use native.Mathlib.Nat.{add-zero}
@@ -38,21 +38,31 @@ pub row-part : (z : Sizes) (rows : List ℕ) (at size m : ℕ) → (getD rows at
 row-part z rows at size m n h e k = rw (e, k) (row-room z (take 33 (drop at rows)) (getD rows at 0) (row-front rows at) n h)
 
 -- the first n rows, from row i on
+abbrev pub rowsFrom : List ℕ → ℕ → ℕ → List Row
+rowsFrom rows n i = rowsIn (n - i) (drop (i * 33) rows)
+
+pub from-next : (rows : List ℕ) (n i : ℕ) → i < n → rowsFrom rows n i ≡ take 33 (drop (i * 33) rows) ∷ rowsFrom rows n (i + 1)
+from-next rows n i h =
+    let k : n - i ≡ suc (n - (i + 1)) = omega arith in
+    let m : i * 33 + 33 ≡ (i + 1) * 33 = omega arith in
+    rw (k, drop-drop 33 (i * 33) rows, m)
+
+pub from-end : (rows : List ℕ) (n i : ℕ) → n ≤ i → rowsFrom rows n i ≡ []
+from-end rows n i h = let k : n - i ≡ 0 = omega arith in rw k
+
+-- a test of them
 module _ (f : Row → Bool) (rows : List ℕ) (n i : ℕ) where
   abbrev pub fromRow : Bool
-  fromRow = every f (rowsIn (n - i) (drop (i * 33) rows))
+  fromRow = every f (rowsFrom rows n i)
 
   pub rows-bad : i < n → f (take 33 (drop (i * 33) rows)) ≡ false → fromRow ≡ false
-  rows-bad h e = let k : n - i ≡ suc (n - suc i) = omega arith in rw (k, e)
+  rows-bad h e = rw (from-next rows n i h, e)
 
-  pub rows-more : i < n → f (take 33 (drop (i * 33) rows)) ≡ true → fromRow ≡ every f (rowsIn (n - (i + 1)) (drop ((i + 1) * 33) rows))
-  rows-more h e =
-      let k : n - i ≡ suc (n - (i + 1)) = omega arith in
-      let m : i * 33 + 33 ≡ (i + 1) * 33 = omega arith in
-      rw (k, e, drop-drop 33 (i * 33) rows, m)
+  pub rows-more : i < n → f (take 33 (drop (i * 33) rows)) ≡ true → fromRow ≡ every f (rowsFrom rows n (i + 1))
+  rows-more h e = rw (from-next rows n i h, e)
 
   pub rows-done : n ≤ i → fromRow ≡ true
-  rows-done h = let k : n - i ≡ 0 = omega arith in rw k
+  rows-done h = rw (from-end rows n i h)
 
 -- ---- the whole test, by the first of its parts that fails
 

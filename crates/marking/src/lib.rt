@@ -5,6 +5,7 @@ use text::Ended;
 
 pub mod blocks;
 pub mod held;
+pub mod writing;
 
 // One net-token: its place's number, from 1, and its counts. Unused room is 0.
 pub struct NetToken {

@@ -42,7 +42,7 @@ pub fn write_text(out: &mut [u8], at: usize, text: &[u8]) -> Written
 }
 
 // How many digits n has.
-fn width(n: u64) -> usize
+pub fn width(n: u64) -> usize
     ensures { λ r. ⌜ r ≡ length (decimal n) ⌝ }
 {
     let mut v = n;

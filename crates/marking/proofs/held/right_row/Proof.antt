@@ -1,10 +1,7 @@
+-- `right_row` meets its contract: the place first, and then the room behind the counts.
 use borrow.Author.Needs.{needs}
 use Rattle.marking.proofs.held.right_row.Statement.{statement}
 use Rattle.marking.proofs.held.right_row.Tie as tie
-use Rattle.marking.proofs.held.right_row.Reads as reads
-use Rattle.marking.proofs.held.right_row.Lts as lts
-use Rattle.marking.proofs.held.size_at.Reads as size-at-reads
-use Rattle.rows.proofs.empty_from.Reads as empty-from-reads
 use mathlib.Core.Path.{_≡_, _∙_}
 use Prim.Native.Nat.{_+_, _-_}
 use native.Mathlib.Omega.{arith}

@@ -1,9 +1,7 @@
+-- `right_rows` meets its contract. The loop's invariant: the rows before i are right, and those from i on decide.
 use borrow.Author.Needs.{needs}
 use Rattle.marking.proofs.held.right_rows.Statement.{statement}
 use Rattle.marking.proofs.held.right_rows.Tie as tie
-use Rattle.marking.proofs.held.right_rows.Reads as reads
-use Rattle.marking.proofs.held.right_rows.Lts as lts
-use Rattle.marking.proofs.held.right_row.Reads as right-row-reads
 use Prim.Native.Nat.{_≤_, _-_}
 use mathlib.Core.Path.{_≡_, sym, _∙_}
 use native.Mathlib.Omega.{arith}

@@ -1,8 +1,7 @@
+-- `size_at` meets its contract: past the end there is nothing to look up.
 use borrow.Author.Needs.{needs}
 use Rattle.marking.proofs.held.size_at.Statement.{statement}
 use Rattle.marking.proofs.held.size_at.Tie as tie
-use Rattle.marking.proofs.held.size_at.Reads as reads
-use Rattle.marking.proofs.held.size_at.Lts as lts
 use native.Mathlib.Omega.{arith}
 use mathlib.Core.Path.{_≡_, sym}
 use Prim.Native.Nat.{_≤_}

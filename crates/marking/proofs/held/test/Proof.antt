@@ -1,11 +1,7 @@
+-- `test` meets its contract: the first part of the held test that fails decides.
 use borrow.Author.Needs.{needs}
 use Rattle.marking.proofs.held.test.Statement.{statement}
 use Rattle.marking.proofs.held.test.Tie as tie
-use Rattle.marking.proofs.held.test.Reads as reads
-use Rattle.marking.proofs.held.test.Lts as lts
-use Rattle.marking.proofs.held.right_rows.Reads as right-rows-reads
-use Rattle.rows.proofs.empty_from.Reads as empty-from-reads
-use Rattle.rows.proofs.in_order.Reads as in-order-reads
 use mathlib.Core.Path.{_≡_, sym, _∙_}
 use native.Mathlib.Omega.{arith}
 use borrow.Author.Tests.{not-true, not-false}

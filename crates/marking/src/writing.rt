@@ -1,0 +1,164 @@
+// A held marking written into a lent buffer. Its bytes are counted first: a buffer that is too small is not touched.
+ghost use mathlib.Core.Path.{_≡_};
+ghost use mathlib.Core.Bool.{true};
+ghost use Prim.Native.Nat.{ℕ, _+_, _-_, _*_, _≤_, _<_};
+ghost use lib.ListN.{length, take, drop, getD};
+ghost use lib.Seq.{sets};
+ghost use Rattle.text.specs.Bytes.{bytes};
+ghost use Rattle.text.specs.Printed.{decimal, endText, texts, numberText};
+ghost use Rattle.print.specs.declared.Written.{Written};
+ghost use Rattle.print.specs.declared.Written.the-variants.{Upto};
+ghost use Rattle.rows.specs.Rows.{rowsIn};
+ghost use Rattle.marking.specs.Held.{sizesAt, Roomy, tokensOf, heldMarking};
+ghost use Rattle.marking.specs.Printed.{rowText, markingText};
+ghost use Rattle.marking.specs.Writing.{lay};
+use super::Marking;
+use super::Wrote;
+use super::held::size_at;
+use print::Written;
+use print::width;
+use print::write_list;
+use print::write_number;
+use print::write_text;
+
+// How many bytes a list has, to the end of its line.
+fn list_length(values: &[u16]) -> usize
+    requires { ⌜ length (now values) ≤ 32 ⌝ }
+    ensures { λ r. ⌜ (r ≡ length (endText decimal (now (values .entry)))) × (r ≤ 192) ⌝ }
+{
+    if values.len() == 0 {
+        return 1;
+    }
+    let mut n = 0;
+    let mut i = 0;
+    while i < values.len() {
+        n = n + width(values[i] as u64) + 1;
+        i += 1;
+    }
+    n
+}
+
+// How many counts the row at `at` has.
+fn row_size(rows: &[u16], at: usize, sizes: [u8; 32]) -> usize
+    requires { ⌜ (at < length (now rows)) × (1 ≤ getD (now rows) at 0) ⌝ }
+    ensures { λ r. ⌜ r ≡ getD sizes (getD (now (rows .entry)) at 0 - 1) 0 ⌝ }
+{
+    let p = rows[at];
+    size_at(sizes, p as usize - 1) as usize
+}
+
+// How many bytes the line of the row at `at` has.
+fn row_length(rows: &[u16], at: usize, sizes: [u8; 32]) -> usize
+    requires { ⌜ (at + 33 ≤ length (now rows)) × (1 ≤ getD (now rows) at 0) × Roomy (sizesAt 32 sizes) ⌝ }
+    ensures { λ r. ⌜ (r ≡ length (rowText sizes (take 33 (drop at (now (rows .entry)))))) × (r ≤ 204) ⌝ }
+{
+    let start = at + 1;
+    let end = start + row_size(rows, at, sizes);
+    let p = rows[at];
+    7 + width(p as u64) + list_length(&rows[start..end])
+}
+
+// How many bytes the lines of the first n rows have.
+fn rows_length(rows: &[u16], n: usize, sizes: [u8; 32]) -> usize
+    requires { ⌜ (n ≤ 256) × (n * 33 ≤ length (now rows)) × ((i : ℕ) → i < n → 1 ≤ getD (now rows) (i * 33) 0) × Roomy (sizesAt 32 sizes) ⌝ }
+    ensures { λ r. ⌜ (r ≡ length (texts (rowText sizes) (rowsIn n (now (rows .entry))))) × (r ≤ n * 204) ⌝ }
+{
+    let mut bytes = 0;
+    let mut i = 0;
+    while i < n {
+        bytes += row_length(rows, i * 33, sizes);
+        i += 1;
+    }
+    bytes
+}
+
+// The position that a writer answers; 0 where it did not write.
+fn end_of(w: Written) -> usize
+    ensures { λ r. ⌜ ((next : ℕ) → w ≡ Upto next → r ≡ next) ⌝ }
+{
+    match w {
+        Written::Upto { next } => next,
+        Written::Full => 0,
+    }
+}
+
+// Lays a text that fits, from `at` on. The answer is the position after it.
+fn put_text(out: &mut [u8], at: usize, text: &[u8]) -> usize
+    requires { ⌜ at + length (now text) ≤ length (now out) ⌝ }
+    ensures { λ r. ⌜ (r ≡ at + length (now (text .entry))) × (now (out .exit) ≡ sets (now (out .entry)) at (now (text .entry))) ⌝ }
+{
+    end_of(write_text(out, at, text))
+}
+
+// The same for a number.
+fn put_number(out: &mut [u8], at: usize, n: u64) -> usize
+    requires { ⌜ at + length (decimal n) ≤ length (now out) ⌝ }
+    ensures { λ r. ⌜ (r ≡ at + length (decimal n)) × (now (out .exit) ≡ sets (now (out .entry)) at (decimal n)) ⌝ }
+{
+    end_of(write_number(out, at, n))
+}
+
+// The same for a list to the end of its line.
+fn put_list(out: &mut [u8], at: usize, values: &[u16]) -> usize
+    requires { ⌜ at + length (endText decimal (now values)) ≤ length (now out) ⌝ }
+    ensures { λ r. ⌜ (r ≡ at + length (endText decimal (now (values .entry))))
+        × (now (out .exit) ≡ sets (now (out .entry)) at (endText decimal (now (values .entry)))) ⌝ }
+{
+    end_of(write_list(out, at, values))
+}
+
+// Lays the line of the row that stands at `from`. The answer is the position after it.
+fn put_row(out: &mut [u8], at: usize, rows: &[u16], from: usize, sizes: [u8; 32]) -> usize
+    requires { ⌜ (from + 33 ≤ length (now rows)) × (1 ≤ getD (now rows) from 0) × Roomy (sizesAt 32 sizes)
+        × (at + length (rowText sizes (take 33 (drop from (now rows)))) ≤ length (now out)) ⌝ }
+    ensures { λ r. ⌜ (r ≡ at + length (rowText sizes (take 33 (drop from (now (rows .entry))))))
+        × (now (out .exit) ≡ sets (now (out .entry)) at (rowText sizes (take 33 (drop from (now (rows .entry)))))) ⌝ }
+{
+    let start = from + 1;
+    let end = start + row_size(rows, from, sizes);
+    let p = rows[from];
+    let place = put_text(out, at, b"token=");
+    let colon = put_number(out, place, p as u64);
+    let counts = put_text(out, colon, b":");
+    put_list(out, counts, &rows[start..end])
+}
+
+// Lays the lines of the first n rows.
+fn put_rows(out: &mut [u8], at: usize, rows: &[u16], n: usize, sizes: [u8; 32])
+    requires { ⌜ (n * 33 ≤ length (now rows)) × ((i : ℕ) → i < n → 1 ≤ getD (now rows) (i * 33) 0) × Roomy (sizesAt 32 sizes)
+        × (at + length (texts (rowText sizes) (rowsIn n (now rows))) ≤ length (now out)) ⌝ }
+    ensures { λ _. ⌜ now (out .exit) ≡ sets (now (out .entry)) at (texts (rowText sizes) (rowsIn n (now (rows .entry)))) ⌝ }
+{
+    let mut next = at;
+    let mut i = 0;
+    while i < n {
+        next = put_row(out, next, rows, i * 33, sizes);
+        i += 1;
+    }
+}
+
+// Lays the line of the number of net-tokens. The answer is the position after it.
+fn put_start(out: &mut [u8], n: usize) -> usize
+    requires { ⌜ length (numberText (bytes "start=") n) ≤ length (now out) ⌝ }
+    ensures { λ r. ⌜ (r ≡ length (numberText (bytes "start=") n)) × (now (out .exit) ≡ sets (now (out .entry)) 0 (numberText (bytes "start=") n)) ⌝ }
+{
+    let at = put_text(out, 0, b"start=");
+    let end = put_number(out, at, n as u64);
+    put_text(out, end, b"\n")
+}
+
+// The text of a held marking: whole, or no byte and how many are needed.
+pub fn write(k: Marking, places: u16, sizes: [u8; 32], out: &mut [u8]) -> Wrote
+    requires { ⌜ (heldMarking (sizesAt places sizes) k ≡ true) × Roomy (sizesAt places sizes) ⌝ }
+    ensures { λ r. ⌜ record { answer = r; bytes = now (out .exit) } ≡ lay (markingText (tokensOf (sizesAt places sizes) k)) (now (out .entry)) ⌝ }
+{
+    let n = k.len;
+    let rows = k.rows;
+    let bytes = 7 + width(n as u64) + rows_length(&rows, n, sizes);
+    if out.len() < bytes {
+        return Wrote::Short { needed: bytes };
+    }
+    let at = put_start(out, n);
+    put_rows(out, at, &rows, n, sizes);
+    Wrote::Whole { bytes }
+}

@@ -1,0 +1,5 @@
+pub mod ReadsWhatItSays
+pub mod SizeLaws
+pub mod ReadingLaws
+pub mod WritingLaws
+pub mod HeldExactly

@@ -1,0 +1,195 @@
+// The Reader level: a model is read and tested, a marking is read for a held model, tested and written.
+ghost use mathlib.Core.Path.{_≡_};
+ghost use Prim.Native.Nat.{_≤_};
+ghost use lib.ListN.{length};
+ghost use Rattle.model.specs.Test.{heldModel};
+ghost use Rattle.marking.specs.Held.{sizesAt, Roomy};
+ghost use Rattle.marking.specs.Answers.{blockOf};
+ghost use Rattle.reader.specs.Parts.{answerOf, readTokens, writtenAs};
+ghost use Rattle.reader.specs.Answers.{longest, noReading, modelReading, noTokens, markingReading, heldBoth, markingWriting};
+use marking::Block;
+use marking::Marking;
+use marking::Wrote;
+use marking::blocks::block_at;
+use marking::writing::write;
+use model::Model;
+use plant::reader::read_plant;
+use sizes::sizes;
+use text::Ended;
+use text::Fault;
+use text::lines::lines_before;
+
+mod sizes;
+
+// The longest text that is read.
+const LONGEST: usize = 1048576;
+
+// How the reading of a text ended.
+pub enum ReadAnswer {
+    Accepted,
+    TooLong,
+    NotHeld,
+    Faulty { why: u8, line: usize },
+}
+
+// A model and its start in canonical order; refused, the empty model and no net-token.
+pub struct ModelReading {
+    pub answer: ReadAnswer,
+    pub model: Model,
+    pub start: Marking,
+}
+
+// A marking; refused, no net-token.
+pub struct MarkingReading {
+    pub answer: ReadAnswer,
+    pub marking: Marking,
+}
+
+// How writing a marking ended.
+pub enum WriteAnswer {
+    Written { bytes: usize },
+    Unheld,
+    TooSmall { needed: usize },
+}
+
+// The answer for how the lines of a text ended: a fault is named by its line.
+fn answer_of(s: &[u8], ended: Ended) -> ReadAnswer
+    requires { ⌜ length (now s) ≤ longest ⌝ }
+    ensures { λ r. ⌜ r ≡ answerOf (now (s .entry)) ended ⌝ }
+{
+    let Ended::Stopped { fault } = ended else {
+        return ReadAnswer::Accepted;
+    };
+    let line = lines_before(s, fault.at) + 1;
+    ReadAnswer::Faulty {
+        why: fault.why,
+        line,
+    }
+}
+
+// The net-tokens from `at` to the end of the text; `sizes` says for each place how many counts its net-tokens have.
+fn tokens_from(s: &[u8], at: usize, places: u16, sizes: [u8; 32]) -> Block
+    requires { ⌜ Roomy (sizesAt places sizes) ⌝ }
+    ensures { λ r. ⌜ r ≡ blockOf (readTokens (sizesAt places sizes) (now (s .entry)) at) ⌝ }
+{
+    let block = block_at(s, at, b"start=", places, sizes);
+    let ended = block.ended;
+    let Ended::Past { next } = ended else {
+        return block;
+    };
+    if next < s.len() {
+        let marking = Marking::empty();
+        let fault = Fault { why: 2, at: next };
+        return Block {
+            ended: Ended::Stopped { fault },
+            marking,
+        };
+    }
+    block
+}
+
+// No model, and why.
+fn no_reading(answer: ReadAnswer) -> ModelReading
+    ensures { λ r. ⌜ r ≡ noReading answer ⌝ }
+{
+    let model = Model::empty();
+    let start = Marking::empty();
+    ModelReading {
+        answer,
+        model,
+        start,
+    }
+}
+
+// Reads a model's text: its lines, and those of its start.
+pub fn read_model(s: &[u8]) -> ModelReading
+    ensures { λ r. ⌜ r ≡ modelReading (now (s .entry)) ⌝ }
+{
+    if LONGEST < s.len() {
+        return no_reading(ReadAnswer::TooLong);
+    }
+    let read = read_plant(s, 0);
+    let lines = read.ended;
+    let Ended::Past { next } = lines else {
+        return no_reading(answer_of(s, lines));
+    };
+    let model = read.model;
+    let block = tokens_from(s, next, model.places as u16, sizes(model));
+    let ended = block.ended;
+    let Ended::Past { next: _ } = ended else {
+        return no_reading(answer_of(s, ended));
+    };
+    let start = block.marking;
+    ModelReading {
+        answer: ReadAnswer::Accepted,
+        model,
+        start,
+    }
+}
+
+// No marking, and why.
+fn no_tokens(answer: ReadAnswer) -> MarkingReading
+    ensures { λ r. ⌜ r ≡ noTokens answer ⌝ }
+{
+    let marking = Marking::empty();
+    MarkingReading { answer, marking }
+}
+
+// Reads the text of a marking of a held model.
+pub fn read_marking(m: Model, s: &[u8]) -> MarkingReading
+    ensures { λ r. ⌜ r ≡ markingReading m (now (s .entry)) ⌝ }
+{
+    if LONGEST < s.len() {
+        return no_tokens(ReadAnswer::TooLong);
+    }
+    if !model::held::test(m) {
+        return no_tokens(ReadAnswer::NotHeld);
+    }
+    let block = tokens_from(s, 0, m.places as u16, sizes(m));
+    let ended = block.ended;
+    let Ended::Past { next: _ } = ended else {
+        return no_tokens(answer_of(s, ended));
+    };
+    let marking = block.marking;
+    MarkingReading {
+        answer: ReadAnswer::Accepted,
+        marking,
+    }
+}
+
+// Whether m is held as a model is.
+pub fn test_model(m: Model) -> bool
+    ensures { λ r. ⌜ r ≡ heldModel m ⌝ }
+{
+    model::held::test(m)
+}
+
+// Whether m is held as a model is, and k as a marking of it.
+pub fn test_marking(m: Model, k: Marking) -> bool
+    ensures { λ r. ⌜ r ≡ heldBoth m k ⌝ }
+{
+    if !model::held::test(m) {
+        return false;
+    }
+    marking::held::test(k, m.places as u16, sizes(m))
+}
+
+// The answer for how the writing of a held marking ended.
+fn written_as(w: Wrote) -> WriteAnswer
+    ensures { λ r. ⌜ r ≡ writtenAs w ⌝ }
+{
+    match w {
+        Wrote::Whole { bytes } => WriteAnswer::Written { bytes },
+        Wrote::Short { needed } => WriteAnswer::TooSmall { needed },
+    }
+}
+
+// Writes the text of a held marking of a held model: whole, or no byte of it.
+pub fn write_marking(m: Model, k: Marking, out: &mut [u8]) -> WriteAnswer
+    ensures { λ r. ⌜ record { answer = r; bytes = now (out .exit) } ≡ markingWriting m k (now (out .entry)) ⌝ }
+{
+    if !test_marking(m, k) {
+        return WriteAnswer::Unheld;
+    }
+    written_as(write(k, m.places as u16, sizes(m), out))
+}

@@ -1,0 +1,2 @@
+pub mod SpreadLaws
+pub mod Cases
