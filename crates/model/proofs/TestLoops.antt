@@ -16,8 +16,7 @@ use Rattle.text.proofs.Basics as T
 use Rattle.text.proofs.Basics.{by-test}
 use Rattle.model.specs.Rules.{nth, Frame, takesPart}
 use Rattle.model.specs.Held.{noNet}
-use Rattle.model.specs.Test.{empty, emptyPast, usedOf, heldTypes, heldMoves, heldNets, heldEvents, frameIn, heldAct, ownIn, heldModel}
-use Rattle.model.specs.Parts.{countsAre, emptyAt, usedIn, sizesAre, framed, partAt, eventAt}
+use Rattle.model.specs.Test.{empty, emptyPast, usedOf, heldTypes, heldMoves, heldNets, heldEvents, frameIn, heldAct, ownIn, heldModel, countsAre, emptyAt, usedIn, sizesAre, framed, partAt, eventAt}
 use Rattle.model.specs.declared.Model.{Model}
 
 -- ---- a test that is made first

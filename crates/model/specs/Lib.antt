@@ -1,4 +1,3 @@
 pub mod Rules
 pub mod Held
 pub mod Test
-pub mod Parts

@@ -1,7 +1,7 @@
 -- The test of a held model (01's cause 14): counts in range, unused room 0, and the rules on types, moves and events, each looked up
 -- where it is held.
 use Prim.Native.Nat.{ℕ, zero, suc, pred}
-use mathlib.Core.Bool.{Bool, false, cond, _&&_}
+use mathlib.Core.Bool.{Bool, true, false, cond, _&&_}
 use mathlib.Core.List.{List}
 use lib.Dec.{leb, eqb, ltb}
 use lib.ListN.{drop, getD}
@@ -13,36 +13,67 @@ use Rattle.model.specs.declared.ObjectNet.{ObjectNet}
 use Rattle.model.specs.declared.Event.{Event}
 use Rattle.model.specs.declared.Model.{Model}
 
+-- ---- unused room
+
 -- nothing but 0
 abbrev pub empty : List ℕ → Bool
 empty l = every (λ v. eqb v 0) l
 
+-- row i behind the numbers that it uses
+abbrev pub emptyAt : (ℕ → ℕ) → List ℕ → ℕ → Bool
+emptyAt used table i = empty (drop (used i) (rowIn 32 table i))
+
 -- rows of 32, each 0 behind the numbers that it uses
 unfoldable pub emptyPast : ℕ → (ℕ → ℕ) → List ℕ → Bool
-emptyPast rows used table = allBelow rows (λ i. empty (drop (used i) (rowIn 32 table i)))
+emptyPast rows used table = allBelow rows (emptyAt used table)
 
--- of the first n rows `width` numbers are used, of the others none
+-- of the first n rows as many numbers are used as `width` says, of the others none
+abbrev pub usedIn : ℕ → (ℕ → ℕ) → ℕ → ℕ
+usedIn n width i = cond (ltb i n) (width i) 0
+
 abbrev pub usedOf : ℕ → ℕ → ℕ → ℕ
 usedOf n width i = cond (ltb i n) width 0
 
+-- ---- places and moves
+
+abbrev pub countsAre : ℕ → ℕ → ℕ → ℕ → Bool
+countsAre nets places moves listed = within 0 8 nets && (within 1 32 places && (within 0 32 moves && within 0 64 listed))
+
+abbrev pub typeAt : ℕ → ℕ → List ℕ → ℕ → Bool
+typeAt nets places types p = cond (ltb p places) (leb (nth types p) nets) (eqb (nth types p) 0)
+
 unfoldable pub heldTypes : Model → Bool
-heldTypes m = allBelow 32 (λ p. cond (ltb p (m .places)) (leb (nth (m .types) p) (m .nets)) (eqb (nth (m .types) p) 0))
+heldTypes m = allBelow 32 (typeAt (m .nets) (m .places) (m .types))
+
+-- monotonous typing of move i
+abbrev pub moveAt : ℕ → ℕ → List ℕ → List ℕ → List ℕ → ℕ → Bool
+moveAt nets places types pre post i = monotonous nets places (nth types) (nth (rowIn 32 pre i)) (nth (rowIn 32 post i))
 
 unfoldable pub heldMoves : Model → Bool
 heldMoves m =
     emptyPast 32 (usedOf (m .moves) (m .places)) (m .pre) && (emptyPast 32 (usedOf (m .moves) (m .places)) (m .post)
-    && allBelow (m .moves) (λ i. monotonous (m .nets) (m .places) (nth (m .types)) (nth (rowIn 32 (m .pre) i)) (nth (rowIn 32 (m .post) i))))
+    && allBelow (m .moves) (moveAt (m .nets) (m .places) (m .types) (m .pre) (m .post)))
+
+-- ---- object nets
 
 unfoldable pub heldNet : ObjectNet → Bool
 heldNet n =
     emptyPast 32 (usedOf (n .transitions) (n .places)) (n .pre) && emptyPast 32 (usedOf (n .transitions) (n .places)) (n .post)
 
 -- a net that is used has its counts in range; of one that is not they are 0
+abbrev pub sizesAre : ℕ → ℕ → ℕ → ℕ → Bool
+sizesAre nets k places transitions = cond (ltb k nets) (within 1 32 places && within 0 32 transitions) (eqb places 0 && eqb transitions 0)
+
+abbrev pub netIs : ℕ → ℕ → ObjectNet → Bool
+netIs nets k n = sizesAre nets k (n .places) (n .transitions) && heldNet n
+
+abbrev pub netAt : ℕ → List ObjectNet → ℕ → Bool
+netAt nets objects k = netIs nets k (getD objects k noNet)
+
 unfoldable pub heldNets : Model → Bool
-heldNets m =
-    allBelow 8 (λ k.
-    let n = getD (m .objects) k noNet in
-    cond (ltb k (m .nets)) (within 1 32 (n .places) && within 0 32 (n .transitions)) (eqb (n .places) 0 && eqb (n .transitions) 0) && heldNet n)
+heldNets m = allBelow 8 (netAt (m .nets) (m .objects))
+
+-- ---- events
 
 -- what the events of a held model depend on
 abbrev pub frameIn : Model → Frame
@@ -53,6 +84,10 @@ frameIn m = record {
   type = nth (m .types);
   steps = λ n. getD (m .objects) n noNet .transitions;
 }
+
+-- the same from its numbers
+abbrev pub framed : ℕ → ℕ → ℕ → List ℕ → List ℕ → Frame
+framed places moves nets types steps = record { places = places; moves = moves; nets = nets; type = nth types; steps = nth steps }
 
 -- the kind is 1 or 2, the index a move's or a typed place's
 unfoldable pub heldAct : Frame → ℕ → ℕ → Bool
@@ -67,17 +102,28 @@ ownIn f zero i = 0
 ownIn f (suc zero) i = 0
 ownIn f (suc (suc k)) i = f .type (pred i)
 
+-- the counts of net n in an event
+abbrev pub partAt : ℕ → List ℕ → ℕ → Bool
+partAt own sync n = takesPart own n (rowIn 32 sync n)
+
 unfoldable pub heldEvent : Frame → Event → Bool
 heldEvent f e =
     heldAct f (e .kind) (e .index)
-    && (emptyPast 8 (λ n. cond (ltb n (f .nets)) (f .steps n) 0) (e .sync)
-    && allBelow (f .nets) (λ n. takesPart (ownIn f (e .kind) (e .index)) n (rowIn 32 (e .sync) n)))
+    && (emptyPast 8 (usedIn (f .nets) (f .steps)) (e .sync) && allBelow (f .nets) (partAt (ownIn f (e .kind) (e .index)) (e .sync)))
 
 unfoldable pub emptyEvent : Event → Bool
 emptyEvent e = eqb (e .kind) 0 && (eqb (e .index) 0 && empty (e .sync))
 
+abbrev pub eventIs : Frame → ℕ → ℕ → Event → Bool
+eventIs f listed k e = cond (ltb k listed) (heldEvent f e) (emptyEvent e)
+
+abbrev pub eventAt : Frame → ℕ → List Event → ℕ → Bool
+eventAt f listed events k = eventIs f listed k (getD events k noEvent)
+
 unfoldable pub heldEvents : Model → Bool
-heldEvents m = allBelow 64 (λ k. let e = getD (m .events) k noEvent in cond (ltb k (m .listed)) (heldEvent (frameIn m) e) (emptyEvent e))
+heldEvents m = allBelow 64 (eventAt (frameIn m) (m .listed) (m .events))
+
+-- ---- the whole
 
 unfoldable pub heldModel : Model → Bool
 heldModel m =

@@ -31,9 +31,9 @@ use Rattle.marking.specs.Reading.{readBlock}
 use Rattle.marking.specs.Answers.{blockOf}
 use Rattle.marking.specs.declared.Marking.{Marking}
 use Rattle.marking.specs.declared.Block.{Block}
-use Rattle.reader.specs.Reading.{bounds, Loaded, readEnd, readLines, readModel, readMarking}
+use Rattle.reader.specs.Reading.{bounds, Loaded, readEnd, readTokens, readLines, readModel, readMarking}
 use Rattle.reader.specs.Sizes.{sizesIn, sizesFor}
-use Rattle.reader.specs.Parts.{answerOf, readTokens}
+use Rattle.reader.specs.Parts.{answerOf}
 use Rattle.reader.specs.Answers.{longest, faulty, noReading, loaded, modelReading, noTokens, restored, forHeld, markingReading, heldBoth}
 use Rattle.reader.specs.declared.ReadAnswer.the-variants.{Accepted, TooLong, NotHeld, Faulty}
 use Rattle.reader.specs.declared.ModelReading.{ModelReading}

@@ -1,15 +1,9 @@
 -- What the parts of this crate's code answer.
-use Prim.Native.Nat.{ℕ}
-use Rattle.text.specs.Bytes.{Text, bytes}
-use Rattle.text.specs.Lines.{Outcome, then}
+use Rattle.text.specs.Bytes.{Text}
 use Rattle.text.specs.declared.Ended.{Ended}
 use Rattle.text.specs.declared.Ended.the-variants.{Past, Stopped}
-use Rattle.eos.specs.Model as eos
-use Rattle.marking.specs.Held.{Sizes}
-use Rattle.marking.specs.Reading.{readBlock}
 use Rattle.marking.specs.declared.Wrote.{Wrote}
 use Rattle.marking.specs.declared.Wrote.the-variants.{Whole, Short}
-use Rattle.reader.specs.Reading.{bounds, readEnd}
 use Rattle.reader.specs.Answers.{faulty}
 use Rattle.reader.specs.declared.ReadAnswer.{ReadAnswer}
 use Rattle.reader.specs.declared.ReadAnswer.the-variants.{Accepted}
@@ -20,10 +14,6 @@ use Rattle.reader.specs.declared.WriteAnswer.the-variants.{Written, TooS
 abbrev pub answerOf : Text → Ended → ReadAnswer
 answerOf s (Past next) = Accepted
 answerOf s (Stopped e) = faulty s e
-
--- the net-tokens from a position to the end of the text
-abbrev pub readTokens : Sizes → Text → ℕ → Outcome eos.Marking
-readTokens z s at = then (readBlock (bytes "start=") bounds z s at) (readEnd s)
 
 -- how the writing of a held marking ended
 abbrev pub writtenAs : Wrote → WriteAnswer

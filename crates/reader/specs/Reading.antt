@@ -34,9 +34,13 @@ readLines s at =
 unfoldable pub readModel : Text → Outcome Loaded
 readModel s = then (readLines s 0) (readEnd s)
 
+-- the net-tokens from a position to the end of the text
+abbrev pub readTokens : Sizes → Text → ℕ → Outcome eos.Marking
+readTokens z s at = then (readBlock (bytes "start=") bounds z s at) (readEnd s)
+
 -- the text of a marking, whole
 unfoldable pub readMarking : Sizes → Text → Outcome eos.Marking
-readMarking z s = then (readBlock (bytes "start=") bounds z s 0) (readEnd s)
+readMarking z s = readTokens z s 0
 
 -- ---- the printer
 

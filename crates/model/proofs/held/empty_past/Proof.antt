@@ -9,8 +9,7 @@ use native.Mathlib.Omega.{arith}
 use lib.ListN.{take, drop}
 use Rattle.eos.specs.Firing.{allBelow}
 use Rattle.model.specs.Rules.{nth}
-use Rattle.model.specs.Test.{empty}
-use Rattle.model.specs.Parts.{emptyAt}
+use Rattle.model.specs.Test.{empty, emptyAt}
 use Rattle.model.proofs.TestLoops.{turn, past-rows}
 
 abbrev Inv-loop : tie.InvT-loop

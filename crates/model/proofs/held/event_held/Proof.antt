@@ -4,8 +4,7 @@ use Rattle.model.proofs.held.event_held.Statement.{statement}
 use Rattle.model.proofs.held.event_held.Tie as tie
 use mathlib.Core.Path.{sym, _∙_}
 use borrow.Author.Tests.{not-true, not-false}
-use Rattle.model.specs.Test.{heldEvent}
-use Rattle.model.specs.Parts.{framed}
+use Rattle.model.specs.Test.{heldEvent, framed}
 use Rattle.model.proofs.TestLoops.{and-no, and-yes, act-range}
 
 act-held-requires : tie.Need-act-held-requires

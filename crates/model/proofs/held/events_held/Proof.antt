@@ -10,7 +10,7 @@ use native.Mathlib.Omega.{arith}
 use lib.ListN.{length}
 use Rattle.eos.specs.Firing.{allBelow}
 use Rattle.model.specs.Held.{noEvent}
-use Rattle.model.specs.Parts.{framed, eventIs, eventAt}
+use Rattle.model.specs.Test.{framed, eventIs, eventAt}
 use Rattle.model.specs.declared.Event.{Event}
 use Rattle.model.proofs.TestLoops.{turn, at-any}
 

@@ -10,7 +10,7 @@ use native.Mathlib.Omega.{arith}
 use lib.ListN.{length}
 use Rattle.eos.specs.Firing.{allBelow}
 use Rattle.model.specs.Held.{noNet}
-use Rattle.model.specs.Parts.{netIs, netAt}
+use Rattle.model.specs.Test.{netIs, netAt}
 use Rattle.model.specs.declared.ObjectNet.{ObjectNet}
 use Rattle.model.proofs.TestLoops.{turn, at-any}
 

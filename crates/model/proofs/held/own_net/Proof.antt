@@ -3,7 +3,7 @@ use borrow.Author.Needs.{needs}
 use Rattle.model.proofs.held.own_net.Statement.{statement}
 use Rattle.model.proofs.held.own_net.Tie as tie
 use Rattle.model.proofs.TestLoops.{less-one, own-other, own-idle}
-use Rattle.model.specs.Parts.{framed}
+use Rattle.model.specs.Test.{framed}
 
 returns : tie.Need-returns
 returns c places moves nets steps =

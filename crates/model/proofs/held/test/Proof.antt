@@ -7,8 +7,7 @@ use mathlib.Core.Path.{_≡_, sym, _∙_}
 use mathlib.Core.Bool.{true}
 use native.Mathlib.Omega.{arith}
 use borrow.Author.Tests.{not-true, not-false}
-use Rattle.model.specs.Test.{heldTypes, heldMoves, heldNets}
-use Rattle.model.specs.Parts.{countsAre}
+use Rattle.model.specs.Test.{heldTypes, heldMoves, heldNets, countsAre}
 use Rattle.model.proofs.TestLoops.{and-no, and-yes, few-counts, counts-first, events-are}
 
 -- the counts are in range

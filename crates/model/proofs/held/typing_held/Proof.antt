@@ -7,7 +7,7 @@ use mathlib.Core.Path.{_≡_, refl, _∙_}
 use mathlib.Core.Bool.{true}
 use native.Mathlib.Omega.{arith}
 use Rattle.eos.specs.Firing.{allBelow}
-use Rattle.model.specs.Parts.{moveAt}
+use Rattle.model.specs.Test.{moveAt}
 use Rattle.model.proofs.TestLoops.{turn}
 
 abbrev Inv-loop : tie.InvT-loop
