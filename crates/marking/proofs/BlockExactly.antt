@@ -4,10 +4,10 @@ use mathlib.Core.Path.{_≡_, refl, sym}
 use mathlib.Core.Bool.{Bool, true}
 use native.Mathlib.Omega.{arith}
 use lib.ListN.{length}
-use Rattle.text.specs.Bytes.{Text, bytes}
+use Rattle.bytes.specs.Bytes.{Text, bytes}
+use Rattle.bytes.proofs.Basics.{and-true}
 use Rattle.text.specs.Lines.{need, within}
 use Rattle.text.specs.Token.{Token, rightToken}
-use Rattle.text.proofs.Basics.{and-true}
 use Rattle.text.proofs.TestLaws.{and-both, eqb-and, and-eqb, within-is}
 use Rattle.text.proofs.Exactly.{Exactly, many-exactly}
 use Rattle.text.proofs.LinesExactly.{number-exactly}

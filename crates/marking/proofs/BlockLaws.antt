@@ -7,7 +7,8 @@ use native.Mathlib.Omega.{arith}
 use native.Mathlib.Nat.{sub-zero}
 use lib.Dec.{leb, leb·zero}
 use lib.ListN.{length, length-map, replicate}
-use Rattle.text.specs.Bytes.{Text, bytes}
+use Rattle.bytes.specs.Bytes.{Text, bytes}
+use Rattle.bytes.proofs.Basics.{and-true}
 use Rattle.text.specs.Lines.{Outcome, got, bad, then, many, within, readNumber}
 use Rattle.text.specs.Repeat.{fill, filled}
 use Rattle.text.specs.Token.{Token, readToken, rightToken}
@@ -15,7 +16,6 @@ use Rattle.text.specs.Answers.{endedOf, keptOr, padded, tokenRowOf}
 use Rattle.text.specs.declared.Fault.{Fault}
 use Rattle.text.specs.declared.Ended.the-variants.{Past, Stopped}
 use Rattle.text.specs.declared.TokenRow.{TokenRow}
-use Rattle.text.proofs.Basics.{and-true}
 use Rattle.text.proofs.TestLaws.{within-is}
 use Rattle.text.proofs.Loops.{got-of, bad-of, loop-turn, loop-bad, loop-done}
 use Rattle.text.proofs.Exactly.{got-is}

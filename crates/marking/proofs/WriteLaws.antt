@@ -9,12 +9,12 @@ use lib.Dec.{leb, eqb}
 use lib.ListN.{length, drop, getD, length-append, length-map}
 use lib.Seq.{sets, drop-length}
 use borrow.Author.Tests.{leb-true, le-leb, lt-leb}
-use Rattle.text.specs.Bytes.{Text, bytes}
+use Rattle.bytes.specs.Bytes.{Text, bytes}
+use Rattle.bytes.proofs.Basics.{and-true}
 use Rattle.text.specs.Lines.{got, every, within}
 use Rattle.text.specs.Printed.{decimal, texts, numberText, tokenText}
 use Rattle.text.specs.Answers.{endedOf, keptOr}
 use Rattle.text.specs.declared.Ended.the-variants.{Past}
-use Rattle.text.proofs.Basics.{and-true}
 use Rattle.text.proofs.TestLaws.{within-is, every-at}
 use Rattle.text.proofs.LengthLaws.{texts-length, end-length}
 use Rattle.text.proofs.Standing.{Stands}

@@ -8,15 +8,15 @@ use native.Mathlib.Numerals.{sub-one}
 use lib.Dec.{leb, lit≤}
 use borrow.Author.Tests.{le-leb}
 use lib.ListN.{drop, replicate}
-use Rattle.text.specs.Bytes.{Text, bytes}
-use Rattle.text.specs.Lines.{Outcome, got, bad, fault, then, need, within, starts, readNumber, readList}
+use Rattle.bytes.specs.Bytes.{Text, bytes, starts}
+use Rattle.bytes.proofs.Basics.{by-test}
+use Rattle.text.specs.Lines.{Outcome, got, bad, fault, then, need, within, readNumber, readList}
 use Rattle.text.specs.Answers.{lineOf, endedOf, keptOr, padded, rowOf}
 use Rattle.text.specs.declared.Fault.{Fault}
 use Rattle.text.specs.declared.Line.the-variants as line
 use Rattle.text.specs.declared.Ended.{Ended}
 use Rattle.text.specs.declared.Ended.the-variants.{Past, Stopped}
 use Rattle.text.specs.declared.Row.{Row}
-use Rattle.text.proofs.Basics.{by-test}
 use Rattle.text.proofs.Exactly.{then-got, need-got, got-is}
 use Rattle.eos.specs.Model.{Act, move, idle}
 use Rattle.model.specs.Rules.{byte, Frame, ownNet, takesPart}

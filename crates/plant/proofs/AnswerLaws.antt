@@ -7,7 +7,8 @@ use native.Mathlib.Omega.{arith}
 use lib.Dec.{leb, eqb}
 use borrow.Author.Tests.{eqb-true, leb-true, le-leb}
 use lib.ListN.{length}
-use Rattle.text.specs.Bytes.{Text}
+use Rattle.bytes.specs.Bytes.{Text}
+use Rattle.bytes.proofs.Basics.{and-true}
 use Rattle.text.specs.Lines.{Outcome, got, bad, within, every, many, readNumber, readList}
 use Rattle.text.specs.Repeat.{fill, filled}
 use Rattle.text.specs.Answers.{lineOf, endedOf, keptOr, padded, rowOf}
@@ -16,7 +17,6 @@ use Rattle.text.specs.declared.Line.the-variants.{Value}
 use Rattle.text.specs.declared.Ended.{Ended}
 use Rattle.text.specs.declared.Ended.the-variants.{Past, Stopped}
 use Rattle.text.specs.declared.Row.{Row}
-use Rattle.text.proofs.Basics.{and-true}
 use Rattle.text.proofs.Loops.{line-got, Got, got-of, bad-of, loop-turn, loop-bad}
 use Rattle.text.proofs.Exactly.{then-got, got-is}
 use Rattle.text.proofs.LinesExactly.{number-exactly, list-exactly}

@@ -6,10 +6,10 @@ use native.Mathlib.Omega.{arith}
 use lib.Dec.{leb, ltb}
 use borrow.Author.Tests.{ltb-true}
 use lib.ListN.{length, drop}
-use Rattle.text.specs.Bytes.{Text, bytes}
-use Rattle.text.specs.Lines.{got, need, within, starts}
+use Rattle.bytes.specs.Bytes.{Text, bytes, starts}
+use Rattle.bytes.proofs.Basics.{by-test, and-true}
+use Rattle.text.specs.Lines.{got, need, within}
 use Rattle.text.specs.Printed.{numberText, listText}
-use Rattle.text.proofs.Basics.{by-test, and-true}
 use Rattle.text.proofs.TestLaws.{and-both, within-is, is-within}
 use Rattle.text.proofs.Standing.{Stands}
 use Rattle.text.proofs.Exactly.{Accepts, Exactly, needed-exactly}

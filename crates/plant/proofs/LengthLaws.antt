@@ -7,10 +7,10 @@ use native.Mathlib.Omega.{arith}
 use lib.Dec.{leb, ltb}
 use borrow.Author.Tests.{leb-true, ltb-true}
 use lib.ListN.{length, getD, length-append}
-use Rattle.text.specs.Bytes.{Text, bytes}
+use Rattle.bytes.specs.Bytes.{Text, bytes}
+use Rattle.bytes.proofs.Basics.{and-true}
 use Rattle.text.specs.Lines.{every}
 use Rattle.text.specs.Printed.{numberText, listText, texts}
-use Rattle.text.proofs.Basics.{and-true}
 use Rattle.text.proofs.TestLaws.{within-is, every-at}
 use Rattle.text.proofs.LengthLaws.{texts-length, number-length, list-length}
 use Rattle.eos.specs.Model.{Transition, ObjectNet, Act, move, idle, Event, Model, places, noTransition, noNet, noEvent}

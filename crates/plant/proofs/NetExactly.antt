@@ -5,10 +5,10 @@ use mathlib.Core.Bool.{Bool, true, _&&_}
 use mathlib.Core.Bool as B
 use lib.Dec.{eqb}
 use lib.ListN.{length}
-use Rattle.text.specs.Bytes.{Text, bytes}
+use Rattle.bytes.specs.Bytes.{Text, bytes}
+use Rattle.bytes.proofs.Basics.{and-true}
 use Rattle.text.specs.Lines.{need, many, within, every}
 use Rattle.text.specs.Printed.{texts}
-use Rattle.text.proofs.Basics.{and-true}
 use Rattle.text.proofs.TestLaws.{eqb-and, and-eqb}
 use Rattle.text.proofs.Exactly.{Exactly, many-exactly}
 use Rattle.text.proofs.LinesExactly.{number-exactly, list-exactly}

@@ -4,8 +4,8 @@ use mathlib.Core.Bool.{Bool, true, false}
 use mathlib.Core.List.{List, []}
 use lib.Dec.{leb}
 use lib.ListN.{drop}
-use Rattle.text.specs.Bytes.{Text, bytes}
-use Rattle.text.specs.Lines.{Outcome, got, then, need, many, within, starts, readNumber, readList, readHead}
+use Rattle.bytes.specs.Bytes.{Text, bytes, starts}
+use Rattle.text.specs.Lines.{Outcome, got, then, need, many, within, readNumber, readList, readHead}
 use Rattle.text.specs.Repeat.{manyAt}
 use Rattle.eos.specs.Model.{Transition, ObjectNet, Act, move, idle, Event, Model}
 use Rattle.model.specs.Rules.{byte, Frame, frameOf, keepsTypes, ownNet, takesPart}

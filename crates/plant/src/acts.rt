@@ -15,6 +15,7 @@ use super::Frame;
 use super::Syncs;
 use super::arcs::narrow;
 use super::arcs::put_row;
+use bytes::starts;
 use model::Event;
 use model::Model;
 use model::rules::takes_part;
@@ -23,7 +24,6 @@ use text::Fault;
 use text::Line;
 use text::lines::list_line;
 use text::lines::number_line;
-use text::lines::starts;
 
 // The line of an event that idles at a place, which is no place of black tokens.
 fn idle_at(s: &[u8], at: usize, f: Frame) -> Acting

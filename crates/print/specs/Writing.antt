@@ -5,7 +5,7 @@ use mathlib.Core.Bool.{true, false}
 use lib.Dec.{leb}
 use lib.ListN.{length}
 use lib.Seq.{sets}
-use Rattle.text.specs.Bytes.{Text}
+use Rattle.bytes.specs.Bytes.{Text}
 use Rattle.print.specs.declared.Written.{Written}
 use Rattle.print.specs.declared.Written.the-variants.{Upto, Full}
 

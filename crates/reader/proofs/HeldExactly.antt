@@ -9,9 +9,9 @@ use native.Mathlib.Omega.{arith}
 use lib.Dec.{leb}
 use lib.ListN.{length, length-append}
 use borrow.Author.Tests.{le-leb, leb-true}
-use Rattle.text.specs.Bytes.{Text}
+use Rattle.bytes.specs.Bytes.{Text}
+use Rattle.bytes.proofs.Basics.{by-test, and-true}
 use Rattle.text.specs.Lines.{Outcome, got, bad, every}
-use Rattle.text.proofs.Basics.{by-test, and-true}
 use Rattle.text.proofs.TestLaws.{and-both}
 use Rattle.text.proofs.Unique.{was-printed}
 use Rattle.eos.specs.Model as eos

@@ -8,13 +8,13 @@ use native.Mathlib.Numerals.{add-one}
 use lib.Dec.{leb, eqb}
 use lib.ListN.{length, take, length-take}
 use borrow.Author.Tests.{le-leb, lt-leb}
-use Rattle.text.specs.Bytes.{Text, bytes, lf}
-use Rattle.text.specs.Lines.{Outcome, got, bad, then, need, fault, newlines}
+use Rattle.bytes.specs.Bytes.{Text, bytes, lf, newlines}
+use Rattle.bytes.proofs.Basics.{by-test, and-true}
+use Rattle.text.specs.Lines.{Outcome, got, bad, then, need, fault}
 use Rattle.text.specs.Answers.{endedOf, keptOr}
 use Rattle.text.specs.declared.Fault.{Fault}
 use Rattle.text.specs.declared.Ended.{Ended}
 use Rattle.text.specs.declared.Ended.the-variants.{Past, Stopped}
-use Rattle.text.proofs.Basics.{by-test, and-true}
 use Rattle.text.proofs.Loops.{Got, got-of, bad-of}
 use Rattle.eos.specs.Model as eos
 use Rattle.model.specs.Rules.{rightModel}

@@ -8,9 +8,9 @@ use native.Mathlib.Nat.{le-refl}
 use lib.Dec.{leb}
 use lib.ListN.{length}
 use borrow.Author.Tests.{leb-true, le-leb}
-use Rattle.text.specs.Bytes.{Text, bytes}
+use Rattle.bytes.specs.Bytes.{Text, bytes}
+use Rattle.bytes.proofs.Basics.{and-true}
 use Rattle.text.specs.Lines.{Outcome, got, then, need}
-use Rattle.text.proofs.Basics.{and-true}
 use Rattle.text.proofs.TestLaws.{and-both}
 use Rattle.text.proofs.Exactly.{Exactly, got-is, need-got, then-got}
 use Rattle.text.proofs.ChainExactly.{exactly-by, first-makes, last-makes}

@@ -5,8 +5,8 @@ use mathlib.Core.List.{List}
 use lib.Dec.{leb}
 use lib.ListN.{length, take}
 use lib.Seq.{sets}
-use Rattle.text.specs.Bytes.{Text}
-use Rattle.text.specs.Lines.{Outcome, got, bad, newlines}
+use Rattle.bytes.specs.Bytes.{Text, newlines}
+use Rattle.text.specs.Lines.{Outcome, got, bad}
 use Rattle.text.specs.declared.Fault.{Fault}
 use Rattle.eos.specs.Model as eos
 use Rattle.eos.specs.Causes.{Refusal}

@@ -8,6 +8,7 @@ ghost use Rattle.marking.specs.Answers.{blockOf};
 ghost use Rattle.reader.specs.Reading.{readTokens};
 ghost use Rattle.reader.specs.Parts.{answerOf, writtenAs};
 ghost use Rattle.reader.specs.Answers.{longest, noReading, modelReading, noTokens, markingReading, heldBoth, markingWriting};
+use bytes::lines_before;
 use marking::Block;
 use marking::Marking;
 use marking::Wrote;
@@ -18,7 +19,6 @@ use plant::reader::read_plant;
 use sizes::sizes;
 use text::Ended;
 use text::Fault;
-use text::lines::lines_before;
 
 mod sizes;
 

@@ -8,11 +8,11 @@ use native.Mathlib.Omega.{arith}
 use lib.Dec.{eqb, lit<}
 use borrow.Author.Tests.{eqb-true, eq-eqb}
 use lib.ListN.{length, drop, getD, length-append, length-drop}
-use Rattle.text.specs.Bytes.{Text, lf, comma}
+use Rattle.bytes.specs.Bytes.{Text, lf, comma}
+use Rattle.bytes.proofs.Basics.{by-test, and-true}
 use Rattle.text.specs.Number.{Read, missing, found, number}
 use Rattle.text.specs.Lists.{stopOf, anyItems, anyList}
 use Rattle.text.specs.Printed.{decimal, itemsText, endText}
-use Rattle.text.proofs.Basics.{by-test, and-true}
 use Rattle.text.proofs.Standing.{Stands, Reaches, stands-left, stands-right, ends-join, reach-join, byte-stands, first-byte}
 use Rattle.text.proofs.Spelled.{number-spelled}
 use Rattle.text.proofs.LinesExactly.{stop-other, items-split}

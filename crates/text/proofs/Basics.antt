@@ -2,20 +2,9 @@
 use Prim.Native.Nat.{ℕ, _≤_, _<_}
 use mathlib.Core.Path.{_≡_, refl}
 use mathlib.Core.List.{List}
-use mathlib.Core.Bool.{Bool, true, false, _&&_, false≢true}
 use native.Mathlib.Omega.{arith}
 use lib.ListN.{length, getD, List·getD-eq-default}
 use Rattle.text.specs.Number.{Read, missing, found}
-
--- a test by its two answers
-pub by-test : {G : Type 0} (t : Bool) → (t ≡ true → G) → (t ≡ false → G) → G
-by-test true f g = f refl
-by-test false f g = g refl
-
-pub and-true : (a b : Bool) → (a && b) ≡ true → (a ≡ true) × (b ≡ true)
-and-true true true e = (refl, refl)
-and-true true false e = absurd (false≢true e)
-and-true false b e = absurd (false≢true e)
 
 -- a reading by what it found
 pub by-read : {A G : Type 0} (x : Read A) → (x ≡ missing → G) → ((a : A) (u : ℕ) → x ≡ found a u → G) → G

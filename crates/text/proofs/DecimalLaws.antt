@@ -9,11 +9,11 @@ use native.Mathlib.Numerals.{add-one}
 use lib.Dec.{ltb}
 use borrow.Author.Tests.{lt-ltb, le-ltb, ltb-true, ltb-false, le-leb}
 use lib.ListN.{length, getD, length-append}
-use Rattle.text.specs.Bytes.{Text}
+use Rattle.bytes.specs.Bytes.{Text}
+use Rattle.bytes.proofs.Basics.{by-test}
 use Rattle.text.specs.Number.{isDigit}
 use Rattle.text.specs.Lines.{every}
 use Rattle.text.specs.Printed.{decimal, decimalOf}
-use Rattle.text.proofs.Basics.{by-test}
 
 of-small : (k n : ℕ) → n < 10 → decimalOf (suc k) n ≡ ((48 + n) ∷ [])
 unfolding decimalOf

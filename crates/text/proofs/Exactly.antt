@@ -8,12 +8,12 @@ use native.Mathlib.Nat.{add-zero}
 use lib.Dec.{eqb}
 use borrow.Author.Tests.{eqb-true, eq-eqb}
 use lib.ListN.{length}
-use Rattle.text.specs.Bytes.{Text}
+use Rattle.bytes.specs.Bytes.{Text}
+use Rattle.bytes.proofs.Basics.{and-true}
 use Rattle.text.specs.Number.{Read, missing, found}
 use Rattle.text.specs.Lines.{Outcome, got, bad, then, need, many, judged, every}
 use Rattle.text.specs.Printed.{texts}
 use Rattle.text.specs.declared.Fault.{Fault}
-use Rattle.text.proofs.Basics.{and-true}
 use Rattle.text.proofs.Standing.{Stands, Reaches, stands-left, stands-right, ends-join, nothing-reaches, reach-join}
 
 -- a text stands there, and what it says is fine

@@ -10,12 +10,13 @@ use lib.IntN.{ℤ}
 use borrow.Author.Tests.{eqb-true, eq-eqb}
 use lib.ListN.{length, drop, getD}
 use lib.Seq.{append-snoc}
-use Rattle.text.specs.Bytes.{Text, lf}
+use Rattle.bytes.specs.Bytes.{Text, lf, starts}
+use Rattle.bytes.proofs.Basics.{by-test}
 use Rattle.text.specs.Number.{Read, missing, found, isDigit, number, signed}
 use Rattle.text.specs.Lists.{stopOf, ended, before, item, items, listEnd}
-use Rattle.text.specs.Lines.{judged, every, starts, behind, readNumber, readList, readWeights, readHead}
+use Rattle.text.specs.Lines.{judged, every, behind, readNumber, readList, readWeights, readHead}
 use Rattle.text.specs.Printed.{decimal, signedText, itemsText, endText, numberText, listText, weightsText}
-use Rattle.text.proofs.Basics.{by-test, missing≢found, found-is}
+use Rattle.text.proofs.Basics.{missing≢found, found-is}
 use Rattle.text.proofs.Standing.{Stands, Reaches, stands-left, stands-right, ends-join, reach-join}
 use Rattle.text.proofs.Standing.{nothing-reaches, byte-stands, first-byte, front-stands}
 use Rattle.text.proofs.Spelled.{Spelled, number-spelled, signed-spelled}

@@ -11,14 +11,15 @@ use lib.IntN.{ℤ, pos, negsuc}
 use borrow.Author.Tests.{leb-true, le-leb, eq-eqb, ne-eqb}
 use lib.ListN.{replicate, length, set, getD}
 use lib.Seq.{sets}
-use Rattle.text.specs.Bytes.{Text, lf, comma}
+use Rattle.bytes.specs.Bytes.{Text, lf, comma}
+use Rattle.bytes.proofs.Basics.{by-test, and-true}
 use Rattle.text.specs.Number.{Read, missing, found, number, signed}
 use Rattle.text.specs.Lists.{stopOf, ended, before, item, items, listEnd, anyItems, anyList}
 use Rattle.text.specs.Lines.{Outcome, got, bad, fault, need, judged, every, modest}
 use Rattle.text.specs.Answers.{above, below, endedOf, keptOr, padded, rowOf, weightRowOf}
 use Rattle.text.specs.declared.Fault.{Fault}
 use Rattle.text.specs.declared.Ended.the-variants.{Past}
-use Rattle.text.proofs.Basics.{by-test, by-read, and-true, past-other}
+use Rattle.text.proofs.Basics.{by-read, past-other}
 use Rattle.text.proofs.NumberLaws.{Exact, Capped, CappedSigned, number-end, number-forward, ended-here, ended-other, ended-past}
 use Rattle.text.proofs.LineLaws.{capped-most}
 

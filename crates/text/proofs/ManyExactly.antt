@@ -8,11 +8,11 @@ use native.Mathlib.Nat.{add-zero}
 use lib.Dec.{eqb}
 use borrow.Author.Tests.{eqb-true, eq-eqb}
 use lib.ListN.{length}
-use Rattle.text.specs.Bytes.{Text}
+use Rattle.bytes.specs.Bytes.{Text}
+use Rattle.bytes.proofs.Basics.{and-true}
 use Rattle.text.specs.Lines.{Outcome, got, then}
 use Rattle.text.specs.Repeat.{manyAt, everyAt}
 use Rattle.text.specs.Printed.{texts}
-use Rattle.text.proofs.Basics.{and-true}
 use Rattle.text.proofs.Standing.{Stands, stands-left, stands-right, ends-join, nothing-reaches, reach-join}
 use Rattle.text.proofs.Exactly.{Accepts, accepts-as, Exactly, got-is, then-got}
 

@@ -13,11 +13,12 @@ use lib.ListN.{length, drop, getD, drop-of-length-le}
 use lib.Seq.{drop-cons}
 use Rattle.text.specs.declared.Decimal.the-variants.{Found, Missing}
 use Rattle.text.specs.declared.Signed.the-variants.{Weight, Unsaid}
-use Rattle.text.specs.Bytes.{Text, minus}
+use Rattle.bytes.specs.Bytes.{Text, minus}
+use Rattle.bytes.proofs.Basics.{by-test}
 use Rattle.text.specs.Number.{Read, missing, found, isDigit, digits, numberOf, number, plainly, negated, signed}
 use Rattle.text.specs.Lists.{ended, item}
 use Rattle.text.specs.Answers.{capped, above, below, cappedSigned}
-use Rattle.text.proofs.Basics.{by-test, missing≢found, found-is, past-other}
+use Rattle.text.proofs.Basics.{missing≢found, found-is, past-other}
 use Rattle.text.proofs.NumberSteps.{digits-more, digits-stop, of-zero, of-digit, of-other}
 
 -- ---- digits

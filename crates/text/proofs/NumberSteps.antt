@@ -5,9 +5,9 @@ use mathlib.Core.List.{_∷_}
 use mathlib.Core.Bool.{true, false, true≢false}
 use lib.Dec.{leb}
 use borrow.Author.Tests.{leb-true, eq-eqb, ne-eqb}
-use Rattle.text.specs.Bytes.{Text}
+use Rattle.bytes.specs.Bytes.{Text}
+use Rattle.bytes.proofs.Basics.{and-true}
 use Rattle.text.specs.Number.{missing, found, isDigit, digits, numberOf}
-use Rattle.text.proofs.Basics.{and-true}
 
 module _ (v u b : ℕ) (s : Text) where
   -- one digit more

@@ -10,10 +10,11 @@ use lib.IntN.{ℤ, pos, negsuc}
 use borrow.Author.Tests.{le-leb, eqb-true, eqb-false, eq-eqb, ne-eqb}
 use lib.ListN.{length, drop, getD, length-append}
 use lib.Seq.{append-snoc}
-use Rattle.text.specs.Bytes.{Text, minus}
+use Rattle.bytes.specs.Bytes.{Text, minus}
+use Rattle.bytes.proofs.Basics.{by-test}
 use Rattle.text.specs.Number.{Read, missing, found, isDigit, digits, numberOf, number, plainly, negated, signed}
 use Rattle.text.specs.Printed.{decimal, signedText}
-use Rattle.text.proofs.Basics.{by-test, missing≢found, found-is}
+use Rattle.text.proofs.Basics.{missing≢found, found-is}
 use Rattle.text.proofs.DecimalLaws.{decimal-small, decimal-large, decimal-more, decimal-leads, by-digits, is-digit}
 use Rattle.text.proofs.NumberSteps.{digits-more, digits-stop, of-zero, of-digit, of-other, digit-bounds}
 use Rattle.text.proofs.Standing.{Reaches, front-stands, drop-behind, byte-stands, first-byte, ends-join, reach-join}

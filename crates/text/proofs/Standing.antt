@@ -9,8 +9,8 @@ use lib.Dec.{leb}
 use borrow.Author.Tests.{leb-true, leb-false}
 use lib.ListN.{length, drop, getD, length-append, List·getD-eq-default, drop-of-length-le}
 use lib.Seq.{drop-cons, drop-drop, getD-drop, drop-append-seam}
-use Rattle.text.specs.Bytes.{Text}
-use Rattle.text.proofs.Basics.{by-test}
+use Rattle.bytes.specs.Bytes.{Text}
+use Rattle.bytes.proofs.Basics.{by-test}
 
 -- t stands in s at `at`
 abbrev pub Stands : Text → ℕ → Text → Type 0

@@ -5,13 +5,13 @@ use mathlib.Core.List.{[], _∷_, _++_, append-assoc}
 use mathlib.Core.Bool.{Bool, true, false}
 use lib.Dec.{eqb, lit<}
 use lib.ListN.{length}
-use Rattle.text.specs.Bytes.{Text, colon}
+use Rattle.bytes.specs.Bytes.{Text, colon}
+use Rattle.bytes.proofs.Basics.{and-true}
 use Rattle.text.specs.Number.{Read, missing, found, number}
 use Rattle.text.specs.Lists.{item, listEnd, anyList}
 use Rattle.text.specs.Lines.{got, bad, fault, then, judged, every, within, behind}
 use Rattle.text.specs.Token.{Token, countsAt, tokenAt, readToken, rightToken}
 use Rattle.text.specs.Printed.{decimal, endText, tokenText}
-use Rattle.text.proofs.Basics.{and-true}
 use Rattle.text.proofs.Standing.{Stands, stands-left, stands-right, ends-join, reach-join}
 use Rattle.text.proofs.Spelled.{number-spelled}
 use Rattle.text.proofs.Exactly.{Accepts, accepts-as, Finds, Exactly, bad≢got, got-is, need-got, judged-got, judged-found, then-got}

@@ -6,10 +6,10 @@ use mathlib.Core.Bool.{Bool, true, false}
 use native.Mathlib.Omega.{arith}
 use lib.Dec.{lit<}
 use lib.ListN.{length, drop}
-use Rattle.text.specs.Bytes.{Text, colon}
+use Rattle.bytes.specs.Bytes.{Text, colon, starts}
 use Rattle.text.specs.Number.{missing, number}
 use Rattle.text.specs.Lists.{item, anyList}
-use Rattle.text.specs.Lines.{Outcome, got, bad, fault, then, need, within, starts}
+use Rattle.text.specs.Lines.{Outcome, got, bad, fault, then, need, within}
 use Rattle.text.specs.Token.{Token, countsAt, tokenAt, readToken}
 use Rattle.text.specs.Answers.{endedOf, keptOr, rowOf, tokenRowOf}
 use Rattle.text.specs.declared.Fault.{Fault}

@@ -1,4 +1,3 @@
-pub mod Bytes
 pub mod Number
 pub mod Lists
 pub mod Lines

@@ -5,7 +5,7 @@ use mathlib.Core.Bool.{Bool, true, false, _&&_}
 use lib.Dec.{leb, eqb}
 use lib.IntN.{ℤ, natAbs}
 use lib.ListN.{length, drop}
-use Rattle.text.specs.Bytes.{Text, lf}
+use Rattle.bytes.specs.Bytes.{Text, lf, starts}
 use Rattle.text.specs.Number.{Read, missing, found, number, signed}
 use Rattle.text.specs.Lists.{item, listEnd}
 use Rattle.text.specs.declared.Fault.{Fault}
@@ -48,12 +48,6 @@ module _ {A : Type 0} where
 abbrev pub within : ℕ → ℕ → ℕ → Bool
 within lo hi v = leb lo v && leb v hi
 
--- the rest begins with the bytes of key
-unfoldable pub starts : Text → Text → Bool
-starts [] rest = true
-starts (k ∷ key) [] = false
-starts (k ∷ key) (b ∷ rest) = elim (eqb b k) [ true ↦ starts key rest | false ↦ false ]
-
 -- what f finds behind the key, which has its '=' at its end
 unfoldable pub behind : {A : Type 0} → Text → (ℕ → Read A) → Text → ℕ → Read A
 behind key f s at = elim (starts key (drop at s)) [ true ↦ f (at + length key) | false ↦ missing ]
@@ -77,8 +71,3 @@ modest most w = leb (natAbs w) most
 -- the first line of a file, whose number is 1. 01: "In eos, inv and run any other number is 2"
 unfoldable pub readHead : Text → Text → ℕ → Outcome ℕ
 readHead key s at = then (readNumber key (λ n. true) s at) λ n next. need (eqb n 1) 2 at (got n next)
-
--- the lines ended in a text: with those before a position, one more is the number of the line that begins there
-unfoldable pub newlines : Text → ℕ
-newlines [] = 0
-newlines (b ∷ s) = elim (eqb b lf) [ true ↦ suc (newlines s) | false ↦ newlines s ]

@@ -2,8 +2,7 @@
 ghost use mathlib.Core.Path.{_≡_};
 ghost use Prim.Native.Nat.{_+_};
 ghost use lib.Dec.{leb};
-ghost use lib.ListN.{drop, take};
-ghost use Rattle.text.specs.Lines.{starts, within, readNumber, readHead, readList, readWeights, modest, newlines};
+ghost use Rattle.text.specs.Lines.{within, readNumber, readHead, readList, readWeights, modest};
 ghost use Rattle.text.specs.Answers.{lineOf, endedIn, rowOf, weightRowOf};
 use super::Decimal;
 use super::Ended;
@@ -16,26 +15,7 @@ use super::lists::no_row;
 use super::lists::no_weights;
 use super::lists::weights_end;
 use super::numbers::item;
-
-// Whether key stands at `at`.
-pub fn starts(s: &[u8], at: usize, key: &[u8]) -> bool
-    ensures { λ r. ⌜ r ≡ starts (now (key .entry)) (drop at (now (s .entry))) ⌝ }
-{
-    if s.len() < at {
-        return key.len() == 0;
-    }
-    let mut i = 0;
-    while i < key.len() {
-        if s.len() - at <= i {
-            return false;
-        }
-        if s[at + i] != key[i] {
-            return false;
-        }
-        i += 1;
-    }
-    true
-}
+use bytes::starts;
 
 fn in_range(v: u32, lo: u16, hi: u16) -> bool
     ensures { λ r. ⌜ r ≡ within lo hi v ⌝ }
@@ -111,22 +91,4 @@ pub fn weight_line(s: &[u8], at: usize, key: &[u8], n: usize, hi: u16) -> Weight
         return weights_end(s, at, at + key.len(), n, hi);
     }
     no_weights(2, at)
-}
-
-// How many lines end before `at`.
-pub fn lines_before(s: &[u8], at: usize) -> usize
-    ensures { λ r. ⌜ r ≡ newlines (take at (now (s .entry))) ⌝ }
-{
-    let mut n = 0;
-    let mut i = 0;
-    while i < s.len() {
-        if at <= i {
-            return n;
-        }
-        if s[i] == 10 {
-            n += 1;
-        }
-        i += 1;
-    }
-    n
 }

@@ -12,10 +12,10 @@ use super::Decimal;
 use super::Ended;
 use super::Fault;
 use super::TokenRow;
-use super::lines::starts;
 use super::lists::any_list;
 use super::lists::list_end;
 use super::numbers::item;
+use bytes::starts;
 
 // No net-token, and the fault.
 fn no_token(why: u8, at: usize) -> TokenRow

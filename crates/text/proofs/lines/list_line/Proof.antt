@@ -8,7 +8,8 @@ use Rattle.text.specs.Number.{number}
 use Rattle.text.specs.Lists.{listEnd}
 use Rattle.text.specs.Lines.{judged, every, readList}
 use Rattle.text.specs.Answers.{rowOf}
-use Rattle.text.proofs.LineLaws.{key-past, behind-key, behind-other, judged-missing}
+use Rattle.bytes.proofs.ByteLaws.{key-past}
+use Rattle.text.proofs.LineLaws.{behind-key, behind-other, judged-missing}
 use Rattle.text.proofs.ListLaws.{upTo}
 
 starts-requires : tie.Need-starts-requires

@@ -9,12 +9,13 @@ use native.Mathlib.Omega.{arith}
 use borrow.Author.Tests.{not-true, not-false}
 use lib.ListN.{length, drop}
 use denote.Ref.{now}
-use Rattle.text.specs.Bytes.{lf}
+use Rattle.bytes.specs.Bytes.{lf, starts}
+use Rattle.bytes.proofs.ByteLaws.{key-past}
 use Rattle.text.specs.Number.{number}
 use Rattle.text.specs.Lists.{item}
-use Rattle.text.specs.Lines.{starts, within}
+use Rattle.text.specs.Lines.{within}
 use Rattle.text.proofs.NumberLaws.{Exact, Capped, missing-of, exact-of}
-use Rattle.text.proofs.LineLaws.{key-past, within-most, line-other, line-missing, line-out, line-value}
+use Rattle.text.proofs.LineLaws.{within-most, line-other, line-missing, line-out, line-value}
 
 key-is : (c : tie.Else1) → let a = c .before .before .before .before .args in starts (now (a .key)) (drop (a .at) (now (a .s))) ≡ true
 key-is c = sym (c .before .starts .ensures) ∙ not-false _ (c .if1 .left)

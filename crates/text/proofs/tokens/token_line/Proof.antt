@@ -9,13 +9,12 @@ use native.Mathlib.Omega.{arith}
 use borrow.Author.Tests.{not-true, not-false}
 use lib.ListN.{length, drop}
 use denote.Ref.{now}
-use Rattle.text.specs.Bytes.{colon}
+use Rattle.bytes.specs.Bytes.{colon, starts}
+use Rattle.bytes.proofs.ByteLaws.{key-past}
 use Rattle.text.specs.Number.{number}
 use Rattle.text.specs.Lists.{item}
-use Rattle.text.specs.Lines.{starts}
 use Rattle.text.specs.Answers.{tokenRowOf}
 use Rattle.text.proofs.NumberLaws.{Exact, Capped, missing-of, exact-of}
-use Rattle.text.proofs.LineLaws.{key-past}
 use Rattle.text.proofs.TokenLaws.{token-other, token-missing, token-low, token-high, token-in}
 
 key-is : (c : tie.Else1) → let a = c .before .before .before .before .before .args in starts (now (a .key)) (drop (a .at) (now (a .s))) ≡ true

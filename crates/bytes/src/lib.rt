@@ -1,0 +1,42 @@
+// The bytes of a text: what stands at a position, and the lines before it.
+ghost use mathlib.Core.Path.{_≡_};
+ghost use lib.ListN.{drop, take};
+ghost use Rattle.bytes.specs.Bytes.{starts, newlines};
+
+// Whether key stands at `at`.
+pub fn starts(s: &[u8], at: usize, key: &[u8]) -> bool
+    ensures { λ r. ⌜ r ≡ starts (now (key .entry)) (drop at (now (s .entry))) ⌝ }
+{
+    if s.len() < at {
+        return key.len() == 0;
+    }
+    let mut i = 0;
+    while i < key.len() {
+        if s.len() - at <= i {
+            return false;
+        }
+        if s[at + i] != key[i] {
+            return false;
+        }
+        i += 1;
+    }
+    true
+}
+
+// How many lines end before `at`.
+pub fn lines_before(s: &[u8], at: usize) -> usize
+    ensures { λ r. ⌜ r ≡ newlines (take at (now (s .entry))) ⌝ }
+{
+    let mut n = 0;
+    let mut i = 0;
+    while i < s.len() {
+        if at <= i {
+            return n;
+        }
+        if s[i] == 10 {
+            n += 1;
+        }
+        i += 1;
+    }
+    n
+}
