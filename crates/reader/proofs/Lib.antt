@@ -3,3 +3,4 @@ pub mod SizeLaws
 pub mod ReadingLaws
 pub mod WritingLaws
 pub mod HeldExactly
+pub mod RefusedLeaves
