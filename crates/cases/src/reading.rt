@@ -81,6 +81,10 @@ fn ranges() {
         b"65 events",
         b"eos=1\nnets=1\nplaces=2\ntype=1,1\nmoves=1\npre=1,0\npost=0,1\ninner=2\nsteps=1\npre=1,0\npost=0,1\nevents=65\nevent=1\nsync=1\nidle=2\nsync=1\nstart=2\ntoken=1:1,0\ntoken=1:0,0\n",
     );
+}
+
+// Numbers that name a move or a place, and counts, at and past their ranges.
+fn indices() {
     model_case(
         b"event 0",
         b"eos=1\nnets=1\nplaces=2\ntype=1,1\nmoves=1\npre=1,0\npost=0,1\ninner=2\nsteps=1\npre=1,0\npost=0,1\nevents=2\nevent=0\nsync=1\nidle=2\nsync=1\nstart=2\ntoken=1:1,0\ntoken=1:0,0\n",
@@ -261,6 +265,7 @@ fn long_texts() {
 pub fn run() {
     syntax();
     ranges();
+    indices();
     rules();
     tokens();
     long_texts();

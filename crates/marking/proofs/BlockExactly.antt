@@ -4,8 +4,8 @@ use mathlib.Core.Path.{_≡_, refl, sym}
 use mathlib.Core.Bool.{Bool, true}
 use native.Mathlib.Omega.{arith}
 use lib.ListN.{length}
-use Rattle.bytes.specs.Bytes.{Text, bytes}
-use Rattle.bytes.proofs.Basics.{and-true}
+use Rattle.scan.specs.Bytes.{Text, bytes}
+use Rattle.scan.proofs.Basics.{and-true}
 use Rattle.text.specs.Lines.{need, within}
 use Rattle.text.specs.Token.{Token, rightToken}
 use Rattle.text.proofs.TestLaws.{and-both, eqb-and, and-eqb, within-is}

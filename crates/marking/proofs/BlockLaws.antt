@@ -7,8 +7,8 @@ use native.Mathlib.Omega.{arith}
 use native.Mathlib.Nat.{sub-zero}
 use lib.Dec.{leb, leb·zero}
 use lib.ListN.{length, length-map, replicate}
-use Rattle.bytes.specs.Bytes.{Text, bytes}
-use Rattle.bytes.proofs.Basics.{and-true}
+use Rattle.scan.specs.Bytes.{Text, bytes}
+use Rattle.scan.proofs.Basics.{and-true}
 use Rattle.text.specs.Lines.{Outcome, got, bad, then, many, within, readNumber}
 use Rattle.text.specs.Repeat.{fill, filled}
 use Rattle.text.specs.Token.{Token, readToken, rightToken}

@@ -12,7 +12,7 @@ use borrow.Author.Tests.{leb-true, le-leb, eq-eqb}
 use Rattle.text.specs.Lines.{every, within}
 use Rattle.text.specs.Token.{rightToken}
 use Rattle.text.specs.Answers.{padded}
-use Rattle.bytes.proofs.Basics.{and-true}
+use Rattle.scan.proofs.Basics.{and-true}
 use Rattle.text.proofs.TestLaws.{and-both, eqb-and, within-is}
 use Rattle.text.proofs.PaddedLaws.{padded-is, take-padded, drop-padded}
 use Rattle.eos.specs.Vector.{lexV}

@@ -6,7 +6,7 @@ use native.Mathlib.Omega.{arith}
 use native.Mathlib.Nat.{zero-add}
 use lib.ListN.{length, take, drop, getD, length-append}
 use lib.Seq.{sets, take-take, drop-drop}
-use Rattle.bytes.specs.Bytes.{Text, bytes, lf, colon}
+use Rattle.scan.specs.Bytes.{Text, bytes, lf, colon}
 use Rattle.text.specs.Printed.{decimal, endText, texts, numberText, tokenText}
 use Rattle.text.proofs.DecimalLaws.{length-below}
 use Rattle.text.proofs.Standing.{ends-join}

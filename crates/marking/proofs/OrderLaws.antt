@@ -8,7 +8,7 @@ use lib.Dec.{eqb, eqb→eq, eqb·suc-suc, leb·suc-suc}
 use lib.ListN.{length, replicate}
 use borrow.Author.Tests.{eq-eqb}
 use Rattle.text.specs.Answers.{padded}
-use Rattle.bytes.proofs.Basics.{by-test}
+use Rattle.scan.proofs.Basics.{by-test}
 use Rattle.text.proofs.PaddedLaws.{padded-is, length-padded}
 use Rattle.eos.specs.Vector.{lexV}
 use Rattle.eos.specs.Multiset as M

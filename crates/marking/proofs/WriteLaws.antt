@@ -9,8 +9,8 @@ use lib.Dec.{leb, eqb}
 use lib.ListN.{length, drop, getD, length-append, length-map}
 use lib.Seq.{sets, drop-length}
 use borrow.Author.Tests.{leb-true, le-leb, lt-leb}
-use Rattle.bytes.specs.Bytes.{Text, bytes}
-use Rattle.bytes.proofs.Basics.{and-true}
+use Rattle.scan.specs.Bytes.{Text, bytes}
+use Rattle.scan.proofs.Basics.{and-true}
 use Rattle.text.specs.Lines.{got, every, within}
 use Rattle.text.specs.Printed.{decimal, texts, numberText, tokenText}
 use Rattle.text.specs.Answers.{endedOf, keptOr}

@@ -4,7 +4,7 @@ ghost use mathlib.Core.Bool.{true};
 ghost use Prim.Native.Nat.{ℕ, _+_, _-_, _*_, _≤_, _<_};
 ghost use lib.ListN.{length, take, drop, getD};
 ghost use lib.Seq.{sets};
-ghost use Rattle.bytes.specs.Bytes.{bytes};
+ghost use Rattle.scan.specs.Bytes.{bytes};
 ghost use Rattle.text.specs.Printed.{decimal, endText, texts, numberText};
 ghost use Rattle.print.specs.declared.Written.{Written};
 ghost use Rattle.print.specs.declared.Written.the-variants.{Upto};

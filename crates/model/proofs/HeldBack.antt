@@ -11,7 +11,7 @@ use lib.Seq.{ext-getD, getD-drop, length-take-le}
 use Rattle.text.specs.Lines.{within}
 use Rattle.text.specs.Repeat.{fill}
 use Rattle.text.specs.Answers.{padded}
-use Rattle.bytes.proofs.Basics.{and-true}
+use Rattle.scan.proofs.Basics.{and-true}
 use Rattle.text.proofs.TestLaws.{within-is, eqb-and}
 use Rattle.eos.specs.Model as eos
 use Rattle.model.specs.Rules.{nth}

@@ -10,7 +10,7 @@ use lib.ListN.{length, take, drop, replicate, length-replicate, length-take, Lis
 use lib.Seq.{ext-getD, getD-drop}
 use Rattle.text.specs.Lines.{every}
 use Rattle.text.specs.Answers.{padded}
-use Rattle.bytes.proofs.Basics.{by-test, and-true}
+use Rattle.scan.proofs.Basics.{by-test, and-true}
 use Rattle.text.proofs.TestLaws.{and-both}
 use Rattle.text.proofs.PaddedLaws.{at-padded, length-padded}
 use Rattle.model.specs.Rules.{nth, byte}

@@ -8,7 +8,7 @@ use lib.Dec.{leb, ltb, eqb}
 use borrow.Author.Tests.{le-leb}
 use lib.ListN.{length, getD}
 use Rattle.text.specs.Lines.{within}
-use Rattle.bytes.proofs.Basics.{and-true}
+use Rattle.scan.proofs.Basics.{and-true}
 use Rattle.text.proofs.TestLaws.{within-is}
 use Rattle.eos.specs.Model as eos
 use Rattle.text.specs.Answers.{padded}

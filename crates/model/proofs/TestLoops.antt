@@ -12,8 +12,8 @@ use lib.ListN.{length, take, drop, getD, set, replicate, getD-replicate, take-ap
 use lib.Seq.{getD-set-same, getD-set-other, drop-cons, getD-drop, drop-drop, paste, paste-suc}
 use Rattle.eos.specs.Firing.{allBelow}
 use Rattle.text.specs.Lines.{within}
-use Rattle.bytes.proofs.Basics as T
-use Rattle.bytes.proofs.Basics.{by-test}
+use Rattle.scan.proofs.Basics as T
+use Rattle.scan.proofs.Basics.{by-test}
 use Rattle.model.specs.Rules.{nth, Frame, takesPart}
 use Rattle.model.specs.Held.{noNet}
 use Rattle.model.specs.Test.{empty, emptyPast, usedOf, heldTypes, heldMoves, heldNets, heldEvents, frameIn, heldAct, ownIn, heldModel, countsAre, emptyAt, usedIn, sizesAre, framed, partAt, eventAt}

@@ -8,8 +8,8 @@ use native.Mathlib.Numerals.{sub-one}
 use lib.Dec.{leb, lit≤}
 use borrow.Author.Tests.{le-leb}
 use lib.ListN.{drop, replicate}
-use Rattle.bytes.specs.Bytes.{Text, bytes, starts}
-use Rattle.bytes.proofs.Basics.{by-test}
+use Rattle.scan.specs.Bytes.{Text, bytes, starts}
+use Rattle.scan.proofs.Basics.{by-test}
 use Rattle.text.specs.Lines.{Outcome, got, bad, fault, then, need, within, readNumber, readList}
 use Rattle.text.specs.Answers.{lineOf, endedOf, keptOr, padded, rowOf}
 use Rattle.text.specs.declared.Fault.{Fault}

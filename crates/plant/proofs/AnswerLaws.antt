@@ -7,8 +7,8 @@ use native.Mathlib.Omega.{arith}
 use lib.Dec.{leb, eqb}
 use borrow.Author.Tests.{eqb-true, leb-true, le-leb}
 use lib.ListN.{length}
-use Rattle.bytes.specs.Bytes.{Text}
-use Rattle.bytes.proofs.Basics.{and-true}
+use Rattle.scan.specs.Bytes.{Text}
+use Rattle.scan.proofs.Basics.{and-true}
 use Rattle.text.specs.Lines.{Outcome, got, bad, within, every, many, readNumber, readList}
 use Rattle.text.specs.Repeat.{fill, filled}
 use Rattle.text.specs.Answers.{lineOf, endedOf, keptOr, padded, rowOf}

@@ -6,8 +6,8 @@ use native.Mathlib.Omega.{arith}
 use lib.Dec.{leb, ltb}
 use borrow.Author.Tests.{ltb-true}
 use lib.ListN.{length, drop}
-use Rattle.bytes.specs.Bytes.{Text, bytes, starts}
-use Rattle.bytes.proofs.Basics.{by-test, and-true}
+use Rattle.scan.specs.Bytes.{Text, bytes, starts}
+use Rattle.scan.proofs.Basics.{by-test, and-true}
 use Rattle.text.specs.Lines.{got, need, within}
 use Rattle.text.specs.Printed.{numberText, listText}
 use Rattle.text.proofs.TestLaws.{and-both, within-is, is-within}

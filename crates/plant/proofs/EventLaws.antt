@@ -5,7 +5,7 @@ use mathlib.Core.List.{List}
 use native.Mathlib.Omega.{arith}
 use lib.ListN.{set, replicate}
 use lib.Seq.{sets}
-use Rattle.bytes.specs.Bytes.{Text}
+use Rattle.scan.specs.Bytes.{Text}
 use Rattle.text.specs.Lines.{Outcome, got, bad, then, many}
 use Rattle.text.specs.Repeat.{manyAt, filled}
 use Rattle.text.specs.Answers.{endedOf, keptOr, padded}

@@ -11,7 +11,7 @@ use lib.Seq.{sets}
 use Rattle.text.specs.Lines.{every}
 use Rattle.text.specs.Repeat.{fill}
 use Rattle.text.specs.Answers.{padded}
-use Rattle.bytes.proofs.Basics.{and-true}
+use Rattle.scan.proofs.Basics.{and-true}
 use Rattle.eos.specs.Model as eos
 use Rattle.model.specs.Rules.{nth, Frame, frameOf, monotonous, keepsTypes}
 use Rattle.model.specs.Held.{holdNet, noNet, putAt, holdNets}

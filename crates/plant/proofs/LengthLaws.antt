@@ -7,8 +7,8 @@ use native.Mathlib.Omega.{arith}
 use lib.Dec.{leb, ltb}
 use borrow.Author.Tests.{leb-true, ltb-true}
 use lib.ListN.{length, getD, length-append}
-use Rattle.bytes.specs.Bytes.{Text, bytes}
-use Rattle.bytes.proofs.Basics.{and-true}
+use Rattle.scan.specs.Bytes.{Text, bytes}
+use Rattle.scan.proofs.Basics.{and-true}
 use Rattle.text.specs.Lines.{every}
 use Rattle.text.specs.Printed.{numberText, listText, texts}
 use Rattle.text.proofs.TestLaws.{within-is, every-at}

@@ -5,8 +5,8 @@ use mathlib.Core.Bool.{Bool, true, _&&_}
 use mathlib.Core.Bool as B
 use lib.Dec.{eqb}
 use lib.ListN.{length}
-use Rattle.bytes.specs.Bytes.{Text, bytes}
-use Rattle.bytes.proofs.Basics.{and-true}
+use Rattle.scan.specs.Bytes.{Text, bytes}
+use Rattle.scan.proofs.Basics.{and-true}
 use Rattle.text.specs.Lines.{need, many, within, every}
 use Rattle.text.specs.Printed.{texts}
 use Rattle.text.proofs.TestLaws.{eqb-and, and-eqb}

@@ -7,7 +7,7 @@ use lib.Dec.{leb}
 use borrow.Author.Tests.{le-leb}
 use native.Mathlib.Omega.{arith}
 use lib.ListN.{length, set, replicate}
-use Rattle.bytes.specs.Bytes.{Text, bytes}
+use Rattle.scan.specs.Bytes.{Text, bytes}
 use Rattle.text.specs.Lines.{Outcome, got, bad, then, many, within, readNumber}
 use Rattle.text.specs.Repeat.{filled}
 use Rattle.text.specs.Answers.{lineOf, endedOf, keptOr}

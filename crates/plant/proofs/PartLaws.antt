@@ -6,7 +6,7 @@ use mathlib.Core.Bool.{Bool, true}
 use native.Mathlib.Omega.{arith}
 use lib.Dec.{leb}
 use lib.ListN.{length, replicate}
-use Rattle.bytes.specs.Bytes.{Text, bytes}
+use Rattle.scan.specs.Bytes.{Text, bytes}
 use Rattle.text.specs.Lines.{Outcome, got, bad, then, many, within, every, readNumber, readList, readHead}
 use Rattle.text.specs.Answers.{lineOf, endedOf, keptOr, padded, rowOf}
 use Rattle.text.specs.declared.Fault.{Fault}

@@ -4,7 +4,7 @@ use mathlib.Core.Bool.{true}
 use lib.Dec.{leb}
 use borrow.Author.Tests.{eqb-true}
 use lib.ListN.{length}
-use Rattle.bytes.specs.Bytes.{Text, bytes}
+use Rattle.scan.specs.Bytes.{Text, bytes}
 use Rattle.text.specs.Lines.{need, within}
 use Rattle.text.proofs.TestLaws.{eqb-and, and-eqb}
 use Rattle.text.proofs.Exactly.{Exactly, many-exactly}

@@ -5,7 +5,7 @@ use mathlib.Core.List.{List}
 use mathlib.Core.Bool.{Bool}
 use native.Mathlib.Omega.{arith}
 use lib.ListN.{length}
-use Rattle.bytes.specs.Bytes.{Text}
+use Rattle.scan.specs.Bytes.{Text}
 use Rattle.text.specs.Lines.{Outcome, got, bad, then}
 use Rattle.text.specs.Answers.{endedOf, keptOr, padded}
 use Rattle.text.specs.declared.Fault.{Fault}

@@ -7,7 +7,7 @@ use native.Mathlib.Omega.{arith}
 use lib.Dec.{lit≤}
 use lib.ListN.{length, replicate}
 use lib.Seq.{sets}
-use Rattle.bytes.specs.Bytes.{Text, bytes}
+use Rattle.scan.specs.Bytes.{Text, bytes}
 use Rattle.text.specs.Lines.{Outcome, got, bad, fault, then, need, many, readList}
 use Rattle.text.specs.Repeat.{filled}
 use Rattle.text.specs.Answers.{endedOf, keptOr, padded, rowOf}

@@ -3,7 +3,7 @@ use Prim.Native.Nat.{ℕ}
 use mathlib.Core.Bool.{Bool}
 use mathlib.Core.List.{List}
 use lib.Dec.{leb}
-use Rattle.bytes.specs.Bytes.{Text, bytes}
+use Rattle.scan.specs.Bytes.{Text, bytes}
 use Rattle.text.specs.Lines.{Outcome, got, then, many, within, readNumber, readList, readHead}
 use Rattle.eos.specs.Model.{Transition, ObjectNet, Event}
 use Rattle.model.specs.Rules.{Frame}

@@ -2,7 +2,7 @@
 use Prim.Native.Nat.{suc}
 use mathlib.Core.List.{_++_}
 use lib.ListN.{length}
-use Rattle.bytes.specs.Bytes.{Text, bytes}
+use Rattle.scan.specs.Bytes.{Text, bytes}
 use Rattle.text.specs.Printed.{numberText, listText, texts}
 use Rattle.eos.specs.Model.{Transition, ObjectNet, Act, move, idle, Event, Model, places}
 

@@ -4,7 +4,7 @@ use mathlib.Core.Bool.{Bool, true, false}
 use mathlib.Core.List.{List, []}
 use lib.Dec.{leb}
 use lib.ListN.{drop}
-use Rattle.bytes.specs.Bytes.{Text, bytes, starts}
+use Rattle.scan.specs.Bytes.{Text, bytes, starts}
 use Rattle.text.specs.Lines.{Outcome, got, then, need, many, within, readNumber, readList, readHead}
 use Rattle.text.specs.Repeat.{manyAt}
 use Rattle.eos.specs.Model.{Transition, ObjectNet, Act, move, idle, Event, Model}

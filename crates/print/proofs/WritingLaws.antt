@@ -16,7 +16,7 @@ use Rattle.text.specs.Printed.{decimal, itemsText, endText}
 use Rattle.print.specs.Writing.{Lent, write}
 use Rattle.print.specs.declared.Written.{Written}
 use Rattle.print.specs.declared.Written.the-variants.{Upto, Full}
-use Rattle.bytes.proofs.Basics.{by-test}
+use Rattle.scan.proofs.Basics.{by-test}
 use Rattle.text.proofs.DecimalLaws.{decimal-small, decimal-large}
 
 -- two numbers by their order

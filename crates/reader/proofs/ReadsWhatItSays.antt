@@ -8,8 +8,8 @@ use native.Mathlib.Nat.{le-refl}
 use lib.Dec.{leb}
 use lib.ListN.{length}
 use borrow.Author.Tests.{leb-true, le-leb}
-use Rattle.bytes.specs.Bytes.{Text, bytes}
-use Rattle.bytes.proofs.Basics.{and-true}
+use Rattle.scan.specs.Bytes.{Text, bytes}
+use Rattle.scan.proofs.Basics.{and-true}
 use Rattle.text.specs.Lines.{Outcome, got, then, need}
 use Rattle.text.proofs.TestLaws.{and-both}
 use Rattle.text.proofs.Exactly.{Exactly, got-is, need-got, then-got}

@@ -8,8 +8,8 @@ use mathlib.Core.Logic.{inr}
 use native.Mathlib.Omega.{arith}
 use lib.Dec.{leb}
 use lib.ListN.{length, getD}
-use Rattle.bytes.specs.Bytes.{Text}
-use Rattle.bytes.proofs.Basics.{by-test}
+use Rattle.scan.specs.Bytes.{Text}
+use Rattle.scan.proofs.Basics.{by-test}
 use Rattle.text.specs.Lines.{Outcome, got, bad}
 use Rattle.print.proofs.WritingLaws.{sets-past}
 use Rattle.eos.specs.Model as eos

@@ -13,7 +13,7 @@ use lib.Seq.{ext-getD}
 use borrow.Author.Tests.{leb-true, eqb-true}
 use Rattle.text.specs.Lines.{within}
 use Rattle.text.specs.Answers.{padded}
-use Rattle.bytes.proofs.Basics.{and-true}
+use Rattle.scan.proofs.Basics.{and-true}
 use Rattle.text.proofs.TestLaws.{within-is, eqb-and}
 use Rattle.eos.specs.Model as eos
 use Rattle.model.specs.Rules.{nth, rightModel}

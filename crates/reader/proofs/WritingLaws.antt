@@ -5,8 +5,8 @@ use mathlib.Core.List.{List}
 use mathlib.Core.Bool.{true, false}
 use lib.Dec.{leb}
 use lib.ListN.{length}
-use Rattle.bytes.specs.Bytes.{Text}
-use Rattle.bytes.proofs.Basics.{by-test, and-true}
+use Rattle.scan.specs.Bytes.{Text}
+use Rattle.scan.proofs.Basics.{by-test, and-true}
 use Rattle.model.specs.Test.{heldModel}
 use Rattle.model.specs.declared.Model.{Model}
 use Rattle.marking.specs.Held.{sizesAt, Roomy, tokensOf, heldMarking}

@@ -5,7 +5,7 @@ use mathlib.Core.List.{List}
 use lib.Dec.{leb}
 use lib.ListN.{length, take}
 use lib.Seq.{sets}
-use Rattle.bytes.specs.Bytes.{Text, newlines}
+use Rattle.scan.specs.Bytes.{Text, newlines}
 use Rattle.text.specs.Lines.{Outcome, got, bad}
 use Rattle.text.specs.declared.Fault.{Fault}
 use Rattle.eos.specs.Model as eos

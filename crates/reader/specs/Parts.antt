@@ -1,5 +1,5 @@
 -- What the parts of this crate's code answer.
-use Rattle.bytes.specs.Bytes.{Text}
+use Rattle.scan.specs.Bytes.{Text}
 use Rattle.text.specs.declared.Ended.{Ended}
 use Rattle.text.specs.declared.Ended.the-variants.{Past, Stopped}
 use Rattle.marking.specs.declared.Wrote.{Wrote}

@@ -4,7 +4,7 @@ use mathlib.Core.Bool.{Bool, _&&_}
 use mathlib.Core.List.{_++_}
 use lib.Dec.{leb}
 use lib.ListN.{length}
-use Rattle.bytes.specs.Bytes.{Text, bytes}
+use Rattle.scan.specs.Bytes.{Text, bytes}
 use Rattle.text.specs.Lines.{Outcome, got, then, need}
 use Rattle.eos.specs.Model as eos
 use Rattle.model.specs.Rules.{rightModel}

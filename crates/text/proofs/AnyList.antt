@@ -8,8 +8,8 @@ use native.Mathlib.Omega.{arith}
 use lib.Dec.{eqb, lit<}
 use borrow.Author.Tests.{eqb-true, eq-eqb}
 use lib.ListN.{length, drop, getD, length-append, length-drop}
-use Rattle.bytes.specs.Bytes.{Text, lf, comma}
-use Rattle.bytes.proofs.Basics.{by-test, and-true}
+use Rattle.scan.specs.Bytes.{Text, lf, comma}
+use Rattle.scan.proofs.Basics.{by-test, and-true}
 use Rattle.text.specs.Number.{Read, missing, found, number}
 use Rattle.text.specs.Lists.{stopOf, anyItems, anyList}
 use Rattle.text.specs.Printed.{decimal, itemsText, endText}

@@ -4,7 +4,7 @@ use mathlib.Core.Path.{_≡_, refl}
 use mathlib.Core.List.{List, [], _∷_, _++_}
 use lib.IntN.{ℤ, pos, negsuc}
 use lib.ListN.{length, take}
-use Rattle.bytes.specs.Bytes.{Text, bytes, starts, newlines}
+use Rattle.scan.specs.Bytes.{Text, bytes, starts, newlines}
 use Rattle.text.specs.Number.{digits, numberOf, number, plainly, negated, signed}
 use Rattle.text.specs.Lists.{stopOf, ended, before, item, items, listEnd, anyItems, anyList}
 use Rattle.text.specs.Lines.{Outcome, got, bad, fault, then, need, many, judged, within, modest, behind}

@@ -4,7 +4,7 @@ use mathlib.Core.Path.{_≡_, ap, sym, _∙_, subst, subst₂}
 use mathlib.Core.List.{_++_}
 use mathlib.Core.Bool.{Bool, true}
 use lib.ListN.{length}
-use Rattle.bytes.specs.Bytes.{Text}
+use Rattle.scan.specs.Bytes.{Text}
 use Rattle.text.specs.Lines.{Outcome, got, then, need}
 use Rattle.text.proofs.Standing.{Stands, Reaches, stands-left, stands-right, ends-join, reach-join}
 use Rattle.text.proofs.Exactly.{Exactly, got-is, need-got, then-got}

@@ -9,8 +9,8 @@ use native.Mathlib.Numerals.{add-one}
 use lib.Dec.{ltb}
 use borrow.Author.Tests.{lt-ltb, le-ltb, ltb-true, ltb-false, le-leb}
 use lib.ListN.{length, getD, length-append}
-use Rattle.bytes.specs.Bytes.{Text}
-use Rattle.bytes.proofs.Basics.{by-test}
+use Rattle.scan.specs.Bytes.{Text}
+use Rattle.scan.proofs.Basics.{by-test}
 use Rattle.text.specs.Number.{isDigit}
 use Rattle.text.specs.Lines.{every}
 use Rattle.text.specs.Printed.{decimal, decimalOf}

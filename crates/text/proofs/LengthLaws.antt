@@ -5,7 +5,7 @@ use mathlib.Core.List.{List, [], _∷_, _++_}
 use native.Mathlib.Omega.{arith}
 use native.Mathlib.Nat.{suc-mul}
 use lib.ListN.{length, getD, length-append}
-use Rattle.bytes.specs.Bytes.{Text, lf}
+use Rattle.scan.specs.Bytes.{Text, lf}
 use Rattle.text.specs.Lists.{stopOf}
 use Rattle.text.specs.Printed.{decimal, itemsText, endText, texts, numberText, listText}
 use Rattle.text.proofs.DecimalLaws.{length-below}

@@ -7,8 +7,8 @@ use native.Mathlib.Omega.{arith}
 use lib.Dec.{eqb, leb}
 use borrow.Author.Tests.{eqb-true, eqb-false, leb-true, leb-false, le-leb, lt-leb}
 use lib.ListN.{length, drop}
-use Rattle.bytes.specs.Bytes.{Text, lf, starts}
-use Rattle.bytes.proofs.Basics.{by-test, and-true}
+use Rattle.scan.specs.Bytes.{Text, lf, starts}
+use Rattle.scan.proofs.Basics.{by-test, and-true}
 use Rattle.text.specs.Number.{Read, missing, found, number}
 use Rattle.text.specs.Lists.{item}
 use Rattle.text.specs.Lines.{Outcome, got, bad, fault, then, need, judged, every, within, behind, readNumber, readHead}

@@ -10,8 +10,8 @@ use lib.IntN.{ℤ}
 use borrow.Author.Tests.{eqb-true, eq-eqb}
 use lib.ListN.{length, drop, getD}
 use lib.Seq.{append-snoc}
-use Rattle.bytes.specs.Bytes.{Text, lf, starts}
-use Rattle.bytes.proofs.Basics.{by-test}
+use Rattle.scan.specs.Bytes.{Text, lf, starts}
+use Rattle.scan.proofs.Basics.{by-test}
 use Rattle.text.specs.Number.{Read, missing, found, isDigit, number, signed}
 use Rattle.text.specs.Lists.{stopOf, ended, before, item, items, listEnd}
 use Rattle.text.specs.Lines.{judged, every, behind, readNumber, readList, readWeights, readHead}

@@ -11,8 +11,8 @@ use lib.IntN.{ℤ, pos, negsuc}
 use borrow.Author.Tests.{leb-true, le-leb, eq-eqb, ne-eqb}
 use lib.ListN.{replicate, length, set, getD}
 use lib.Seq.{sets}
-use Rattle.bytes.specs.Bytes.{Text, lf, comma}
-use Rattle.bytes.proofs.Basics.{by-test, and-true}
+use Rattle.scan.specs.Bytes.{Text, lf, comma}
+use Rattle.scan.proofs.Basics.{by-test, and-true}
 use Rattle.text.specs.Number.{Read, missing, found, number, signed}
 use Rattle.text.specs.Lists.{stopOf, ended, before, item, items, listEnd, anyItems, anyList}
 use Rattle.text.specs.Lines.{Outcome, got, bad, fault, need, judged, every, modest}

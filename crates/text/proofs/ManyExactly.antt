@@ -8,8 +8,8 @@ use native.Mathlib.Nat.{add-zero}
 use lib.Dec.{eqb}
 use borrow.Author.Tests.{eqb-true, eq-eqb}
 use lib.ListN.{length}
-use Rattle.bytes.specs.Bytes.{Text}
-use Rattle.bytes.proofs.Basics.{and-true}
+use Rattle.scan.specs.Bytes.{Text}
+use Rattle.scan.proofs.Basics.{and-true}
 use Rattle.text.specs.Lines.{Outcome, got, then}
 use Rattle.text.specs.Repeat.{manyAt, everyAt}
 use Rattle.text.specs.Printed.{texts}

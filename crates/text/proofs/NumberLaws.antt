@@ -13,8 +13,8 @@ use lib.ListN.{length, drop, getD, drop-of-length-le}
 use lib.Seq.{drop-cons}
 use Rattle.text.specs.declared.Decimal.the-variants.{Found, Missing}
 use Rattle.text.specs.declared.Signed.the-variants.{Weight, Unsaid}
-use Rattle.bytes.specs.Bytes.{Text, minus}
-use Rattle.bytes.proofs.Basics.{by-test}
+use Rattle.scan.specs.Bytes.{Text, minus}
+use Rattle.scan.proofs.Basics.{by-test}
 use Rattle.text.specs.Number.{Read, missing, found, isDigit, digits, numberOf, number, plainly, negated, signed}
 use Rattle.text.specs.Lists.{ended, item}
 use Rattle.text.specs.Answers.{capped, above, below, cappedSigned}

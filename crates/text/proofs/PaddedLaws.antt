@@ -11,7 +11,7 @@ use lib.ListN.{length, take, drop, getD, set, replicate, length-replicate}
 use lib.Seq.{sets, sets-eq, length-sets, take-append-seam, drop-append-seam}
 use Rattle.text.specs.Lines.{every}
 use Rattle.text.specs.Answers.{padded}
-use Rattle.bytes.proofs.Basics.{and-true}
+use Rattle.scan.proofs.Basics.{and-true}
 
 module _ {A : Type 0} where
   -- stores behind the first element leave it

@@ -9,8 +9,8 @@ use native.Mathlib.Omega.{arith}
 use lib.Dec.{eqb}
 use lib.IntN.{ℤ}
 use lib.ListN.{length}
-use Rattle.bytes.specs.Bytes.{Text, lf, colon}
-use Rattle.bytes.proofs.Basics.{by-test}
+use Rattle.scan.specs.Bytes.{Text, lf, colon}
+use Rattle.scan.proofs.Basics.{by-test}
 use Rattle.text.specs.Number.{Read, missing, found, number, signed}
 use Rattle.text.specs.Lists.{item, listEnd, anyList}
 use Rattle.text.specs.Lines.{Outcome, got, bad, fault, then, need, judged, every, within, behind, readNumber, readList, readWeights}

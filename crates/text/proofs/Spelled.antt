@@ -10,8 +10,8 @@ use lib.IntN.{ℤ, pos, negsuc}
 use borrow.Author.Tests.{le-leb, eqb-true, eqb-false, eq-eqb, ne-eqb}
 use lib.ListN.{length, drop, getD, length-append}
 use lib.Seq.{append-snoc}
-use Rattle.bytes.specs.Bytes.{Text, minus}
-use Rattle.bytes.proofs.Basics.{by-test}
+use Rattle.scan.specs.Bytes.{Text, minus}
+use Rattle.scan.proofs.Basics.{by-test}
 use Rattle.text.specs.Number.{Read, missing, found, isDigit, digits, numberOf, number, plainly, negated, signed}
 use Rattle.text.specs.Printed.{decimal, signedText}
 use Rattle.text.proofs.Basics.{missing≢found, found-is}

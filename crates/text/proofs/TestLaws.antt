@@ -10,7 +10,7 @@ use borrow.Author.Tests.{leb-true, le-leb, eqb-true, eq-eqb}
 use lib.ListN.{length, getD}
 use Rattle.text.specs.Lines.{every, within}
 use Rattle.text.specs.Repeat.{everyAt}
-use Rattle.bytes.proofs.Basics.{and-true}
+use Rattle.scan.proofs.Basics.{and-true}
 
 -- two tests that hold, hold at once
 pub and-both : (a b : Bool) → a ≡ true → b ≡ true → (a && b) ≡ true

@@ -5,8 +5,8 @@ use mathlib.Core.List.{[], _∷_, _++_, append-assoc}
 use mathlib.Core.Bool.{Bool, true, false}
 use lib.Dec.{eqb, lit<}
 use lib.ListN.{length}
-use Rattle.bytes.specs.Bytes.{Text, colon}
-use Rattle.bytes.proofs.Basics.{and-true}
+use Rattle.scan.specs.Bytes.{Text, colon}
+use Rattle.scan.proofs.Basics.{and-true}
 use Rattle.text.specs.Number.{Read, missing, found, number}
 use Rattle.text.specs.Lists.{item, listEnd, anyList}
 use Rattle.text.specs.Lines.{got, bad, fault, then, judged, every, within, behind}

@@ -6,7 +6,7 @@ use mathlib.Core.Bool.{Bool, true, false}
 use native.Mathlib.Omega.{arith}
 use lib.Dec.{lit<}
 use lib.ListN.{length, drop}
-use Rattle.bytes.specs.Bytes.{Text, colon, starts}
+use Rattle.scan.specs.Bytes.{Text, colon, starts}
 use Rattle.text.specs.Number.{missing, number}
 use Rattle.text.specs.Lists.{item, anyList}
 use Rattle.text.specs.Lines.{Outcome, got, bad, fault, then, need, within}

@@ -8,7 +8,7 @@ use native.Mathlib.Nat.{zero-add}
 use lib.IntN.{ℤ, pos, negsuc}
 use lib.ListN.{length, getD, length-append}
 use lib.Seq.{drop-append-seam, append-snoc}
-use Rattle.bytes.specs.Bytes.{Text, lf, colon}
+use Rattle.scan.specs.Bytes.{Text, lf, colon}
 use Rattle.text.specs.Number.{Read, isDigit, number, signed}
 use Rattle.text.specs.Lists.{stopOf}
 use Rattle.text.specs.Lines.{Outcome, got}

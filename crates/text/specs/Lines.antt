@@ -5,7 +5,7 @@ use mathlib.Core.Bool.{Bool, true, false, _&&_}
 use lib.Dec.{leb, eqb}
 use lib.IntN.{ℤ, natAbs}
 use lib.ListN.{length, drop}
-use Rattle.bytes.specs.Bytes.{Text, lf, starts}
+use Rattle.scan.specs.Bytes.{Text, lf, starts}
 use Rattle.text.specs.Number.{Read, missing, found, number, signed}
 use Rattle.text.specs.Lists.{item, listEnd}
 use Rattle.text.specs.declared.Fault.{Fault}

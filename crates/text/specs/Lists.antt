@@ -4,7 +4,7 @@ use mathlib.Core.List.{List, [], _∷_}
 use mathlib.Core.Bool.{Bool, true, false, _&&_, _||_}
 use lib.Dec.{eqb}
 use lib.ListN.{length, getD}
-use Rattle.bytes.specs.Bytes.{Text, lf, comma}
+use Rattle.scan.specs.Bytes.{Text, lf, comma}
 use Rattle.text.specs.Number.{Read, missing, found, number}
 
 -- what ends a value with n more to come: LF after the last, else a comma

@@ -5,7 +5,7 @@ use mathlib.Core.Bool.{Bool, true, false, _&&_}
 use lib.Dec.{leb, eqb}
 use lib.IntN.{ℤ, pos, negsuc}
 use lib.ListN.{drop, getD}
-use Rattle.bytes.specs.Bytes.{Text, minus}
+use Rattle.scan.specs.Bytes.{Text, minus}
 
 -- what a reading within a line finds: nothing, or a value and the position after it
 pub data Read (A : Type 0) : Type 0 where

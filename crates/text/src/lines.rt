@@ -15,7 +15,7 @@ use super::lists::no_row;
 use super::lists::no_weights;
 use super::lists::weights_end;
 use super::numbers::item;
-use bytes::starts;
+use scan::starts;
 
 fn in_range(v: u32, lo: u16, hi: u16) -> bool
     ensures { λ r. ⌜ r ≡ within lo hi v ⌝ }

@@ -15,7 +15,7 @@ use super::TokenRow;
 use super::lists::any_list;
 use super::lists::list_end;
 use super::numbers::item;
-use bytes::starts;
+use scan::starts;
 
 // No net-token, and the fault.
 fn no_token(why: u8, at: usize) -> TokenRow

@@ -7,7 +7,7 @@ use mathlib.Core.Path.{refl, sym, _∙_}
 use native.Mathlib.Omega.{arith}
 use borrow.Author.Tests.{not-true, not-false, leb-true}
 use lib.Dec.{leb}
-use Rattle.bytes.proofs.Basics.{and-true}
+use Rattle.scan.proofs.Basics.{and-true}
 use Rattle.model.specs.Test.{heldAct}
 use Rattle.model.proofs.TestLoops.{and-no, and-yes, less-one, act-other}
 

@@ -5,7 +5,7 @@ use Rattle.plant.proofs.acts.idle_at.Tie as tie
 use mathlib.Core.Path.{_≡_, sym, _∙_}
 use native.Mathlib.Omega.{arith}
 use denote.Ref.{now}
-use Rattle.bytes.specs.Bytes.{bytes}
+use Rattle.scan.specs.Bytes.{bytes}
 use Rattle.text.specs.Lines.{within, readNumber}
 use Rattle.text.specs.Answers.{lineOf}
 use Rattle.text.specs.declared.Line.the-variants.{Value}

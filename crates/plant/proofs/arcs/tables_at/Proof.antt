@@ -9,7 +9,7 @@ use mathlib.Core.List.{List}
 use native.Mathlib.Omega.{arith}
 use native.Mathlib.Nat.{sub-zero}
 use lib.ListN.{length, replicate}
-use Rattle.bytes.specs.Bytes.{Text}
+use Rattle.scan.specs.Bytes.{Text}
 use Rattle.text.specs.Lines.{Outcome, many}
 use Rattle.text.specs.Repeat.{filled}
 use Rattle.text.proofs.Loops.{loop-done}

@@ -4,7 +4,7 @@ use Rattle.plant.proofs.objects.net_at.Statement.{statement}
 use Rattle.plant.proofs.objects.net_at.Tie as tie
 use mathlib.Core.Path.{_≡_, ap, sym, _∙_}
 use denote.Ref.{now}
-use Rattle.bytes.specs.Bytes.{bytes}
+use Rattle.scan.specs.Bytes.{bytes}
 use Rattle.text.specs.Lines.{within, readNumber}
 use Rattle.text.specs.Answers.{lineOf}
 use Rattle.text.specs.declared.Line.the-variants.{Value}

@@ -6,7 +6,7 @@ use mathlib.Core.Path.{_≡_, ap, sym, _∙_}
 use mathlib.Core.List.{List}
 use Prim.Native.Nat.{ℕ}
 use denote.Ref.{now}
-use Rattle.bytes.specs.Bytes.{bytes}
+use Rattle.scan.specs.Bytes.{bytes}
 use Rattle.text.specs.Lines.{within, readNumber, readHead}
 use Rattle.text.specs.Answers.{lineOf}
 use Rattle.text.specs.declared.Line.the-variants.{Value}

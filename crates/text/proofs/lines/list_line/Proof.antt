@@ -8,7 +8,7 @@ use Rattle.text.specs.Number.{number}
 use Rattle.text.specs.Lists.{listEnd}
 use Rattle.text.specs.Lines.{judged, every, readList}
 use Rattle.text.specs.Answers.{rowOf}
-use Rattle.bytes.proofs.ByteLaws.{key-past}
+use Rattle.scan.proofs.ByteLaws.{key-past}
 use Rattle.text.proofs.LineLaws.{behind-key, behind-other, judged-missing}
 use Rattle.text.proofs.ListLaws.{upTo}
 

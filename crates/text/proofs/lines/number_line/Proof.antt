@@ -9,8 +9,8 @@ use native.Mathlib.Omega.{arith}
 use borrow.Author.Tests.{not-true, not-false}
 use lib.ListN.{length, drop}
 use denote.Ref.{now}
-use Rattle.bytes.specs.Bytes.{lf, starts}
-use Rattle.bytes.proofs.ByteLaws.{key-past}
+use Rattle.scan.specs.Bytes.{lf, starts}
+use Rattle.scan.proofs.ByteLaws.{key-past}
 use Rattle.text.specs.Number.{number}
 use Rattle.text.specs.Lists.{item}
 use Rattle.text.specs.Lines.{within}

@@ -8,7 +8,7 @@ use Rattle.text.specs.Number.{signed}
 use Rattle.text.specs.Lists.{listEnd}
 use Rattle.text.specs.Lines.{judged, every, readWeights, modest}
 use Rattle.text.specs.Answers.{weightRowOf}
-use Rattle.bytes.proofs.ByteLaws.{key-past}
+use Rattle.scan.proofs.ByteLaws.{key-past}
 use Rattle.text.proofs.LineLaws.{behind-key, behind-other, judged-missing}
 
 starts-requires : tie.Need-starts-requires

@@ -1,13 +1,13 @@
 -- `starts` meets its contract. The invariant: the key stands there exactly if what is left of it, from i on, stands at i.
-use Rattle.bytes.proofs.starts.Statement.{statement}
-use Rattle.bytes.proofs.starts.Tie as tie
+use Rattle.scan.proofs.starts.Statement.{statement}
+use Rattle.scan.proofs.starts.Tie as tie
 use borrow.Author.Needs.{needs}
 use Prim.Native.Nat.{_≤_, _-_}
 use mathlib.Core.Path.{_≡_, sym, _∙_}
 use native.Mathlib.Omega.{arith}
 use lib.ListN.{length, drop}
-use Rattle.bytes.specs.Bytes.{starts}
-use Rattle.bytes.proofs.ByteLaws.{starts-nothing, key-end, key-short, key-other, key-more}
+use Rattle.scan.specs.Bytes.{starts}
+use Rattle.scan.proofs.ByteLaws.{starts-nothing, key-end, key-short, key-other, key-more}
 
 abbrev Inv-loop : tie.InvT-loop
 Inv-loop s at key i₀ i = (i ≤ length key) × (at ≤ length s) × (starts key (drop at s) ≡ starts (drop i key) (drop i (drop at s)))

@@ -9,8 +9,8 @@ use lib.Dec.{eqb}
 use borrow.Author.Tests.{eq-eqb, ne-eqb}
 use lib.ListN.{length, take, drop, getD, drop-of-length-le, length-drop}
 use lib.Seq.{drop-cons, getD-drop, take-suc, take-all}
-use Rattle.bytes.specs.Bytes.{Text, lf, starts, newlines}
-use Rattle.bytes.proofs.Basics.{by-test}
+use Rattle.scan.specs.Bytes.{Text, lf, starts, newlines}
+use Rattle.scan.proofs.Basics.{by-test}
 
 -- ---- a key
 

@@ -1,7 +1,7 @@
 // The bytes of a text: what stands at a position, and the lines before it.
 ghost use mathlib.Core.Path.{_≡_};
 ghost use lib.ListN.{drop, take};
-ghost use Rattle.bytes.specs.Bytes.{starts, newlines};
+ghost use Rattle.scan.specs.Bytes.{starts, newlines};
 
 // Whether key stands at `at`.
 pub fn starts(s: &[u8], at: usize, key: &[u8]) -> bool

@@ -1,14 +1,14 @@
 -- `lines_before` meets its contract. The invariant: n lines end in the first i bytes, and n is at most i.
-use Rattle.bytes.proofs.lines_before.Statement.{statement}
-use Rattle.bytes.proofs.lines_before.Tie as tie
+use Rattle.scan.proofs.lines_before.Statement.{statement}
+use Rattle.scan.proofs.lines_before.Tie as tie
 use borrow.Author.Needs.{needs}
 use Prim.Native.Nat.{ℕ, _≤_, _-_, _+_}
 use mathlib.Core.Path.{_≡_, sym, ap, _∙_}
 use mathlib.Core.Logic.{⊎-elim}
 use native.Mathlib.Omega.{arith}
 use lib.ListN.{length, take}
-use Rattle.bytes.specs.Bytes.{newlines}
-use Rattle.bytes.proofs.ByteLaws.{lines-none, lines-more, lines-same, lines-all}
+use Rattle.scan.specs.Bytes.{newlines}
+use Rattle.scan.proofs.ByteLaws.{lines-none, lines-more, lines-same, lines-all}
 
 abbrev Inv-loop : tie.InvT-loop
 Inv-loop s at n₀ i₀ n i = (i ≤ length s) × (i ≤ at) × (n ≤ i) × (n ≡ newlines (take i s))
