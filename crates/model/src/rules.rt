@@ -7,7 +7,7 @@ ghost use lib.Dec.{eqb};
 ghost use Rattle.text.specs.Lines.{every};
 
 // Whether side has an arc at one of the first n places of type d.
-pub fn touches(n: usize, types: [u8; 32], d: u8, side: [u8; 32]) -> bool
+fn touches(n: usize, types: [u8; 32], d: u8, side: [u8; 32]) -> bool
     requires { ⌜ n ≤ 32 ⌝ }
     ensures { λ r. ⌜ r ≡ touches n (nth types) d (nth side) ⌝ }
 {

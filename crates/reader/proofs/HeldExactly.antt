@@ -36,7 +36,8 @@ use Rattle.marking.specs.Printed.{markingText}
 use Rattle.marking.specs.declared.Marking.{Marking}
 use Rattle.marking.proofs.HoldLaws as hold
 use Rattle.marking.proofs.WriteLaws.{marking-length}
-use Rattle.reader.specs.Reading.{bounds, Loaded, readLines, readModel, readMarking, modelText, rightLoaded}
+use Rattle.reader.specs.Reading.{bounds, Loaded, readLines, readModel, readMarking, rightLoaded}
+use Rattle.reader.specs.Printed.{modelText}
 use Rattle.reader.specs.Sizes.{sizesFor}
 use Rattle.reader.specs.Answers.{longest, loaded, modelReading, restored, forHeld, markingReading, heldBoth}
 use Rattle.reader.specs.declared.ReadAnswer.the-variants.{Accepted, TooLong, Faulty}

@@ -4,3 +4,4 @@ pub mod ReadingLaws
 pub mod WritingLaws
 pub mod HeldExactly
 pub mod RefusedLeaves
+pub mod Cases

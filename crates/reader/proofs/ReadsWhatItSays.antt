@@ -22,7 +22,8 @@ use Rattle.marking.specs.Held.{Sizes, sizesOf}
 use Rattle.marking.specs.Reading.{readBlock, rightBlock}
 use Rattle.marking.specs.Printed.{markingText}
 use Rattle.marking.proofs.BlockExactly.{block-exactly}
-use Rattle.reader.specs.Reading.{bounds, Loaded, readEnd, readLines, readModel, readMarking, modelText, rightLoaded}
+use Rattle.reader.specs.Reading.{bounds, Loaded, readEnd, readLines, readModel, readMarking, rightLoaded}
+use Rattle.reader.specs.Printed.{modelText}
 
 -- ---- a text, whole
 

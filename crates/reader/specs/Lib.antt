@@ -1,4 +1,5 @@
 pub mod Reading
+pub mod Printed
 pub mod Sizes
 pub mod Answers
 pub mod Parts

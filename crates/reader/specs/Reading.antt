@@ -1,7 +1,6 @@
 -- What a model file says, whole: the model and its start. And the text of a marking, which is read for a held model by the same rules.
 use Prim.Native.Nat.{ℕ}
 use mathlib.Core.Bool.{Bool, _&&_}
-use mathlib.Core.List.{_++_}
 use lib.Dec.{leb}
 use lib.ListN.{length}
 use Rattle.scan.specs.Bytes.{Text, bytes}
@@ -9,10 +8,8 @@ use Rattle.text.specs.Lines.{Outcome, got, then, need}
 use Rattle.eos.specs.Model as eos
 use Rattle.model.specs.Rules.{rightModel}
 use Rattle.plant.specs.Reading.{readPlant}
-use Rattle.plant.specs.Printed.{plantText}
 use Rattle.marking.specs.Held.{Sizes, sizesOf}
 use Rattle.marking.specs.Reading.{Limits, limits, readBlock, rightBlock}
-use Rattle.marking.specs.Printed.{markingText}
 
 -- 01's limits on the number of net-tokens and on a count
 abbrev pub bounds : Limits
@@ -41,11 +38,6 @@ readTokens z s at = then (readBlock (bytes "start=") bounds z s at) (readEnd s)
 -- the text of a marking, whole
 unfoldable pub readMarking : Sizes → Text → Outcome eos.Marking
 readMarking z s = readTokens z s 0
-
--- ---- the printer
-
-unfoldable pub modelText : Loaded → Text
-modelText l = plantText (l .model) ++ markingText (l .start)
 
 -- a model within 01's rules, and net-tokens of it
 unfoldable pub rightLoaded : Loaded → Bool
