@@ -8,6 +8,8 @@ ghost use Rattle.marking.specs.Reading.{limits, readNetToken, readBlock}
 ghost use Rattle.marking.specs.Answers.{blockOf};
 use super::Block;
 use super::Marking;
+use super::NetToken;
+use model::Model;
 use rows::insert;
 use text::Ended;
 use text::Line;
@@ -16,14 +18,14 @@ use text::lines::number_line;
 use text::tokens::token_line;
 
 // A net-token's row: the number of its place, and its counts.
-pub fn row_of(place: u16, counts: [u16; 32]) -> [u16; 33]
-    ensures { λ r. ⌜ r ≡ place ∷ counts ⌝ }
+pub fn row_of(t: NetToken) -> [u16; 33]
+    ensures { λ r. ⌜ r ≡ t .place ∷ t .counts ⌝ }
 {
     let mut row = [0u16; 33];
-    row[0] = place;
+    row[0] = t.place;
     let mut i = 0;
     while i < 32 {
-        row[i + 1] = counts[i];
+        row[i + 1] = t.counts[i];
         i += 1;
     }
     row
@@ -38,14 +40,18 @@ fn tokens_at(s: &[u8], from: usize, places: u16, sizes: [u8; 32], n: usize) -> B
     let mut at = from;
     let mut i = 0;
     while i < n {
-        let t = token_line(s, at, b"token=", places, &sizes, 65535);
+        let t = token_line(s, at, b"token=", places, &sizes, Model::COUNT);
         let e = t.ended;
         let Ended::Past { next } = e else {
             let marking = Marking::empty();
             return Block { ended: e, marking };
         };
         let counts = t.counts;
-        insert(&mut rows, i, row_of(t.place, counts));
+        let token = NetToken {
+            place: t.place,
+            counts,
+        };
+        insert(&mut rows, i, row_of(token));
         at = next;
         i += 1;
     }
@@ -60,7 +66,7 @@ pub fn block_at(s: &[u8], at: usize, key: &[u8], places: u16, sizes: [u8; 32]) -
     requires { ⌜ Roomy (sizesAt places sizes) ⌝ }
     ensures { λ r. ⌜ r ≡ blockOf (readBlock (now (key .entry)) (limits 256 65535) (sizesAt places sizes) (now (s .entry)) at) ⌝ }
 {
-    let line = number_line(s, at, key, 0, 256);
+    let line = number_line(s, at, key, 0, Model::TOKENS);
     let Line::Value { value, next } = line else {
         let marking = Marking::empty();
         return Block {

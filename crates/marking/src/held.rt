@@ -6,6 +6,7 @@ ghost use Rattle.text.specs.Lines.{every};
 ghost use Rattle.rows.specs.Rows.{rowsIn};
 ghost use Rattle.marking.specs.Held.{sizesAt, rightRow, heldMarking};
 use super::Marking;
+use model::Model;
 use rows::empty_from;
 use rows::in_order;
 
@@ -56,7 +57,7 @@ pub fn test(k: Marking, places: u16, sizes: [u8; 32]) -> bool
     ensures { λ r. ⌜ r ≡ heldMarking (sizesAt places sizes) k ⌝ }
 {
     let n = k.len;
-    if 256 < n {
+    if (Model::TOKENS as usize) < n {
         return false;
     }
     let rows = k.rows;

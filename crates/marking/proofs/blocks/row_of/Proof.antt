@@ -9,10 +9,10 @@ use Rattle.marking.proofs.blocks.row_of.Statement.{statement}
 use Rattle.marking.proofs.blocks.row_of.Tie as tie
 
 abbrev Inv-loop : tie.InvT-loop
-Inv-loop place counts row₀ i₀ row i = (i ≤ 32) × (length row ≡ 33) × (length counts ≡ 32) × (row ≡ begun place counts i)
+Inv-loop t row₀ i₀ row i = (i ≤ 32) × (length row ≡ 33) × (length (t .counts) ≡ 32) × (row ≡ begun (t .place) (t .counts) i)
 
 abbrev μ-loop : tie.MeasureT-loop
-μ-loop place counts row₀ i₀ row i = 32 - i
+μ-loop t row₀ i₀ row i = 32 - i
 
 array-write-row : tie.Need-array-write-row Inv-loop μ-loop
 array-write-row c = search needs
@@ -23,8 +23,8 @@ loop-holds c = (omega arith, search needs, search needs, refl)
 mul-row : tie.Need-mul-row Inv-loop μ-loop
 mul-row c = search needs
 
-array-read-row : tie.Need-array-read-row Inv-loop μ-loop
-array-read-row c = search needs
+element-copy-out-row : tie.Need-element-copy-out-row Inv-loop μ-loop
+element-copy-out-row c = search needs
 
 add-row : tie.Need-add-row Inv-loop μ-loop
 add-row c = search needs
@@ -43,14 +43,16 @@ loop-less c = search needs
 
 loop-again : tie.Need-loop-again Inv-loop μ-loop
 loop-again c =
-    let l = c .before .loop in
-    let k : l .i + 1 ≤ length (c .before .before .args .t2) = omega arith in
-    (omega arith, length-set (l .row) _ _ ∙ l .inv .1, l .inv .2, row-more (c .before .before .args .place) (c .before .before .args .t2) (l .row) (l .i) (l .inv .3) k)
+    let l = c .before .before .loop in
+    let t = c .before .before .before .args .t1 in
+    let k : l .i + 1 ≤ length (t .counts) = omega arith in
+    (omega arith, length-set (l .row) _ _ ∙ l .inv .1, l .inv .2, row-more (t .place) (t .counts) (l .row) (l .i) (l .inv .3) k)
 
 returns : tie.Need-returns Inv-loop μ-loop
 returns c =
     let l = c .before .loop in
-    row-done (c .before .before .args .place) (c .before .before .args .t2) (l .row) (l .i) (l .inv .3) (l .inv .2) (c .loop-test .left)
+    let t = c .before .before .args .t1 in
+    row-done (t .place) (t .counts) (l .row) (l .i) (l .inv .3) (l .inv .2) (c .loop-test .left)
 
 pub row-of-spec : {M : Type 1} → statement M
 row-of-spec =
@@ -61,7 +63,7 @@ row-of-spec =
     array-write-row
     loop-holds
     mul-row
-    array-read-row
+    element-copy-out-row
     add-row
     mul-row-2
     array-write-row-2

@@ -8,6 +8,9 @@ use borrow.Author.Tests.{not-true, not-false}
 use lib.ListN.{length}
 use Rattle.marking.proofs.TestLaws.{held-many, held-disordered, held-beyond, held-rest}
 
+cast-if1 : tie.Need-cast-if1
+cast-if1 c = search needs
+
 returns : tie.Need-returns
 returns c = held-many _ _ (c .if1 .taken)
 
@@ -53,6 +56,7 @@ pub test-spec : {M : Type 1} → statement M
 test-spec =
     tie.close
     (tie.spec
+    cast-if1
     returns
     slice-aggregate-in-order
     in-order-requires
