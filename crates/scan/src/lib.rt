@@ -1,7 +1,17 @@
 // The bytes of a text: what stands at a position, and the lines before it.
 ghost use mathlib.Core.Path.{_≡_};
-ghost use lib.ListN.{drop, take};
+ghost use lib.ListN.{drop, take, getD};
 ghost use Rattle.scan.specs.Bytes.{starts, newlines};
+
+// The byte at `at`, 0 past the end.
+pub fn byte_at(s: &[u8], at: usize) -> u8
+    ensures { λ r. ⌜ r ≡ getD (now (s .entry)) at 0 ⌝ }
+{
+    if at < s.len() {
+        return s[at];
+    }
+    0
+}
 
 // Whether key stands at `at`.
 pub fn starts(s: &[u8], at: usize, key: &[u8]) -> bool

@@ -10,7 +10,7 @@ use borrow.Author.Tests.{eqb-true, eq-eqb}
 use lib.ListN.{length, drop, getD, length-append, length-drop}
 use Rattle.scan.specs.Bytes.{Text, lf, comma}
 use Rattle.scan.proofs.Basics.{by-test, and-true}
-use Rattle.text.specs.Number.{Read, missing, found, number}
+use Rattle.numbers.specs.Number.{Read, missing, found, number}
 use Rattle.text.specs.Lists.{stopOf, anyItems, anyList}
 use Rattle.text.specs.Printed.{decimal, itemsText, endText}
 use Rattle.text.proofs.Standing.{Stands, Reaches, stands-left, stands-right, ends-join, reach-join, byte-stands, first-byte}

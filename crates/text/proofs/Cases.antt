@@ -5,8 +5,8 @@ use mathlib.Core.List.{List, [], _∷_, _++_}
 use lib.IntN.{ℤ, pos, negsuc}
 use lib.ListN.{length, take}
 use Rattle.scan.specs.Bytes.{Text, bytes, starts, newlines}
-use Rattle.text.specs.Number.{digits, numberOf, number, plainly, negated, signed}
-use Rattle.text.specs.Lists.{stopOf, ended, before, item, items, listEnd, anyItems, anyList}
+use Rattle.numbers.specs.Number.{digits, numberOf, number, plainly, negated, signed, ended, item}
+use Rattle.text.specs.Lists.{stopOf, before, items, listEnd, anyItems, anyList}
 use Rattle.text.specs.Lines.{Outcome, got, bad, fault, then, need, many, judged, within, modest, behind}
 use Rattle.text.specs.Lines.{readNumber, readList, readWeights, readHead}
 use Rattle.text.specs.Token.{Token, countsAt, tokenAt, readToken}

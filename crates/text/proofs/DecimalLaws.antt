@@ -11,7 +11,7 @@ use borrow.Author.Tests.{lt-ltb, le-ltb, ltb-true, ltb-false, le-leb}
 use lib.ListN.{length, getD, length-append}
 use Rattle.scan.specs.Bytes.{Text}
 use Rattle.scan.proofs.Basics.{by-test}
-use Rattle.text.specs.Number.{isDigit}
+use Rattle.numbers.specs.Number.{isDigit}
 use Rattle.text.specs.Lines.{every}
 use Rattle.text.specs.Printed.{decimal, decimalOf}
 

@@ -10,7 +10,7 @@ use borrow.Author.Tests.{eqb-true, eq-eqb}
 use lib.ListN.{length}
 use Rattle.scan.specs.Bytes.{Text}
 use Rattle.scan.proofs.Basics.{and-true}
-use Rattle.text.specs.Number.{Read, missing, found}
+use Rattle.numbers.specs.Number.{Read, missing, found}
 use Rattle.text.specs.Lines.{Outcome, got, bad, then, need, many, judged, every}
 use Rattle.text.specs.Printed.{texts}
 use Rattle.text.specs.declared.Fault.{Fault}

@@ -1,8 +1,5 @@
-pub mod Basics
 pub mod DecimalLaws
 pub mod Standing
-pub mod NumberSteps
-pub mod NumberLaws
 pub mod ListLaws
 pub mod LineLaws
 pub mod TokenLaws

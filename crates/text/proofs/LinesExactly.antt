@@ -12,11 +12,11 @@ use lib.ListN.{length, drop, getD}
 use lib.Seq.{append-snoc}
 use Rattle.scan.specs.Bytes.{Text, lf, starts}
 use Rattle.scan.proofs.Basics.{by-test}
-use Rattle.text.specs.Number.{Read, missing, found, isDigit, number, signed}
-use Rattle.text.specs.Lists.{stopOf, ended, before, item, items, listEnd}
+use Rattle.numbers.specs.Number.{Read, missing, found, isDigit, number, signed, ended, item}
+use Rattle.text.specs.Lists.{stopOf, before, items, listEnd}
 use Rattle.text.specs.Lines.{judged, every, behind, readNumber, readList, readWeights, readHead}
 use Rattle.text.specs.Printed.{decimal, signedText, itemsText, endText, numberText, listText, weightsText}
-use Rattle.text.proofs.Basics.{missing≢found, found-is}
+use Rattle.numbers.proofs.Basics.{missing≢found, found-is}
 use Rattle.text.proofs.Standing.{Stands, Reaches, stands-left, stands-right, ends-join, reach-join}
 use Rattle.text.proofs.Standing.{nothing-reaches, byte-stands, first-byte, front-stands}
 use Rattle.text.proofs.Spelled.{Spelled, number-spelled, signed-spelled}

@@ -13,14 +13,15 @@ use lib.ListN.{replicate, length, set, getD}
 use lib.Seq.{sets}
 use Rattle.scan.specs.Bytes.{Text, lf, comma}
 use Rattle.scan.proofs.Basics.{by-test, and-true}
-use Rattle.text.specs.Number.{Read, missing, found, number, signed}
-use Rattle.text.specs.Lists.{stopOf, ended, before, item, items, listEnd, anyItems, anyList}
+use Rattle.numbers.specs.Number.{Read, missing, found, number, signed, ended, item}
+use Rattle.text.specs.Lists.{stopOf, before, items, listEnd, anyItems, anyList}
 use Rattle.text.specs.Lines.{Outcome, got, bad, fault, need, judged, every, modest}
-use Rattle.text.specs.Answers.{above, below, endedOf, keptOr, padded, rowOf, weightRowOf}
+use Rattle.numbers.specs.Answers.{above, below}
+use Rattle.text.specs.Answers.{endedOf, keptOr, padded, rowOf, weightRowOf}
 use Rattle.text.specs.declared.Fault.{Fault}
 use Rattle.text.specs.declared.Ended.the-variants.{Past}
-use Rattle.text.proofs.Basics.{by-read, past-other}
-use Rattle.text.proofs.NumberLaws.{Exact, Capped, CappedSigned, number-end, number-forward, ended-here, ended-other, ended-past}
+use Rattle.numbers.proofs.Basics.{by-read, past-other}
+use Rattle.numbers.proofs.NumberLaws.{Exact, Capped, CappedSigned, number-end, number-forward, ended-here, ended-other, ended-past}
 use Rattle.text.proofs.LineLaws.{capped-most}
 
 -- ---- what ends a value
@@ -33,11 +34,6 @@ stop-comma (suc n) h = refl
 pub stop-last : (n : ℕ) → n ≡ 0 → lf ≡ stopOf n
 unfolding stopOf
 stop-last n h = rw h
-
-pub stop-positive : (n : ℕ) → 0 < stopOf n
-unfolding stopOf
-stop-positive zero = lit< tt
-stop-positive (suc n) = lit< tt
 
 -- ---- a loop over a list of any kind of value, which are put one after the other
 

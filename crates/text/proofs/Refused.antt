@@ -11,12 +11,12 @@ use lib.IntN.{ℤ}
 use lib.ListN.{length}
 use Rattle.scan.specs.Bytes.{Text, lf, colon}
 use Rattle.scan.proofs.Basics.{by-test}
-use Rattle.text.specs.Number.{Read, missing, found, number, signed}
-use Rattle.text.specs.Lists.{item, listEnd, anyList}
+use Rattle.numbers.specs.Number.{Read, missing, found, number, signed, item}
+use Rattle.text.specs.Lists.{listEnd, anyList}
 use Rattle.text.specs.Lines.{Outcome, got, bad, fault, then, need, judged, every, within, behind, readNumber, readList, readWeights}
 use Rattle.text.specs.Token.{Token, countsAt, tokenAt, readToken}
 use Rattle.text.specs.Printed.{decimal, signedText, endText, numberText, listText, weightsText, tokenText}
-use Rattle.text.proofs.Basics.{missing≢found}
+use Rattle.numbers.proofs.Basics.{missing≢found}
 use Rattle.text.proofs.Standing.{Stands, stands-left, stands-right, reach-join}
 use Rattle.text.proofs.Spelled.{Spelled, number-spelled, signed-spelled}
 use Rattle.text.proofs.Exactly.{Finds}

@@ -7,8 +7,8 @@ use lib.Dec.{eqb, lit<}
 use lib.ListN.{length}
 use Rattle.scan.specs.Bytes.{Text, colon}
 use Rattle.scan.proofs.Basics.{and-true}
-use Rattle.text.specs.Number.{Read, missing, found, number}
-use Rattle.text.specs.Lists.{item, listEnd, anyList}
+use Rattle.numbers.specs.Number.{Read, missing, found, number, item}
+use Rattle.text.specs.Lists.{listEnd, anyList}
 use Rattle.text.specs.Lines.{got, bad, fault, then, judged, every, within, behind}
 use Rattle.text.specs.Token.{Token, countsAt, tokenAt, readToken, rightToken}
 use Rattle.text.specs.Printed.{decimal, endText, tokenText}

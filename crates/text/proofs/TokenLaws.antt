@@ -7,15 +7,15 @@ use native.Mathlib.Omega.{arith}
 use lib.Dec.{lit<}
 use lib.ListN.{length, drop}
 use Rattle.scan.specs.Bytes.{Text, colon, starts}
-use Rattle.text.specs.Number.{missing, number}
-use Rattle.text.specs.Lists.{item, anyList}
+use Rattle.numbers.specs.Number.{missing, number, item}
+use Rattle.text.specs.Lists.{anyList}
 use Rattle.text.specs.Lines.{Outcome, got, bad, fault, then, need, within}
 use Rattle.text.specs.Token.{Token, countsAt, tokenAt, readToken}
 use Rattle.text.specs.Answers.{endedOf, keptOr, rowOf, tokenRowOf}
 use Rattle.text.specs.declared.Fault.{Fault}
 use Rattle.text.specs.declared.Ended.the-variants.{Past, Stopped}
 use Rattle.text.specs.declared.Row.{Row}
-use Rattle.text.proofs.NumberLaws.{Exact, Capped}
+use Rattle.numbers.proofs.NumberLaws.{Exact, Capped}
 use Rattle.text.proofs.LineLaws.{within-low, within-high, within-in, capped-within, behind-key, behind-other}
 
 -- ---- the counts, from the row that holds them

@@ -9,12 +9,12 @@ use lib.IntN.{ℤ, pos, negsuc}
 use lib.ListN.{length, getD, length-append}
 use lib.Seq.{drop-append-seam, append-snoc}
 use Rattle.scan.specs.Bytes.{Text, lf, colon}
-use Rattle.text.specs.Number.{Read, isDigit, number, signed}
+use Rattle.numbers.specs.Number.{Read, isDigit, number, signed}
 use Rattle.text.specs.Lists.{stopOf}
 use Rattle.text.specs.Lines.{Outcome, got}
 use Rattle.text.specs.Token.{Token}
 use Rattle.text.specs.Printed.{decimal, signedText, itemsText, endText, numberText, listText, weightsText, tokenText}
-use Rattle.text.proofs.Basics.{found-is}
+use Rattle.numbers.proofs.Basics.{found-is}
 use Rattle.text.proofs.DecimalLaws.{length-positive}
 use Rattle.text.proofs.Standing.{all-of, stands-all}
 use Rattle.text.proofs.Spelled.{Spelled, number-spelled, signed-spelled}

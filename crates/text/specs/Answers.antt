@@ -1,17 +1,13 @@
 -- What the code of this crate answers for what a definition gives. A row has room for 32 values: it keeps the first 32, and unused
 -- room is 0.
-use Prim.Native.Nat.{ℕ, suc, min}
+use Prim.Native.Nat.{ℕ}
 use mathlib.Core.List.{List, map}
-use lib.IntN.{ℤ, pos, negsuc}
+use lib.IntN.{ℤ}
 use lib.ListN.{replicate}
 use lib.Seq.{sets}
-use Rattle.text.specs.Number.{Read, missing, found}
+use Rattle.numbers.specs.Answers.{above, below}
 use Rattle.text.specs.Lines.{Outcome, got, bad}
 use Rattle.text.specs.Token.{Token}
-use Rattle.text.specs.declared.Decimal.{Decimal}
-use Rattle.text.specs.declared.Decimal.the-variants.{Found, Missing}
-use Rattle.text.specs.declared.Signed.{Signed}
-use Rattle.text.specs.declared.Signed.the-variants.{Weight, Unsaid}
 use Rattle.text.specs.declared.Ended.{Ended}
 use Rattle.text.specs.declared.Ended.the-variants.{Past, Stopped}
 use Rattle.text.specs.declared.Line.{Line}
@@ -19,24 +15,6 @@ use Rattle.text.specs.declared.Line.the-variants.{Value, Refused}
 use Rattle.text.specs.declared.Row.{Row}
 use Rattle.text.specs.declared.WeightRow.{WeightRow}
 use Rattle.text.specs.declared.TokenRow.{TokenRow}
-
--- a number from 65,536 on is answered as 65,536: it is out of every range
-abbrev pub capped : Read ℕ → Decimal
-capped missing = Missing
-capped (found v end) = Found (min v 65536) end
-
--- a weight is answered as its part above 0 and its part below 0, of which one is 0
-abbrev pub above : ℤ → ℕ
-above (pos n) = n
-above (negsuc n) = 0
-
-abbrev pub below : ℤ → ℕ
-below (pos n) = 0
-below (negsuc n) = suc n
-
-abbrev pub cappedSigned : Read ℤ → Signed
-cappedSigned missing = Unsaid
-cappedSigned (found w end) = Weight (min (above w) 65536) (min (below w) 65536) end
 
 unfoldable pub lineOf : Outcome ℕ → Line
 lineOf (got v next) = Value v next

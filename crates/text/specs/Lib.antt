@@ -1,4 +1,3 @@
-pub mod Number
 pub mod Lists
 pub mod Lines
 pub mod Repeat

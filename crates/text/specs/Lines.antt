@@ -6,8 +6,8 @@ use lib.Dec.{leb, eqb}
 use lib.IntN.{ℤ, natAbs}
 use lib.ListN.{length, drop}
 use Rattle.scan.specs.Bytes.{Text, lf, starts}
-use Rattle.text.specs.Number.{Read, missing, found, number, signed}
-use Rattle.text.specs.Lists.{item, listEnd}
+use Rattle.numbers.specs.Number.{Read, missing, found, number, signed, item}
+use Rattle.text.specs.Lists.{listEnd}
 use Rattle.text.specs.declared.Fault.{Fault}
 
 -- what a reading answers: a value and the position after it, or ONE fault, which is handed on and never taken apart

@@ -5,7 +5,7 @@ use mathlib.Core.Bool.{Bool, true, false, _&&_, _||_}
 use lib.Dec.{eqb}
 use lib.ListN.{length, getD}
 use Rattle.scan.specs.Bytes.{Text, lf, comma}
-use Rattle.text.specs.Number.{Read, missing, found, number}
+use Rattle.numbers.specs.Number.{Read, missing, found, number, ended, item}
 
 -- what ends a value with n more to come: LF after the last, else a comma
 unfoldable pub stopOf : ℕ → ℕ
@@ -13,11 +13,6 @@ stopOf zero = lf
 stopOf (suc n) = comma
 
 module _ {A : Type 0} where
-  -- what was found, if the byte `stop` stands right after it
-  unfoldable pub ended : ℕ → Text → Read A → Read A
-  ended stop s missing = missing
-  ended stop s (found a end) = elim (eqb (getD s end 0) stop) [ true ↦ found a (end + 1) | false ↦ missing ]
-
   -- a before the others
   unfoldable pub before : A → Read (List A) → Read (List A)
   before a missing = missing
@@ -25,14 +20,10 @@ module _ {A : Type 0} where
 
 -- over a reader of one value
 module _ {A : Type 0} (value : Text → ℕ → Read A) where
-  -- a value and the byte `stop` right after it
-  unfoldable pub item : ℕ → Text → ℕ → Read A
-  item stop s at = ended stop s (value s at)
-
   -- n values, joined by commas and ended by LF; for no value, nothing at all
   unfoldable pub items : ℕ → Text → ℕ → Read (List A)
   items zero s at = found [] at
-  items (suc n) s at = elim (item (stopOf n) s at) [ missing ↦ missing | found a next ↦ before a (items n s next) ]
+  items (suc n) s at = elim (item value (stopOf n) s at) [ missing ↦ missing | found a next ↦ before a (items n s next) ]
 
   -- a list of n values to the end of its line. 01: "a list of length 0 is nothing after the sign"
   unfoldable pub listEnd : ℕ → Text → ℕ → Read (List A)

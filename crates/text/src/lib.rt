@@ -2,7 +2,6 @@
 // from a position of a text, and its answer says the position after what it read or the one fault that ends the reading.
 pub mod lines;
 mod lists;
-mod numbers;
 pub mod tokens;
 
 // A fault: the number of its cause, and the position at which the line at fault begins.
@@ -41,16 +40,4 @@ pub struct TokenRow {
     pub ended: Ended,
     pub place: u16,
     pub counts: [u16; 32],
-}
-
-// A number in a line, 65,536 for each that is larger, and the position after it.
-pub enum Decimal {
-    Found { value: u32, end: usize },
-    Missing,
-}
-
-// A signed number in a line, as its parts above and below 0.
-pub enum Signed {
-    Weight { above: u32, below: u32, end: usize },
-    Unsaid,
 }

@@ -4,7 +4,6 @@ ghost use Prim.Native.Nat.{_+_};
 ghost use lib.Dec.{leb};
 ghost use Rattle.text.specs.Lines.{within, readNumber, readHead, readList, readWeights, modest};
 ghost use Rattle.text.specs.Answers.{lineOf, endedIn, rowOf, weightRowOf};
-use super::Decimal;
 use super::Ended;
 use super::Fault;
 use super::Line;
@@ -14,7 +13,8 @@ use super::lists::list_end;
 use super::lists::no_row;
 use super::lists::no_weights;
 use super::lists::weights_end;
-use super::numbers::item;
+use numbers::Decimal;
+use numbers::item;
 use scan::starts;
 
 fn in_range(v: u32, lo: u16, hi: u16) -> bool

@@ -4,19 +4,19 @@ ghost use mathlib.Core.Bool.{_&&_};
 ghost use Prim.Native.Nat.{_%_};
 ghost use lib.Dec.{leb};
 ghost use lib.ListN.{length, set};
-ghost use Rattle.text.specs.Number.{number, signed};
+ghost use Rattle.numbers.specs.Number.{number, signed};
 ghost use Rattle.text.specs.Lists.{stopOf, items, listEnd, anyList};
 ghost use Rattle.text.specs.Lines.{judged, every, modest, fault, bad};
 ghost use Rattle.text.specs.Answers.{rowOf, weightRowOf};
-use super::Decimal;
 use super::Ended;
 use super::Fault;
 use super::Row;
-use super::Signed;
 use super::WeightRow;
-use super::numbers::item;
-use super::numbers::number;
-use super::numbers::signed_item;
+use numbers::Decimal;
+use numbers::Signed;
+use numbers::item;
+use numbers::number;
+use numbers::signed_item;
 
 // What ends a number with `left` more to come: LF after the last, else a comma.
 pub fn stop_of(left: usize) -> u8

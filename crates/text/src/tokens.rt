@@ -8,13 +8,14 @@ ghost use Rattle.text.specs.Lists.{anyList};
 ghost use Rattle.text.specs.Lines.{fault, bad, need};
 ghost use Rattle.text.specs.Token.{countsAt, readToken};
 ghost use Rattle.text.specs.Answers.{tokenRowOf};
-use super::Decimal;
 use super::Ended;
 use super::Fault;
 use super::TokenRow;
 use super::lists::any_list;
 use super::lists::list_end;
-use super::numbers::item;
+use numbers::Decimal;
+use numbers::item;
+use scan::byte_at;
 use scan::starts;
 
 // No net-token, and the fault.
@@ -28,16 +29,6 @@ fn no_token(why: u8, at: usize) -> TokenRow
         place: 0,
         counts: [0u16; 32],
     }
-}
-
-// The element at i, or 0 past the end.
-fn element(sizes: &[u8], i: usize) -> usize
-    ensures { λ r. ⌜ r ≡ getD (now (sizes .entry)) i 0 ⌝ }
-{
-    if i < sizes.len() {
-        return sizes[i] as usize;
-    }
-    0
 }
 
 // A place out of range: only the syntax of its counts, from `x` on, is judged.
@@ -87,6 +78,6 @@ pub fn token_line(s: &[u8], at: usize, key: &[u8], places: u16, sizes: &[u8], hi
     if (places as u32) < value {
         return out_of_range(s, at, end);
     }
-    let n = element(sizes, (value - 1) as usize);
-    counted(s, at, end, n, value as u16, hi)
+    let n = byte_at(sizes, (value - 1) as usize);
+    counted(s, at, end, n as usize, value as u16, hi)
 }

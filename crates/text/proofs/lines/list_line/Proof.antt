@@ -4,7 +4,7 @@ use Rattle.text.proofs.lines.list_line.Statement.{statement}
 use Rattle.text.proofs.lines.list_line.Tie as tie
 use mathlib.Core.Path.{sym, ap, _∙_}
 use native.Mathlib.Omega.{arith}
-use Rattle.text.specs.Number.{number}
+use Rattle.numbers.specs.Number.{number}
 use Rattle.text.specs.Lists.{listEnd}
 use Rattle.text.specs.Lines.{judged, every, readList}
 use Rattle.text.specs.Answers.{rowOf}

@@ -11,10 +11,9 @@ use lib.ListN.{length, drop}
 use denote.Ref.{now}
 use Rattle.scan.specs.Bytes.{lf, starts}
 use Rattle.scan.proofs.ByteLaws.{key-past}
-use Rattle.text.specs.Number.{number}
-use Rattle.text.specs.Lists.{item}
+use Rattle.numbers.specs.Number.{number, item}
 use Rattle.text.specs.Lines.{within}
-use Rattle.text.proofs.NumberLaws.{Exact, Capped, missing-of, exact-of}
+use Rattle.numbers.proofs.NumberLaws.{Exact, Capped, missing-of, exact-of}
 use Rattle.text.proofs.LineLaws.{within-most, line-other, line-missing, line-out, line-value}
 
 key-is : (c : tie.Else1) → let a = c .before .before .before .before .args in starts (now (a .key)) (drop (a .at) (now (a .s))) ≡ true

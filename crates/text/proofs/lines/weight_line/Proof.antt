@@ -4,7 +4,7 @@ use Rattle.text.proofs.lines.weight_line.Statement.{statement}
 use Rattle.text.proofs.lines.weight_line.Tie as tie
 use mathlib.Core.Path.{sym, ap, _∙_}
 use native.Mathlib.Omega.{arith}
-use Rattle.text.specs.Number.{signed}
+use Rattle.numbers.specs.Number.{signed}
 use Rattle.text.specs.Lists.{listEnd}
 use Rattle.text.specs.Lines.{judged, every, readWeights, modest}
 use Rattle.text.specs.Answers.{weightRowOf}

@@ -8,9 +8,9 @@ use mathlib.Core.Logic.{⊎-elim}
 use native.Mathlib.Omega.{arith}
 use lib.ListN.{length}
 use denote.Ref.{now}
-use Rattle.text.specs.Number.{number}
+use Rattle.numbers.specs.Number.{number}
 use Rattle.text.specs.Lists.{anyList, anyItems}
-use Rattle.text.proofs.NumberLaws.{Exact, Capped, missing-of, exact-of, number-forward}
+use Rattle.numbers.proofs.NumberLaws.{Exact, Capped, missing-of, exact-of, number-forward}
 use Rattle.text.proofs.ListLaws.{any-empty, any-start, any-start-past, any-missing, any-end, any-last, any-other, any-past, any-more}
 
 abbrev Inv-loop : tie.InvT-loop

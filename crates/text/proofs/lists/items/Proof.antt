@@ -10,11 +10,11 @@ use native.Mathlib.Omega.{arith}
 use native.Mathlib.Nat.{sub-zero}
 use lib.ListN.{length, replicate, length-set}
 use denote.Ref.{now}
-use Rattle.text.specs.Number.{number}
-use Rattle.text.specs.Lists.{item, items, stopOf}
+use Rattle.numbers.specs.Number.{number, item}
+use Rattle.text.specs.Lists.{items, stopOf}
 use Rattle.text.specs.Lines.{need}
-use Rattle.text.proofs.NumberLaws.{Exact, Capped, missing-of, exact-of}
-use Rattle.text.proofs.ListLaws.{numbersGoing, stop-positive, turn-missing, turn-done, number-turn, numbers-got, numbers-bad}
+use Rattle.numbers.proofs.NumberLaws.{Exact, Capped, missing-of, exact-of}
+use Rattle.text.proofs.ListLaws.{numbersGoing, turn-missing, turn-done, number-turn, numbers-got, numbers-bad}
 
 abbrev Inv-loop : tie.InvT-loop
 Inv-loop s top from n hi values₀ inside₀ at₀ i₀ values inside at i =
@@ -44,7 +44,7 @@ stop-of-requires : tie.Need-stop-of-requires Inv-loop μ-loop
 stop-of-requires c κs = search needs
 
 item-requires : tie.Need-item-requires Inv-loop μ-loop
-item-requires c κs = rw (c .stop-of .ensures) (stop-positive _)
+item-requires c κs = search needs
 
 enum-known-value : tie.Need-enum-known-value Inv-loop μ-loop
 enum-known-value c = search needs

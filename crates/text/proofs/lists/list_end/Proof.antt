@@ -4,7 +4,7 @@ use Rattle.text.proofs.lists.list_end.Statement.{statement}
 use Rattle.text.proofs.lists.list_end.Tie as tie
 use mathlib.Core.Path.{sym, ap, _∙_}
 use mathlib.Core.Logic.{⊎-elim}
-use Rattle.text.specs.Number.{number}
+use Rattle.numbers.specs.Number.{number}
 use Rattle.text.specs.Lines.{judged, every}
 use Rattle.text.specs.Answers.{rowOf, endedOf, keptOr, padded}
 use Rattle.text.proofs.LineLaws.{judged-missing, judged-none}

@@ -11,11 +11,11 @@ use native.Mathlib.Nat.{sub-zero}
 use lib.Dec.{leb}
 use lib.ListN.{length, length-set}
 use denote.Ref.{now}
-use Rattle.text.specs.Number.{signed}
-use Rattle.text.specs.Lists.{item, items, stopOf}
+use Rattle.numbers.specs.Number.{signed, item}
+use Rattle.text.specs.Lists.{items, stopOf}
 use Rattle.text.specs.Lines.{need}
-use Rattle.text.proofs.NumberLaws.{Exact, CappedSigned, missing-signed, exact-signed}
-use Rattle.text.proofs.ListLaws.{noWeights, weightsGoing, stop-positive, turn-missing, turn-done, weight-turn, weights-got, weights-bad}
+use Rattle.numbers.proofs.NumberLaws.{Exact, CappedSigned, missing-signed, exact-signed}
+use Rattle.text.proofs.ListLaws.{noWeights, weightsGoing, turn-missing, turn-done, weight-turn, weights-got, weights-bad}
 
 abbrev Inv-loop : tie.InvT-loop
 Inv-loop s top from n hi ups₀ downs₀ inside₀ at₀ i₀ ups downs inside at i =
@@ -57,7 +57,7 @@ stop-of-requires : tie.Need-stop-of-requires Inv-loop μ-loop
 stop-of-requires c κs = search needs
 
 signed-item-requires : tie.Need-signed-item-requires Inv-loop μ-loop
-signed-item-requires c κs = rw (c .stop-of .ensures) (stop-positive _)
+signed-item-requires c κs = search needs
 
 enum-known-above : tie.Need-enum-known-above Inv-loop μ-loop
 enum-known-above c = search needs

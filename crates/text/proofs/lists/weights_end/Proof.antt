@@ -4,7 +4,7 @@ use Rattle.text.proofs.lists.weights_end.Statement.{statement}
 use Rattle.text.proofs.lists.weights_end.Tie as tie
 use mathlib.Core.Path.{sym, ap, _∙_}
 use mathlib.Core.Logic.{⊎-elim}
-use Rattle.text.specs.Number.{signed}
+use Rattle.numbers.specs.Number.{signed}
 use Rattle.text.specs.Lines.{judged, every, modest}
 use Rattle.text.specs.Answers.{weightRowOf, endedOf, keptOr, padded}
 use Rattle.text.proofs.LineLaws.{judged-missing, judged-none}

@@ -11,10 +11,9 @@ use lib.ListN.{length, drop}
 use denote.Ref.{now}
 use Rattle.scan.specs.Bytes.{colon, starts}
 use Rattle.scan.proofs.ByteLaws.{key-past}
-use Rattle.text.specs.Number.{number}
-use Rattle.text.specs.Lists.{item}
+use Rattle.numbers.specs.Number.{number, item}
 use Rattle.text.specs.Answers.{tokenRowOf}
-use Rattle.text.proofs.NumberLaws.{Exact, Capped, missing-of, exact-of}
+use Rattle.numbers.proofs.NumberLaws.{Exact, Capped, missing-of, exact-of}
 use Rattle.text.proofs.TokenLaws.{token-other, token-missing, token-low, token-high, token-in}
 
 key-is : (c : tie.Else1) → let a = c .before .before .before .before .before .args in starts (now (a .key)) (drop (a .at) (now (a .s))) ≡ true
@@ -76,17 +75,20 @@ returns-4 c =
     let f = e .before .before .before .before .before .fits in
     c .out-of-range2 .ensures ∙ sym (ap tokenRowOf (token-high _ _ _ _ _ _ (key-is e) (f .places .fits) _ _ (read m) (c .before .if3 .taken)))
 
-sub-element : tie.Need-sub-element
-sub-element c = search needs
+sub-byte-at : tie.Need-sub-byte-at
+sub-byte-at c = search needs
 
-cast-element : tie.Need-cast-element
-cast-element c = search needs
+cast-byte-at : tie.Need-cast-byte-at
+cast-byte-at c = search needs
 
-element-requires : tie.Need-element-requires
-element-requires c κs = search needs
+byte-at-requires : tie.Need-byte-at-requires
+byte-at-requires c κs = search needs
 
 cast-counted : tie.Need-cast-counted
 cast-counted c = search needs
+
+cast-counted-2 : tie.Need-cast-counted-2
+cast-counted-2 c = search needs
 
 counted-requires : tie.Need-counted-requires
 counted-requires c κs = search needs
@@ -97,7 +99,7 @@ returns-5 c =
     let m = t .before .before in
     let e = m .before .before .before .before in
     let f = e .before .before .before .before .before .fits in
-    (rw (c .before .element .ensures) at (c .counted .ensures)) ∙ sym (ap tokenRowOf (token-in _ _ _ _ _ _ (key-is e) (f .places .fits) _ _ (read m) (t .before .if2 .left) (t .if3 .left)))
+    (rw (c .before .byte-at .ensures) at (c .counted .ensures)) ∙ sym (ap tokenRowOf (token-in _ _ _ _ _ _ (key-is e) (f .places .fits) _ _ (read m) (t .before .if2 .left) (t .if3 .left)))
 
 pub token-line-spec : {M : Type 1} → statement M
 token-line-spec =
@@ -116,9 +118,10 @@ token-line-spec =
     returns-3
     out-of-range-requires-2
     returns-4
-    sub-element
-    cast-element
-    element-requires
+    sub-byte-at
+    cast-byte-at
+    byte-at-requires
     cast-counted
+    cast-counted-2
     counted-requires
     returns-5)
