@@ -3,7 +3,7 @@ use Prim.Native.Nat.{ℕ, zero, suc, _+_, _-_, _*_, _≤_, _<_, min}
 use mathlib.Core.Path.{_≡_, refl, ap, sym, _∙_}
 use mathlib.Core.List.{[], _∷_}
 use mathlib.Core.Bool.{true, false}
-use lib.Dec.{eqb, ltb, lit<}
+use lib.Dec.{eqb, ltb}
 use lib.IntN.{ℤ}
 use borrow.Author.Tests.{ltb-true, ltb-false, eq-eqb, ne-eqb, eqb-true, eqb-false}
 use native.Mathlib.Omega.{arith}

@@ -1,7 +1,7 @@
 -- Lists of values in a line, joined by commas: of numbers and of signed numbers alike.
 use Prim.Native.Nat.{ℕ, zero, suc, _+_}
 use mathlib.Core.List.{List, [], _∷_}
-use mathlib.Core.Bool.{Bool, true, false, _&&_, _||_}
+use mathlib.Core.Bool.{Bool, false, _&&_, _||_}
 use lib.Dec.{eqb}
 use lib.ListN.{length, getD}
 use Rattle.scan.specs.Bytes.{Text, lf, comma}

@@ -1,6 +1,5 @@
 // Lists of numbers to the end of their line.
 ghost use mathlib.Core.Path.{_≡_};
-ghost use mathlib.Core.Bool.{_&&_};
 ghost use Prim.Native.Nat.{_%_};
 ghost use lib.Dec.{leb};
 ghost use lib.ListN.{length, set};
@@ -23,18 +22,6 @@ pub fn stop_of(left: usize) -> u8
     ensures { λ r. ⌜ r ≡ stopOf left ⌝ }
 {
     if left == 0 { 10 } else { 44 }
-}
-
-fn at_most(v: u32, hi: u16) -> bool
-    ensures { λ r. ⌜ r ≡ leb v hi ⌝ }
-{
-    v <= hi as u32
-}
-
-fn both(a: bool, b: bool) -> bool
-    ensures { λ r. ⌜ r ≡ (a && b) ⌝ }
-{
-    if a { b } else { false }
 }
 
 // No numbers, and the fault.
@@ -71,7 +58,7 @@ fn items(s: &[u8], top: usize, from: usize, n: usize, hi: u16) -> Row
         let Decimal::Found { value, end } = item(s, at, stop_of(n - i - 1)) else {
             return no_row(2, top);
         };
-        inside = both(inside, at_most(value, hi));
+        inside = inside & (value <= hi as u32);
         keep(&mut values, i, value);
         at = end;
         i += 1;
@@ -158,7 +145,7 @@ fn weights(s: &[u8], top: usize, from: usize, n: usize, hi: u16) -> WeightRow
         let Signed::Weight { above, below, end } = signed_item(s, at, stop_of(n - i - 1)) else {
             return no_weights(2, top);
         };
-        inside = both(inside, both(at_most(above, hi), at_most(below, hi)));
+        inside = inside & ((above <= hi as u32) & (below <= hi as u32));
         keep(&mut ups, i, above);
         keep(&mut downs, i, below);
         at = end;

@@ -5,7 +5,7 @@ use Rattle.text.proofs.lists.items.Tie as tie
 use borrow.Author.Needs.{needs}
 use Prim.Native.Nat.{_≤_, _-_, _%_}
 use mathlib.Core.Path.{_≡_, refl, sym, ap, _∙_}
-use mathlib.Core.Bool.{Bool, true, false, _&&_}
+use mathlib.Core.Bool.{true, false}
 use native.Mathlib.Omega.{arith}
 use native.Mathlib.Nat.{sub-zero}
 use lib.ListN.{length, replicate, length-set}
@@ -64,12 +64,6 @@ returns c =
     (l .before .loop .inv .2
     ∙ turn-missing _ _ _ _ _ _ _ _ _ _ (l .loop-test .taken) (missing-of _ (sym (c .before .enum-told .given .1) ∙ (rw (r .before .stop-of .ensures) at (r .item .ensures)))))
 
-at-most-requires : tie.Need-at-most-requires Inv-loop μ-loop
-at-most-requires c κs = search needs
-
-both-requires : tie.Need-both-requires Inv-loop μ-loop
-both-requires c κs = search needs
-
 keep-requires : tie.Need-keep-requires Inv-loop μ-loop
 keep-requires c κs = search needs
 
@@ -81,15 +75,14 @@ loop-less c = search needs
 
 loop-again : tie.Need-loop-again Inv-loop μ-loop
 loop-again c =
-    let b = c .before .before in
-    let k = b .before .before in
+    let k = c .before .before in
     let l = k .before .before .before .before .before .before in
     let f = l .before .before .fits in (
       omega arith,
       ap length (c .keep .ensures) ∙ length-set (l .loop .values) (l .loop .i) (k .before .value .given .0 .0 % 65536) ∙ l .loop .inv .1,
       l .loop .inv .2
           ∙ number-turn _ _ (f .hi .fits) _ _ _ _ _ _ (k .before .before .before .before .before .loop-test .taken) _ _ (read k) _
-          (b .both .ensures ∙ ap (λ (t : Bool). l .loop .inside && t) (b .before .at-most .ensures)) _ (c .keep .ensures),
+          refl _ (c .keep .ensures),
     )
 
 returns-2 : tie.Need-returns-2 Inv-loop μ-loop
@@ -122,8 +115,6 @@ items-spec =
     enum-told
     no-row-requires
     returns
-    at-most-requires
-    both-requires
     keep-requires
     add-i
     loop-less

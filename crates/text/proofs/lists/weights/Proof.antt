@@ -5,10 +5,9 @@ use Rattle.text.proofs.lists.weights.Tie as tie
 use borrow.Author.Needs.{needs}
 use Prim.Native.Nat.{_≤_, _-_, _%_}
 use mathlib.Core.Path.{_≡_, refl, sym, ap, _∙_}
-use mathlib.Core.Bool.{Bool, true, false, _&&_}
+use mathlib.Core.Bool.{true, false}
 use native.Mathlib.Omega.{arith}
 use native.Mathlib.Nat.{sub-zero}
-use lib.Dec.{leb}
 use lib.ListN.{length, length-set}
 use denote.Ref.{now}
 use Rattle.numbers.specs.Number.{signed, item}
@@ -31,18 +30,6 @@ read : (c : tie.After-known-told Inv-loop μ-loop) →
 read c =
     let r = c .before .before .before in
     exact-signed _ _ _ _ (sym (c .before .above .given .1) ∙ (rw (r .before .stop-of .ensures) at (r .signed-item .ensures)))
-
--- the values so far and this one are in the range
-inside : (c : tie.After-both2 Inv-loop μ-loop) →
-    let k = c .before .before .before .before in
-    let l = k .before .before .before .before .before .before in
-    let hi = l .before .before .args .hi in
-    c .both2 .result ≡ (l .loop .inside && (leb (k .before .above .given .0 .0) hi && leb (k .before .above .given .0 .1 .0) hi))
-inside c =
-    let l = c .before .before .before .before .before .before .before .before .before .before in
-    c .both2 .ensures
-    ∙ ap (λ (t : Bool). l .loop .inside && t)
-    (rw (c .before .before .before .at-most .ensures, c .before .before .at-most2 .ensures) at (c .before .both .ensures))
 
 loop-holds : tie.Need-loop-holds Inv-loop μ-loop
 loop-holds c = (search needs, refl, refl, rw sub-zero)
@@ -77,18 +64,6 @@ returns c =
     (l .before .loop .inv .3
     ∙ turn-missing _ _ _ _ _ _ _ _ _ _ (l .loop-test .taken) (missing-signed _ (sym (c .before .enum-told .given .1) ∙ (rw (r .before .stop-of .ensures) at (r .signed-item .ensures)))))
 
-at-most-requires : tie.Need-at-most-requires Inv-loop μ-loop
-at-most-requires c κs = search needs
-
-at-most-requires-2 : tie.Need-at-most-requires-2 Inv-loop μ-loop
-at-most-requires-2 c κs = search needs
-
-both-requires : tie.Need-both-requires Inv-loop μ-loop
-both-requires c κs = search needs
-
-both-requires-2 : tie.Need-both-requires-2 Inv-loop μ-loop
-both-requires-2 c κs = search needs
-
 keep-requires : tie.Need-keep-requires Inv-loop μ-loop
 keep-requires c κs = search needs
 
@@ -104,8 +79,7 @@ loop-less c = search needs
 loop-again : tie.Need-loop-again Inv-loop μ-loop
 loop-again c =
     let d = c .before .before in
-    let b = d .before .before in
-    let k = b .before .before .before .before in
+    let k = d .before .before in
     let l = k .before .before .before .before .before .before in
     let f = l .before .before .fits in
     let g = k .before .above .given .0 in
@@ -114,7 +88,7 @@ loop-again c =
       ap length (d .keep .ensures) ∙ length-set (l .loop .ups) (l .loop .i) (g .0 % 65536) ∙ l .loop .inv .1,
       ap length (c .keep2 .ensures) ∙ length-set (l .loop .downs) (l .loop .i) (g .1 .0 % 65536) ∙ l .loop .inv .2,
       l .loop .inv .3
-          ∙ weight-turn _ _ (f .hi .fits) _ _ _ _ _ _ _ h _ _ _ (read k) _ (inside b) _ _ (d .keep .ensures) (c .keep2 .ensures),
+          ∙ weight-turn _ _ (f .hi .fits) _ _ _ _ _ _ _ h _ _ _ (read k) _ refl _ _ (d .keep .ensures) (c .keep2 .ensures),
     )
 
 returns-2 : tie.Need-returns-2 Inv-loop μ-loop
@@ -147,10 +121,6 @@ weights-spec =
     enum-told
     no-weights-requires
     returns
-    at-most-requires
-    at-most-requires-2
-    both-requires
-    both-requires-2
     keep-requires
     keep-requires-2
     add-i
