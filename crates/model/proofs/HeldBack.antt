@@ -1,32 +1,32 @@
 -- What passes the test of a held model is what the model that it stands for is held as.
-use Prim.Native.Nat.{ℕ, _+_, _≤_, _<_}
+use Prim.Native.Nat.{ℕ, _≤_, _<_}
 use mathlib.Core.Path.{_≡_, refl, ap, sym, _∙_}
 use mathlib.Core.List.{List, []}
 use mathlib.Core.Bool.{true, _&&_}
 use native.Mathlib.Omega.{arith}
-use lib.Dec.{leb, eqb}
+use lib.Dec.{eqb}
 use borrow.Author.Tests.{eqb-true}
-use lib.ListN.{length, take, drop, getD, List·getD-eq-default}
-use lib.Seq.{ext-getD, getD-drop, length-take-le}
+use lib.ListN.{length, take, getD}
+use lib.Seq.{ext-getD, length-take-le}
 use Rattle.text.specs.Lines.{within}
 use Rattle.text.specs.Repeat.{fill}
 use Rattle.text.specs.Answers.{padded}
 use Rattle.scan.proofs.Basics.{and-true}
 use Rattle.text.proofs.TestLaws.{within-is, eqb-and}
 use Rattle.eos.specs.Model as eos
-use Rattle.model.specs.Rules.{nth}
 use Rattle.model.specs.Held.{preOf, postOf, row, tabled, holdNet, holdEvent, noNet, noEvent, holdNets, holdEvents, holdModel}
 use Rattle.model.specs.Held.{SizedNet, Sized, rowIn, listed, sidesIn, netOf, syncIn, eventOf, modelOf}
 use Rattle.model.specs.Test.{empty, emptyPast, usedOf, heldNet, frameIn, heldEvent, emptyEvent}
 use Rattle.model.specs.declared.ObjectNet.{ObjectNet}
 use Rattle.model.specs.declared.Event.{Event}
 use Rattle.model.specs.declared.Model.{Model}
-use Rattle.model.proofs.PadLaws.{empty-of, empty-zeros, padded-take}
-use Rattle.model.proofs.SlotLaws.{cond-below, cond-from, by-index, listed-at, length-listed}
+use Rattle.model.proofs.PadLaws.{empty-zeros, padded-take}
+use Rattle.model.proofs.SlotLaws.{cond-from, by-index, listed-at, length-listed}
 use Rattle.model.proofs.TableLaws.{table-is}
 use Rattle.model.proofs.HoldLaws.{net-at, net-past, event-at, event-past, nets-long, events-long}
 use Rattle.model.proofs.TestLaws.{Held, most-nets, most-places, most-moves, most-events}
-use Rattle.model.proofs.TestLaws.{types-at, countTest, nets-at, events-at, moves-are, EventIn, event-in, act-again}
+use Rattle.model.proofs.UsedLaws.{types-empty, count-is, net-used, net-held, event-used}
+use Rattle.model.proofs.TestLaws.{events-at, moves-are, EventIn, act-again}
 
 -- a table of n transitions between `size` places
 sides-table : (f : eos.Transition → List ℕ) → f eos.noTransition ≡ [] → (n size : ℕ) (t : List ℕ) (g : ℕ → eos.Transition) → length t ≡ 1024
@@ -71,52 +71,20 @@ module _ (m : Model) (sized : Sized m) (held : Held m) where
 
   -- ---- types
 
-  -- a type that is used is a net's or 0
-  pub type-below : (p : ℕ) → p < m .places → leb (nth (m .types) p) (m .nets) ≡ true
-  type-below p h =
-      let t = types-at m (held .types) p (omega (arith, places)) in
-      rw (cond-below (m .places) p (leb (nth (m .types) p) (m .nets)) (eqb (nth (m .types) p) 0) h) at t
-
-  -- behind the types that are used there is nothing but 0
-  pub types-empty : empty (drop (m .places) (m .types)) ≡ true
-  types-empty =
-      empty-of (drop (m .places) (m .types)) λ i.
-      let p = m .places + i in
-      getD-drop (m .places) (m .types) i 0
-      ∙ by-index 32 p
-      (λ q.
-      let t = types-at m (held .types) p q in
-      eqb-true (nth (m .types) p) 0 (rw (cond-from (m .places) p (leb (nth (m .types) p) (m .nets)) (eqb (nth (m .types) p) 0) (omega arith)) at t))
-      (λ q. List·getD-eq-default (m .types) 0 (omega (arith, sized .types)))
-
   types-again : m .types ≡ padded (take (m .places) (m .types))
-  types-again = sym (padded-take (m .places) (m .types) (sized .types) types-empty)
+  types-again = sym (padded-take (m .places) (m .types) (sized .types) (types-empty m held (sized .types)))
 
   -- ---- nets
 
   abbrev net : ℕ → ObjectNet
   net k = getD (m .objects) k noNet
 
-  count-is : (k : ℕ) → k < 8 → countTest (m .nets) k (net k) ≡ true
-  count-is k h = and-true (countTest (m .nets) k (net k)) (heldNet (net k)) (nets-at m (held .nets) k h) .0
-
-  -- the counts of a net that is used
-  pub net-used : (k : ℕ) → k < m .nets → (within 1 32 (net k .places) ≡ true) × (within 0 32 (net k .transitions) ≡ true)
-  net-used k h =
-      let size = within 1 32 (net k .places) in
-      let few = within 0 32 (net k .transitions) in
-      let t = rw (cond-below (m .nets) k (size && few) (eqb (net k .places) 0 && eqb (net k .transitions) 0) h) at (count-is k (omega (arith, nets))) in
-      and-true size few t
-
   net-free : (k : ℕ) → k < 8 → m .nets ≤ k → (net k .places ≡ 0) × (net k .transitions ≡ 0)
   net-free k p h =
       let used = within 1 32 (net k .places) && within 0 32 (net k .transitions) in
-      let t = rw (cond-from (m .nets) k used (eqb (net k .places) 0 && eqb (net k .transitions) 0) h) at (count-is k p) in
+      let t = rw (cond-from (m .nets) k used (eqb (net k .places) 0 && eqb (net k .transitions) 0) h) at (count-is m held k p) in
       let u = eqb-and (net k .places) 0 (eqb (net k .transitions) 0) t in
       (u .0, eqb-true (net k .transitions) 0 (u .1))
-
-  net-held : (k : ℕ) → k < 8 → heldNet (net k) ≡ true
-  net-held k h = and-true (countTest (m .nets) k (net k)) (heldNet (net k)) (nets-at m (held .nets) k h) .1
 
   abbrev netsIn : List eos.ObjectNet
   netsIn = listed (λ i. netOf (net i)) 0 (m .nets)
@@ -129,12 +97,12 @@ module _ (m : Model) (sized : Sized m) (held : Held m) where
       let few : length netsIn ≤ 8 = omega (arith, nets) in
       by-index (m .nets) k
       (λ p.
-      let c = net-used k p in
-      let e = net-again (net k) (sized .nets k q) (within-is 1 32 (net k .places) (c .0) .1) (within-is 0 32 (net k .transitions) (c .1) .1) (net-held k q) in
+      let c = net-used m held k p in
+      let e = net-again (net k) (sized .nets k q) (within-is 1 32 (net k .places) (c .0) .1) (within-is 0 32 (net k .transitions) (c .1) .1) (net-held m held k q) in
       e ∙ sym (net-at netsIn k few (omega arith) ∙ ap holdNet (listed-at (λ i. netOf (net i)) (m .nets) k eos.noNet p)))
       (λ p.
       let c = net-free k q p in
-      let e = net-again (net k) (sized .nets k q) (omega (arith, c .0)) (omega (arith, c .1)) (net-held k q) in
+      let e = net-again (net k) (sized .nets k q) (omega (arith, c .0)) (omega (arith, c .1)) (net-held m held k q) in
       net-none (net k) (c .0) (c .1) e ∙ sym (net-past netsIn k few (omega arith)))
 
   -- ---- events
@@ -142,19 +110,12 @@ module _ (m : Model) (sized : Sized m) (held : Held m) where
   abbrev event : ℕ → Event
   event k = getD (m .events) k noEvent
 
-  -- an event that is used
-  pub event-used : (k : ℕ) → k < m .listed → EventIn (frameIn m) (event k)
-  event-used k h =
-      let few = most-events m held in
-      event-in (frameIn m) (event k)
-      (rw (cond-below (m .listed) k (heldEvent (frameIn m) (event k)) (emptyEvent (event k)) h) at (events-at m (held .events) k (omega arith)))
-
   event-again : (e : Event) → length (e .sync) ≡ 256 → EventIn (frameIn m) e → e ≡ holdEvent (eventOf (m .nets) (m .objects) e)
   unfolding holdEvent eventOf
   event-again e long h =
       let a = act-again (frameIn m) (e .kind) (e .index) (h .act) in
       let s = table-is row [] refl 8 (frameIn m .steps) (m .nets) (e .sync) (syncIn (m .objects) (e .sync)) long nets
-      (λ i p. within-is 0 32 (net i .transitions) (net-used i p .1) .1) (λ i. refl) (h .past) in
+      (λ i p. within-is 0 32 (net i .transitions) (net-used m held i p .1) .1) (λ i. refl) (h .past) in
       λ i. record { kind = sym (a .0) i; index = sym (a .1) i; sync = s i }
 
   abbrev eventsIn : List eos.Event
@@ -168,7 +129,7 @@ module _ (m : Model) (sized : Sized m) (held : Held m) where
       let few : length eventsIn ≤ 64 = omega (arith, most-events m held) in
       by-index (m .listed) k
       (λ p.
-      event-again (event k) (sized .sync k q .long) (event-used k p)
+      event-again (event k) (sized .sync k q .long) (event-used m held k p)
       ∙ sym (event-at eventsIn k few (omega arith) ∙ ap holdEvent (listed-at (λ i. eventOf (m .nets) (m .objects) (event i)) (m .listed) k eos.noEvent p)))
       (λ p.
       let t = rw (cond-from (m .listed) k (heldEvent (frameIn m) (event k)) (emptyEvent (event k)) p) at (events-at m (held .events) k q) in

@@ -25,7 +25,8 @@ use Rattle.model.proofs.PadLaws.{nth-taken}
 use Rattle.model.proofs.SlotLaws.{listed-at, length-listed}
 use Rattle.model.proofs.TableLaws.{length-row, nth-row, empty-row}
 use Rattle.model.proofs.HoldHeld.{frame-same}
-use Rattle.model.proofs.HeldBack.{type-below, types-empty, net-used, event-used, held-again}
+use Rattle.model.proofs.UsedLaws.{type-below, types-empty, net-used, event-used}
+use Rattle.model.proofs.HeldBack.{held-again}
 use Rattle.model.proofs.TestLaws.{Held, most-nets, most-places, most-moves, most-events, moves-are, EventIn, act-same, act-again, own-same, part-same}
 
 -- n numbers of a row of bytes
@@ -87,7 +88,7 @@ module _ (m : Model) (sized : Sized m) (held : Held m) where
   move-right i p =
       let h = moves-are m (held .moves) in
       let few = most-moves m held in
-      let a = fun-ext (nth-taken (m .places) (m .types) (types-empty m sized held)) in
+      let a = fun-ext (nth-taken (m .places) (m .types) (types-empty m held (sized .types))) in
       let b = nth-row 32 (m .moves) (λ i. m .places) (m .pre) (h .pre) few i p places in
       let c = nth-row 32 (m .moves) (λ i. m .places) (m .post) (h .post) few i p places in
       let k : keepsTypes (m .nets) typesIn (side i) ≡ true = (λ j. monotonous (m .nets) (types-long j) (a j) (b j) (c j)) ∙ h .typed i p in
@@ -96,7 +97,7 @@ module _ (m : Model) (sized : Sized m) (held : Held m) where
 
   -- ---- events
   steps : (i : ℕ) → i < m .nets → net i .transitions ≤ 32
-  steps i p = within-is 0 32 (net i .transitions) (net-used m sized held i p .1) .1
+  steps i p = within-is 0 32 (net i .transitions) (net-used m held i p .1) .1
 
   event-right : (e : Event) → Bytes 256 (e .sync) → EventIn (frameIn m) e → rightEvent (frameIn m) (eventOf (m .nets) (m .objects) e) ≡ true
   unfolding eventOf rightSync
@@ -135,20 +136,20 @@ module _ (m : Model) (sized : Sized m) (held : Held m) where
         places-few = rw types-long (held .places-few);
         types = rw a (every-of (λ t. leb t (m .nets)) typesIn 0 (λ i p.
             let q : i < m .places = omega (arith, types-long) in
-            rw (getD-take (m .places) (m .types) i 0 q) (type-below m sized held i q)));
+            rw (getD-take (m .places) (m .types) i 0 q) (type-below m held i q)));
         moves-few = rw b (held .moves-few);
         moves = rw a (every-of (rightMove (m .nets) typesIn) (listed side 0 (m .moves)) eos.noTransition (λ i p.
             let q : i < m .moves = omega (arith, b) in
             rw (listed-at side (m .moves) i eos.noTransition q) (move-right i q)));
         nets = every-of rightNet (listed (λ i. netOf (net i)) 0 (m .nets)) eos.noNet (λ i p.
             let q : i < m .nets = omega (arith, a) in
-            let u = net-used m sized held i q in
+            let u = net-used m held i q in
             rw (listed-at (λ i. netOf (net i)) (m .nets) i eos.noNet q) (net-right (net i) (sized .nets i (omega (arith, nets))) (u .0) (u .1)));
         events-few = rw c (held .events-few);
         events = every-of (rightEvent (frameOf (modelOf m))) (listed event 0 (m .listed)) eos.noEvent (λ i p.
             let q : i < m .listed = omega (arith, c) in
             rw (listed-at event (m .listed) i eos.noEvent q, ← frame)
-            (event-right (getD (m .events) i noEvent) (sized .sync i (omega arith)) (event-used m sized held i q)));
+            (event-right (getD (m .events) i noEvent) (sized .sync i (omega arith)) (event-used m held i q)));
       }
 
 -- the model that a held model stands for is right

@@ -4,6 +4,8 @@ pub mod SlotLaws
 pub mod TableLaws
 pub mod HoldLaws
 pub mod TestLaws
+pub mod UsedLaws
+pub mod RoomLaws
 pub mod HeldBack
 pub mod HoldHeld
 pub mod HeldRight

@@ -5,10 +5,8 @@ use mathlib.Core.List.{List}
 use mathlib.Core.Bool.{true, _&&_}
 use native.Mathlib.Omega.{arith}
 use native.Mathlib.Numerals.{add-one}
-use mir.Val.{Val}
-use denote.Laws.{Is}
 use lib.Dec.{leb, eqb}
-use lib.ListN.{length, getD, replicate, length-map, List·getD-eq-default}
+use lib.ListN.{length, getD, replicate, List·getD-eq-default}
 use lib.Seq.{ext-getD}
 use borrow.Author.Tests.{leb-true, eqb-true}
 use Rattle.text.specs.Lines.{within}
@@ -21,7 +19,6 @@ use Rattle.model.specs.Held.{noNet, holdNet, holdNets, holdModel, listed}
 use Rattle.model.specs.Test.{heldModel, heldNet}
 use Rattle.model.specs.declared.Model.{Model}
 use Rattle.model.specs.declared.ObjectNet.{ObjectNet}
-use Rattle.model.proofs.Model.{the-row}
 use Rattle.model.proofs.PadLaws.{nth-zeros, nth-padded}
 use Rattle.model.proofs.RuleLaws.{right-is, few-nets, few-places}
 use Rattle.model.proofs.SlotLaws.{cond-below, cond-from, by-index, length-listed, listed-at, listed-past}
@@ -45,10 +42,6 @@ first-size objects n (suc i) h = absurd (omega arith)
 -- the size of a net's type is looked up with any net for those past the last
 pub size-at : (objects : List ObjectNet) (n : ℕ) (d : ObjectNet) → n < length objects → getD objects n d .places ≡ sizeOfType objects (n + 1)
 size-at objects n d h = rw (add-one n) (ap (λ (o : ObjectNet). o .places) (at-any objects n d noNet h))
-
--- a model's array of nets has room for 8, from what owning the model tells
-pub objects-long : (m : Model) (vs : List Val) → Is the-row m vs → length (m .objects) ≡ 8
-objects-long m vs p = sym (length-map (m .objects) _) ∙ p .1 .1 .1 .1 .1 .1 .1 .1 .1 .0 .1 .0 .1
 
 -- ---- a held model
 module _ (m : Model) (h : heldModel m ≡ true) where

@@ -8,7 +8,7 @@ use native.Mathlib.Omega.{arith}
 use native.Mathlib.Nat.{add-zero}
 use lib.ListN.{length, drop}
 use lib.Seq.{sets}
-use Rattle.plant.proofs.RowLaws.{put-next, put-done}
+use Rattle.text.proofs.PaddedLaws.{put-next, put-done}
 
 abbrev Inv-loop : tie.InvT-loop
 Inv-loop table₀ at values k₀ table k =

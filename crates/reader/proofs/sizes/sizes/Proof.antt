@@ -12,7 +12,8 @@ use Rattle.model.specs.declared.Model.{Model}
 use Rattle.model.proofs.TestLoops.{filled-turn}
 use Rattle.model.proofs.SlotLaws.{listed-at}
 use Rattle.reader.specs.Sizes.{sizeOfType, sizesIn}
-use Rattle.reader.proofs.SizeLaws.{objects-long, nets-small, type-few, listed-all}
+use Rattle.reader.proofs.SizeLaws.{nets-small, type-few, listed-all}
+use Rattle.model.proofs.RoomLaws.{objects-room}
 
 -- how many counts a net-token on place p has
 abbrev sizeAt : Model → ℕ → ℕ
@@ -27,7 +28,7 @@ abbrev μ-loop : tie.MeasureT-loop
 by-type-requires : tie.Need-by-type-requires Inv-loop μ-loop
 by-type-requires c κs =
     let m = c .before .args .t1 in
-    nets-small m (c .before .pre) (objects-long m _ (c .before .good .0))
+    nets-small m (c .before .pre) (objects-room m _ (c .before .good .0))
 
 loop-holds : tie.Need-loop-holds Inv-loop μ-loop
 loop-holds c = (omega arith, refl, λ i h. absurd (omega arith))
