@@ -51,7 +51,7 @@ spread-counts (suc n) (suc k) =
 
 -- ---- each way once
 
-vectors : Likeness eqV
+pub vectors : Likeness eqV
 vectors = record { same = eqV-eq; self = eqV-refl }
 
 -- how often a list stands among those that begin with 0, and among those with one more in front

@@ -178,7 +178,7 @@ pub counted-few : (key s : Text) (at n next : ℕ) → readNumber key (within 0 
 counted-few key s at n next e = within-is 0 256 n (number-exactly key (within 0 256) s .back at n next e .fine-is) .1
 
 module _ (key : Text) (z : Sizes) (s : Text) (at : ℕ) where
-  counted : (o : Outcome ℕ) → o ≡ readNumber key (within 0 256) s at → o ≡ readNumber key (limits 256 65535 .tokens) s at
+  pub counted : (o : Outcome ℕ) → o ≡ readNumber key (within 0 256) s at → o ≡ readNumber key (limits 256 65535 .tokens) s at
   counted o e = e ∙ ap (λ (r : ℕ → Bool). readNumber key r s at) (from-zero 256)
 
   -- their number is refused

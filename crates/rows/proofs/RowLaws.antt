@@ -40,7 +40,7 @@ row-at (suc n) l (suc i) h =
     let k : 33 + i * 33 ≡ suc i * 33 = omega arith in
     row-at n (drop 33 l) i (omega arith) ∙ ap (λ (m : List ℕ). take 33 m) (drop-drop (i * 33) 33 l) ∙ ap (λ (m : ℕ). take 33 (drop m l)) k
 
-wide-rows : (n : ℕ) (l : List ℕ) → n * 33 ≤ length l → Wide (rowsIn n l)
+pub wide-rows : (n : ℕ) (l : List ℕ) → n * 33 ≤ length l → Wide (rowsIn n l)
 wide-rows zero l h = tt
 wide-rows (suc n) l h = (length-take-le 33 l (omega arith), wide-rows n (drop 33 l) (omega (arith, length-drop 33 l)))
 
@@ -63,7 +63,7 @@ rows-flat (r ∷ rs) z w =
     ∙ ap (λ (m : List ℕ). m ∷ rowsIn (length rs) (flat rs ++ z)) f
     ∙ ap (λ (m : List Row). r ∷ m) (rows-flat rs z (w .1))
 
-flat-append : (a b : List Row) → flat (a ++ b) ≡ flat a ++ flat b
+pub flat-append : (a b : List Row) → flat (a ++ b) ≡ flat a ++ flat b
 flat-append [] b = refl
 flat-append (r ∷ a) b = ap (λ (k : List ℕ). r ++ k) (flat-append a b) ∙ sym (append-assoc r (flat a) (flat b))
 

@@ -154,7 +154,7 @@ fn move_down(s: &mut [u16], len: usize)
 }
 
 // `row` laid over the numbers from `at` on.
-fn put_row(rows: &mut [u16], at: usize, row: [u16; 33])
+pub fn put_row(rows: &mut [u16], at: usize, row: [u16; 33])
     requires { ⌜ at + 33 ≤ length (now rows) ⌝ }
     ensures { λ _. ⌜ now (rows .exit) ≡ paste (now (rows .entry)) at row 33 ⌝ }
 {

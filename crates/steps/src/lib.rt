@@ -1,0 +1,19 @@
+// A step: its lines are read, and a marking is changed by it.
+use text::Ended;
+
+pub mod changing;
+pub mod reading;
+
+// How the reading of net-tokens ended, and how many were read; a refusal has none.
+pub struct TokenLines {
+    pub ended: Ended,
+    pub count: usize,
+}
+
+// How the reading of a step ended, its event, from 0, and how many net-tokens it takes and gives; a refusal has none.
+pub struct StepLines {
+    pub ended: Ended,
+    pub event: usize,
+    pub take: usize,
+    pub give: usize,
+}

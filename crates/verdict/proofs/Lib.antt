@@ -1,0 +1,13 @@
+pub mod SumLaws
+pub mod RowLaws
+pub mod InsideLaws
+pub mod TestLaws
+pub mod LackLaws
+pub mod VerdictLaws
+pub mod PadLaws
+pub mod SideLaws
+pub mod ProjectionLaws
+pub mod LikeLaws
+pub mod CausesAre
+pub mod FiresLaws
+pub mod SoundLaws

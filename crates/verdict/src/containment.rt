@@ -1,0 +1,68 @@
+// The first net-token taken of which the marking has too few.
+ghost use mathlib.Core.Path.{_≡_};
+ghost use mathlib.Core.List.{[]};
+ghost use Prim.Native.Nat.{_+_, _*_, _≤_, _<_};
+ghost use lib.Dec.{ltb};
+ghost use lib.ListN.{length, take, drop};
+ghost use Rattle.eos.specs.Vector.{eqV};
+ghost use Rattle.eos.specs.Multiset as M;
+ghost use Rattle.rows.specs.Rows.{rowsIn, Kept};
+ghost use Rattle.verdict.specs.Verdict.{lackingRows};
+ghost use Rattle.verdict.specs.Held.{written};
+use rows::count;
+use rows::like;
+
+// The row at `at`.
+fn row_at(rows: &[u16], at: usize) -> [u16; 33]
+    requires { ⌜ at + 33 ≤ length (now rows) ⌝ }
+    ensures { λ r. ⌜ r ≡ take 33 (drop at (now (rows .entry))) ⌝ }
+{
+    let mut row = [0u16; 33];
+    let mut k = 0;
+    while k < 33 {
+        row[k] = rows[at + k];
+        k += 1;
+    }
+    row
+}
+
+// How many of the first n rows are `row`.
+fn seen(rows: &[u16], n: usize, row: [u16; 33]) -> usize
+    requires { ⌜ (n ≤ 256) × (length (now rows) ≡ 8448) ⌝ }
+    ensures { λ r. ⌜ r ≡ M.count eqV row (rowsIn n (now (rows .entry))) ⌝ }
+{
+    let mut found = 0;
+    let mut i = 0;
+    while i < n {
+        if like(rows, i * 33, row) {
+            found += 1;
+        }
+        i += 1;
+    }
+    found
+}
+
+// Whether the marking has row i of `taken` as often as it stands there up to i.
+fn has(taken: &[u16], i: usize, rows: &[u16], len: usize) -> bool
+    requires { ⌜ (i < 256) × (length (now taken) ≡ 8448) × Kept len (now rows) ⌝ }
+    ensures { λ r. ⌜ r ≡ ltb (M.count eqV (take 33 (drop (i * 33) (now (taken .entry)))) (rowsIn i (now (taken .entry))))
+        (M.count eqV (take 33 (drop (i * 33) (now (taken .entry)))) (rowsIn len (now (rows .entry)))) ⌝ }
+{
+    let row = row_at(taken, i * 33);
+    seen(taken, i, row) < count(rows, len, row)
+}
+
+// The line of the first of the rows taken of which the marking has too few; 0 where there is none.
+pub fn lacking(taken: &[u16], n: usize, rows: &[u16], len: usize) -> usize
+    requires { ⌜ (n ≤ 256) × (length (now taken) ≡ 8448) × Kept len (now rows) ⌝ }
+    ensures { λ r. ⌜ r ≡ written (lackingRows (rowsIn len (now (rows .entry))) 2 [] (rowsIn n (now (taken .entry)))) ⌝ }
+{
+    let mut i = 0;
+    while i < n {
+        if !has(taken, i, rows, len) {
+            return i + 3;
+        }
+        i += 1;
+    }
+    0
+}
