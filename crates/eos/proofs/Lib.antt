@@ -2,6 +2,7 @@ pub mod Basics
 pub mod MultisetLaws
 pub mod OrderLaws
 pub mod VectorLaws
+pub mod VectorSums
 pub mod FiringLaws
 pub mod CauseLaws
 pub mod WeightLaws

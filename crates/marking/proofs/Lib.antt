@@ -1,5 +1,6 @@
 pub mod BlockExactly
 pub mod OrderLaws
+pub mod LikeLaws
 pub mod HoldLaws
 pub mod RowLaws
 pub mod BlockLaws

@@ -1,8 +1,8 @@
 -- Laws of padded rows: looking up a number does not see the padding.
-use Prim.Native.Nat.{ℕ, zero, suc, _+_, _≤_}
-use mathlib.Core.Path.{_≡_, refl, sym, _∙_, fun-ext}
-use mathlib.Core.List.{List, [], _∷_}
-use mathlib.Core.Bool.{true}
+use Prim.Native.Nat.{ℕ, zero, suc, _+_, _-_, _≤_}
+use mathlib.Core.Path.{_≡_, refl, ap, sym, _∙_, fun-ext}
+use mathlib.Core.List.{List, [], _∷_, _++_}
+use mathlib.Core.Bool.{Bool, true, _&&_}
 use native.Mathlib.Omega.{arith}
 use lib.Dec.{eqb}
 use borrow.Author.Tests.{eqb-true, eq-eqb, leb-true}
@@ -12,7 +12,10 @@ use Rattle.text.specs.Lines.{every}
 use Rattle.text.specs.Answers.{padded}
 use Rattle.scan.proofs.Basics.{by-test, and-true}
 use Rattle.text.proofs.TestLaws.{and-both}
-use Rattle.text.proofs.PaddedLaws.{at-padded, length-padded}
+use Rattle.text.proofs.PaddedLaws.{padded-is, at-padded, length-padded}
+use Rattle.eos.specs.Vector.{eqV}
+use Rattle.eos.proofs.Basics.{is-true}
+use Rattle.eos.proofs.VectorLaws.{eqV-refl}
 use Rattle.model.specs.Rules.{nth, byte}
 use Rattle.model.specs.Test.{empty}
 
@@ -87,3 +90,17 @@ pub small-at : (l : List ℕ) → every byte l ≡ true → (i : ℕ) → nth l 
 small-at [] h i = omega arith
 small-at (a ∷ l) h zero = leb-true a 255 (and-true (byte a) (every byte l) h .0)
 small-at (a ∷ l) h (suc i) = small-at l (and-true (byte a) (every byte l) h .1) i
+
+-- ---- equality does not see the padding
+
+-- what follows alike does not count
+eq-behind : (x y z : List ℕ) → length x ≡ length y → eqV (x ++ z) (y ++ z) ≡ eqV x y
+eq-behind [] [] z e = is-true (eqV z z) (eqV-refl z)
+eq-behind [] (b ∷ y) z e = absurd (omega arith)
+eq-behind (a ∷ x) [] z e = absurd (omega arith)
+eq-behind (a ∷ x) (b ∷ y) z e = ap (λ (t : Bool). eqb a b && t) (eq-behind x y z (omega arith))
+
+pub eq-padded : (x y : List ℕ) → length x ≡ length y → length x ≤ 32 → eqV (padded x) (padded y) ≡ eqV x y
+eq-padded x y e h =
+    let k : length y ≤ 32 = omega arith in
+    rw (padded-is x h, padded-is y k, e) (eq-behind x y (replicate (32 - length y) 0) e)

@@ -11,6 +11,7 @@ use lib.Seq.{
   paste-suc,
   drop-paste,
   take-suc,
+  take-suc-set,
   take-all,
   append-snoc,
   set-at,
@@ -129,3 +130,16 @@ module _ (l w : List ℕ) (at n : ℕ) where
   pub lent-down : w ≡ paste (take (length l - at) (drop at l)) 0 (drop 33 (take (length l - at) (drop at l))) n
       → take at l ++ (w ++ drop (length l - at) (drop at l)) ≡ paste l at (drop (at + 33) l) n
   lent-down e = part-back (λ (d : List ℕ). paste d 0 (drop 33 d) n) e ∙ part-down l at n
+
+-- ---- a row copied out of rows
+
+-- a turn of the loop that copies the row at `at`
+pub copy-turn : (rows row : List ℕ) (at j : ℕ) → take j row ≡ take j (drop at rows) → j < length row → at + j < length rows
+    → take (j + 1) (set row j (getD rows (at + j) 0)) ≡ take (j + 1) (drop at rows)
+copy-turn rows row at j e h k =
+    let n : j < length (drop at rows) = omega (arith, length-drop at rows) in
+    rw (add-one j, take-suc-set row j (getD rows (at + j) 0) h, e, take-suc (drop at rows) j 0 n, getD-drop at rows j 0)
+
+-- when all its numbers are copied
+pub copy-done : (rows row : List ℕ) (at j : ℕ) → take j row ≡ take j (drop at rows) → length row ≡ 33 → j ≡ 33 → row ≡ take 33 (drop at rows)
+copy-done rows row at j e n k = sym (take-all 33 row (omega arith)) ∙ rw k at e

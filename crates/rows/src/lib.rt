@@ -43,6 +43,20 @@ fn same<'a>(a: &'a [u16], b: &'a [u16]) -> bool
     equal
 }
 
+// The row that stands at `at`.
+pub fn row_at(rows: &[u16], at: usize) -> [u16; 33]
+    requires { ⌜ at + 33 ≤ length (now rows) ⌝ }
+    ensures { λ r. ⌜ r ≡ take 33 (drop at (now (rows .entry))) ⌝ }
+{
+    let mut row = [0u16; 33];
+    let mut copied: usize = 0;
+    while copied < 33 {
+        row[copied] = rows[at + copied];
+        copied += 1;
+    }
+    row
+}
+
 // Whether `row` is at most the row that stands at `at`.
 pub fn at_most(rows: &[u16], at: usize, row: [u16; 33]) -> bool
     requires { ⌜ at + 33 ≤ length (now rows) ⌝ }

@@ -16,6 +16,7 @@ use Rattle.eos.specs.Vector.{_⊕_, times, zeros, unit}
 use Rattle.eos.specs.Model as eos
 use Rattle.eos.specs.Firing.{ofAct, outerOf, innerOf, summed, pre, post}
 use Rattle.eos.proofs.VectorLaws.{getD-⊕}
+use Rattle.eos.proofs.VectorSums.{length-times, length-unit, length-zeros, long-left, nth-times, nth-zero}
 use Rattle.model.specs.Rules.{nth}
 use Rattle.model.specs.Held.{row, rowIn, tabled, listed, noNet, noEvent, sidesIn, netOf, eventOf, syncIn, actOf, modelOf}
 use Rattle.model.specs.Test.{heldNet, heldAct, emptyPast, usedOf, frameIn}
@@ -30,7 +31,6 @@ use Rattle.model.proofs.TestLoops.{at-any, few-steps, act-range}
 use Rattle.model.proofs.UsedLaws.{types-empty, count-is, net-used, net-held, event-used}
 use Rattle.sides.specs.Held.{holdSides, holdRule}
 use Rattle.sides.specs.Parts.{outerIn, sumRows, netSum, innersOf}
-use Rattle.sides.proofs.SumLaws.{nth-times, length-times}
 
 -- ---- sums, number by number
 
@@ -71,22 +71,6 @@ nth-summed side c f (a ∷ cs) t (suc n) i h =
 
 -- ---- how long the sums are
 
-length-zeros : (n : ℕ) → length (zeros n) ≡ n
-length-zeros zero = refl
-length-zeros (suc n) = ap suc (length-zeros n)
-
-nth-none : (n i : ℕ) → nth (zeros n) i ≡ 0
-nth-none zero i = refl
-nth-none (suc n) zero = refl
-nth-none (suc n) (suc i) = nth-none n i
-
--- the longer of two
-length-more : (x y : List ℕ) → length y ≤ length x → length (x ⊕ y) ≡ length x
-length-more [] [] h = refl
-length-more [] (b ∷ y) h = absurd (omega arith)
-length-more (a ∷ x) [] h = refl
-length-more (a ∷ x) (b ∷ y) h = ap suc (length-more x y (omega arith))
-
 length-both : (w : ℕ) (x y : List ℕ) → length x ≤ w → length y ≤ w → length (x ⊕ y) ≤ w
 length-both w [] y p q = q
 length-both w (a ∷ x) [] p q = p
@@ -109,7 +93,7 @@ unfolding sumRows
 length-rows count table t zero v e = e
 length-rows count table t (suc n) v e =
     let k : length (times (count t) (rowIn 32 table t)) ≤ length v = omega (arith, length-times (count t) (rowIn 32 table t), row-few 32 table t) in
-    length-rows count table (suc t) n (v ⊕ times (count t) (rowIn 32 table t)) (length-more v (times (count t) (rowIn 32 table t)) k ∙ e)
+    length-rows count table (suc t) n (v ⊕ times (count t) (rowIn 32 table t)) (long-left v (times (count t) (rowIn 32 table t)) k ∙ e)
 
 -- ---- one side of a held model's transitions, as the code finds it
 pub record Side (side : eos.Transition → List ℕ) (pick : ObjectNet → List ℕ) : Type 0 where
@@ -176,7 +160,7 @@ module _ (m : Model) (held : Held m) (e : ℕ) (known : e < m .listed) where
         let theirs = zeros (o .places) ⊕ sums in
         let short : length sums ≤ length (zeros (o .places)) =
         rw (length-zeros (o .places)) (length-summed side f (o .places) (λ u. rw (s .row o u) (row-few (o .places) (pick o) u)) counts 0 (o .transitions)) in
-        let long : length theirs ≤ 32 = omega (arith, length-more (zeros (o .places)) sums short, length-zeros (o .places)) in
+        let long : length theirs ≤ 32 = omega (arith, long-left (zeros (o .places)) sums short, length-zeros (o .places)) in
         let all : length mine ≡ 32 = length-rows count (pick o) 0 (o .transitions) (zeros 32) refl in
         let empties = s .room o (net-held m held k (omega (arith, most-nets m held))) in
         let rows : (u i : ℕ) → u < o .transitions → nth (rowIn 32 (pick o) u) i ≡ nth (side (f u)) i =
@@ -186,7 +170,7 @@ module _ (m : Model) (held : Held m) (e : ℕ) (known : e < m .listed) where
         let x = nth-sum count (rowIn 32 (pick o)) 0 (o .transitions) (zeros 32) i in
         let y = total-same count count (λ u. nth (rowIn 32 (pick o) u) i) (λ u. nth (side (f u)) i) 0 (o .transitions) (λ u a b. (refl, rows u i (omega arith))) in
         let z = nth-summed side count f counts 0 (o .transitions) i (counts-are k) in
-        omega (arith, x, y, z, getD-⊕ (zeros (o .places)) sums i, nth-none 32 i, nth-none (o .places) i) in
+        omega (arith, x, y, z, getD-⊕ (zeros (o .places)) sums i, nth-zero 32 i, nth-zero (o .places) i) in
         ext-getD 0 (padded mine) (padded theirs) (length-padded mine ∙ sym (length-padded theirs)) (λ i p. nth-padded mine (omega arith) i ∙ at i ∙ sym (nth-padded theirs long i))
         ∙ ap padded (sym (inner-of k h))
 
@@ -245,10 +229,6 @@ module _ (m : Model) (held : Held m) (e : ℕ) (known : e < m .listed) where
     nth-unit (suc p) zero (a ∷ v) h z = sym (z 0)
     nth-unit (suc p) (suc q) (a ∷ v) h z = nth-unit p q v (omega arith) (λ i. z (suc i))
 
-    length-unit : (p : ℕ) → length (unit p) ≡ suc p
-    length-unit zero = refl
-    length-unit (suc p) = ap suc (length-unit p)
-
     -- one net-token on a place
     idle-is : (p : ℕ) → p < m .places → padded (unit p ⊕ zeros (eos.places (modelOf m))) ≡ set (replicate 32 0) p 1
     unfolding modelOf
@@ -261,7 +241,7 @@ module _ (m : Model) (held : Held m) (e : ℕ) (known : e < m .listed) where
         let short : length v ≤ 32 = length-both 32 (unit p) (zeros n) (omega (arith, length-unit p)) (omega (arith, length-zeros n)) in
         let room : length {A = ℕ} (replicate 32 0) ≡ 32 = length-replicate {A = ℕ} 32 0 in
         let at : (i : ℕ) → nth v i ≡ nth one i =
-        λ i. omega (arith, getD-⊕ (unit p) (zeros n) i, nth-none n i, nth-unit p i (replicate 32 0) (omega arith) (nth-zeros 32)) in
+        λ i. omega (arith, getD-⊕ (unit p) (zeros n) i, nth-zero n i, nth-unit p i (replicate 32 0) (omega arith) (nth-zeros 32)) in
         ext-getD 0 (padded v) one (length-padded v ∙ sym (length-set {A = ℕ} (replicate 32 0) p 1 ∙ room)) (λ i q. nth-padded v short i ∙ at i)
 
     pub outer-is : (kind index : ℕ) → heldAct (frameIn m) kind index ≡ true → padded (ofAct side (modelOf m) (actOf kind index)) ≡ outerIn kind index table

@@ -10,6 +10,7 @@ use lib.ListN.{length, getD, set, replicate}
 use Rattle.model.proofs.TestLoops.{less-one, at-any}
 use Rattle.eos.specs.Vector.{_⊕_, times}
 use Rattle.eos.proofs.VectorLaws.{getD-⊕}
+use Rattle.eos.proofs.VectorSums.{length-times, nth-times}
 use Rattle.model.specs.Rules.{nth}
 use Rattle.text.specs.Repeat.{fill}
 use Rattle.text.specs.Answers.{padded}
@@ -20,15 +21,6 @@ use Rattle.model.specs.declared.ObjectNet.{ObjectNet}
 use Rattle.sides.specs.declared.NetSides.{NetSides}
 use Rattle.model.proofs.TableLaws.{row-at, length-row}
 use Rattle.sides.specs.Parts.{outerIn, sumRows, netSides, netSum}
-
-pub nth-times : (c : ℕ) (x : List ℕ) (i : ℕ) → nth (times c x) i ≡ c * nth x i
-nth-times c [] i = omega arith
-nth-times c (a ∷ x) zero = refl
-nth-times c (a ∷ x) (suc i) = nth-times c x i
-
-pub length-times : (c : ℕ) (x : List ℕ) → length (times c x) ≡ length x
-length-times c [] = refl
-length-times c (a ∷ x) = ap suc (length-times c x)
 
 -- of two vectors of the same length
 pub length-⊕ : (x y : List ℕ) → length x ≡ length y → length (x ⊕ y) ≡ length x

@@ -1,57 +1,24 @@
 -- Rows are like, counted and taken away as their net-tokens are. So a marking's rows, changed by the rows of a step, are those of the
 -- marking after the step.
-use Prim.Native.Nat.{ℕ, suc, _-_, _≤_}
+use Prim.Native.Nat.{ℕ, _-_}
 use mathlib.Core.Path.{_≡_, refl, ap, sym, _∙_}
 use mathlib.Core.Logic.{_↔_}
 use mathlib.Core.List.{List, [], _∷_, _++_, map, map-append}
-use mathlib.Core.Bool.{Bool, true, false, cond, _&&_}
-use native.Mathlib.Omega.{arith}
-use lib.Dec.{leb, eqb, eqb→eq, eqb·suc-suc}
-use lib.ListN.{length, replicate}
-use Rattle.scan.proofs.Basics.{by-test}
-use Rattle.text.specs.Answers.{padded}
-use Rattle.text.proofs.PaddedLaws.{padded-is}
+use mathlib.Core.Bool.{Bool, true, false, cond}
+use lib.Dec.{leb}
 use Rattle.eos.specs.Vector.{eqV, lexV}
 use Rattle.eos.specs.Multiset as M
 use Rattle.eos.specs.Model as eos
 use Rattle.eos.specs.Firing.{after}
-use Rattle.eos.proofs.Basics.{true-is, is-true}
 use Rattle.eos.proofs.MultisetLaws.{within-yes, within-all}
-use Rattle.eos.proofs.VectorLaws.{eqV-refl}
-use Rattle.eos.proofs.SpreadLaws.{vectors}
+use Rattle.eos.proofs.VectorLaws.{vectors}
 use Rattle.eos.proofs.FiringLaws.{alike}
 use Rattle.rows.specs.Rows.{Row, laid}
 use Rattle.marking.specs.Held.{Sizes, rowOf}
 use Rattle.marking.proofs.OrderLaws.{Fitting, All, none, more, map-canonical}
-
--- what follows alike does not count
-eq-behind : (x y z : List ℕ) → length x ≡ length y → eqV (x ++ z) (y ++ z) ≡ eqV x y
-eq-behind [] [] z e = is-true (eqV z z) (eqV-refl z)
-eq-behind [] (b ∷ y) z e = absurd (omega arith)
-eq-behind (a ∷ x) [] z e = absurd (omega arith)
-eq-behind (a ∷ x) (b ∷ y) z e = ap (λ (t : Bool). eqb a b && t) (eq-behind x y z (omega arith))
-
-eq-padded : (x y : List ℕ) → length x ≡ length y → length x ≤ 32 → eqV (padded x) (padded y) ≡ eqV x y
-eq-padded x y e h =
-    let k : length y ≤ 32 = omega arith in
-    rw (padded-is x h, padded-is y k, e) (eq-behind x y (replicate (32 - length y) 0) e)
+use Rattle.marking.proofs.LikeLaws.{like-rows, count-rows}
 
 module _ (z : Sizes) where
-  -- rows are like where their net-tokens are
-  pub like-rows : (t u : eos.NetToken) → Fitting z t → Fitting z u → eqV (rowOf t) (rowOf u) ≡ eos.like t u
-  like-rows t u f g =
-      by-test (eqb (t .place) (u .place))
-      (λ h.
-      let p : t .place ≡ u .place = eqb→eq (t .place) (u .place) (true-is h) in
-      let n : length (t .inside) ≡ length (u .inside) = f .size ∙ ap (λ (p : ℕ). z .size (suc p)) p ∙ sym (g .size) in
-      rw (eqb·suc-suc (t .place) (u .place), h) (eq-padded (t .inside) (u .inside) n (f .room)))
-      (λ h. rw (eqb·suc-suc (t .place) (u .place), h))
-
-  -- a row is counted as often as its net-token
-  pub count-rows : (t : eos.NetToken) (μ : eos.Marking) → Fitting z t → All z μ → M.count eqV (rowOf t) (map rowOf μ) ≡ M.count eos.like t μ
-  count-rows t [] f none = refl
-  count-rows t (u ∷ μ) f (more g a) = rw (like-rows t u f g, count-rows t μ f a)
-
   -- ---- differences and sums
 
   all-without : (t : eos.NetToken) (μ : eos.Marking) → All z μ → All z (M.without eos.like t μ)
@@ -65,7 +32,7 @@ module _ (z : Sizes) where
   map-without : (t : eos.NetToken) (μ : eos.Marking) → Fitting z t → All z μ
       → map rowOf (M.without eos.like t μ) ≡ M.without eqV (rowOf t) (map rowOf μ)
   map-without t [] f none = refl
-  map-without t (u ∷ μ) f (more g a) = go (eos.like t u) (like-rows t u f g) (map-without t μ f a)
+  map-without t (u ∷ μ) f (more g a) = go (eos.like t u) (like-rows z t u f g) (map-without t μ f a)
     where
       go : (b : Bool) → eqV (rowOf t) (rowOf u) ≡ b → map rowOf (M.without eos.like t μ) ≡ M.without eqV (rowOf t) (map rowOf μ)
           → map rowOf (cond b μ (u ∷ M.without eos.like t μ)) ≡ M.without eqV (rowOf t) (rowOf u ∷ map rowOf μ)
@@ -92,7 +59,7 @@ module _ (z : Sizes) where
       → M.every (λ r. leb (M.count eqV r (map rowOf taken)) (M.count eqV r (map rowOf μ))) (map rowOf l)
       ≡ M.every (λ t. leb (M.count eos.like t taken) (M.count eos.like t μ)) l
   every-rows [] taken μ none a b = refl
-  every-rows (t ∷ l) taken μ (more f c) a b = rw (count-rows t taken f a, count-rows t μ f b, every-rows l taken μ c a b)
+  every-rows (t ∷ l) taken μ (more f c) a b = rw (count-rows z t taken f a, count-rows z t μ f b, every-rows l taken μ c a b)
 
   -- the taken net-tokens are in the marking exactly where their rows are among its rows
   pub within-rows : (taken μ : eos.Marking) → All z taken → All z μ → M.Within eos.like taken μ ↔ M.Within eqV (map rowOf taken) (map rowOf μ)

@@ -2,7 +2,7 @@
 use Prim.Native.Nat.{ℕ, _+_, _-_, _*_, _≤_, _<_}
 use mathlib.Core.Path.{_≡_, sym, ap, _∙_, subst, subst₂}
 use mathlib.Core.Bool.{Bool}
-use mathlib.Core.List.{List, [], _∷_, _++_, append-nil}
+use mathlib.Core.List.{List, _∷_, _++_, append-nil}
 use native.Mathlib.Omega.{arith}
 use native.Mathlib.Nat.{add-zero, sub-zero}
 use borrow.Author.Tests.{le-leb}
@@ -12,8 +12,7 @@ use Rattle.eos.specs.Vector.{eqV, lexV}
 use Rattle.eos.specs.Multiset as M
 use Rattle.eos.proofs.MultisetLaws.{bit-self, count-append, within-tail, length-less}
 use Rattle.eos.proofs.OrderLaws.{sort-same, sort-fixed, count-insert}
-use Rattle.eos.proofs.VectorLaws.{lexOrder}
-use Rattle.eos.proofs.SpreadLaws.{vectors}
+use Rattle.eos.proofs.VectorLaws.{vectors, lexOrder}
 use Rattle.rows.specs.Rows.{Row, rowsIn, laid, Kept, Out, takeOut}
 use Rattle.rows.proofs.RowLaws.{length-rows}
 use Rattle.rows.proofs.KeptLaws.{kept-out, rows-out, kept-insert, rows-insert}

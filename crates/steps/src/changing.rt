@@ -7,21 +7,8 @@ ghost use Rattle.eos.specs.Vector.{eqV, lexV};
 ghost use Rattle.eos.specs.Multiset as M;
 ghost use Rattle.rows.specs.Rows.{Kept, laid, rowsIn};
 use rows::insert;
+use rows::row_at;
 use rows::take_out;
-
-// The row that stands at `at`.
-fn row_at(rows: &[u16], at: usize) -> [u16; 33]
-    requires { ⌜ at + 33 ≤ length (now rows) ⌝ }
-    ensures { λ r. ⌜ r ≡ take 33 (drop at (now (rows .entry))) ⌝ }
-{
-    let mut row = [0u16; 33];
-    let mut j: usize = 0;
-    while j < 33 {
-        row[j] = rows[at + j];
-        j += 1;
-    }
-    row
-}
 
 // The taken rows out of the marking's `len` rows, which hold them.
 fn take_rows(rows: &mut [u16; 8448], len: usize, taken: &[u16], take: usize)

@@ -19,11 +19,12 @@ use Rattle.eos.proofs.FiringLaws.{alike, fires-yes}
 use Rattle.eos.proofs.CauseLaws.{no-cause-fires}
 use Rattle.model.specs.Rules.{rightModel}
 use Rattle.model.proofs.RuleLaws.{right-is, few-places}
+use Rattle.model.proofs.PadLaws.{eq-padded}
 use Rattle.marking.specs.Held.{rowOf}
 use Rattle.sides.specs.Held.{holdSides, holdRule}
 use Rattle.verdict.specs.Verdict.{outerRows, innerTakenIn, innerGivenIn, causesIn}
 use Rattle.verdict.proofs.TestLaws.{failing-same}
-use Rattle.verdict.proofs.PadLaws.{eq-padded, le-padded, moved-padded, moved-long}
+use Rattle.verdict.proofs.PadLaws.{le-padded, moved-padded, moved-long}
 use Rattle.verdict.proofs.SideLaws.{Side, pre-side, post-side, outer-side-long, inner-side-long, side-row, net-small}
 use Rattle.verdict.proofs.ProjectionLaws.{outer-long, outer-rows, inner-long, inner-rows}
 use Rattle.verdict.proofs.LikeLaws.{lacking-rows}

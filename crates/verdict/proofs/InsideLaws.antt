@@ -10,6 +10,7 @@ use lib.ListN.{length, getD, take, drop, replicate, length-replicate, length-dro
 use lib.Seq.{drop-cons, ext-getD, length-take-le, getD-take, getD-drop}
 use Rattle.scan.proofs.Basics.{by-test}
 use Rattle.eos.specs.Vector.{_⊕_, zeros}
+use Rattle.eos.proofs.VectorSums.{length-zeros, nth-zero}
 use Rattle.rows.specs.Rows.{Row, rowsIn}
 use Rattle.model.specs.Rules.{nth}
 use Rattle.model.specs.Held.{rowIn}
@@ -18,7 +19,7 @@ use Rattle.model.proofs.SlotLaws.{by-index}
 use Rattle.model.proofs.TableLaws.{row-at, length-row}
 use Rattle.verdict.specs.Verdict.{insideIn, innerRows}
 use Rattle.verdict.specs.Held.{Added, Inner}
-use Rattle.verdict.proofs.SumLaws.{sum-nil, nth-zero, length-zeros, length-added, row-added, row-kept, added-small}
+use Rattle.verdict.proofs.SumLaws.{sum-nil, length-added, row-added, row-kept, added-small}
 use Rattle.verdict.proofs.RowLaws.{first-of, sum-start, sum-turn, sum-end, inner-none, inner-more}
 
 -- ---- one row

@@ -1,39 +1,26 @@
 -- Laws of padded vectors: the tests of vectors do not see the padding.
-use Prim.Native.Nat.{ℕ, _+_, _-_, _≤_}
-use mathlib.Core.Path.{_≡_, refl, sym, ap, _∙_}
-use mathlib.Core.Bool.{Bool, true, false, _&&_}
-use mathlib.Core.List.{List, [], _∷_, _++_}
+use Prim.Native.Nat.{ℕ, _-_, _≤_}
+use mathlib.Core.Path.{_≡_, refl, sym, _∙_}
+use mathlib.Core.Bool.{Bool, true, false}
+use mathlib.Core.List.{List}
 use native.Mathlib.Omega.{arith}
-use lib.Dec.{T, eqb}
-use lib.ListN.{length, replicate}
+use lib.Dec.{T}
+use lib.ListN.{length}
 use lib.Seq.{ext-getD}
-use Rattle.eos.specs.Vector.{_⊕_, _⊖_, leV, eqV}
+use Rattle.eos.specs.Vector.{_⊕_, _⊖_, leV}
 use Rattle.eos.proofs.Basics.{is-true}
-use Rattle.eos.proofs.VectorLaws.{eqV-refl, leV-le, le-leV, getD-⊕}
+use Rattle.eos.proofs.VectorLaws.{leV-le, le-leV, getD-⊕}
+use Rattle.eos.proofs.VectorSums.{long-left}
 use Rattle.text.specs.Answers.{padded}
-use Rattle.text.proofs.PaddedLaws.{padded-is, length-padded, at-padded}
+use Rattle.text.proofs.PaddedLaws.{length-padded, at-padded}
 use Rattle.model.specs.Rules.{nth}
-use Rattle.verdict.proofs.SumLaws.{long-left, length-less, nth-less}
+use Rattle.verdict.proofs.SumLaws.{length-less, nth-less}
 
 -- two tests that hold where the other does
 pub same-test : (a b : Bool) → (T a → T b) → (T b → T a) → a ≡ b
 same-test true b f g = sym (is-true b (f tt))
 same-test false true f g = absurd (g tt)
 same-test false false f g = refl
-
--- ---- equality
-
--- what follows alike does not count
-eq-behind : (x y z : List ℕ) → length x ≡ length y → eqV (x ++ z) (y ++ z) ≡ eqV x y
-eq-behind [] [] z e = is-true (eqV z z) (eqV-refl z)
-eq-behind [] (b ∷ y) z e = absurd (omega arith)
-eq-behind (a ∷ x) [] z e = absurd (omega arith)
-eq-behind (a ∷ x) (b ∷ y) z e = ap (λ (t : Bool). eqb a b && t) (eq-behind x y z (omega arith))
-
-pub eq-padded : (x y : List ℕ) → length x ≡ length y → length x ≤ 32 → eqV (padded x) (padded y) ≡ eqV x y
-eq-padded x y e h =
-    let k : length y ≤ 32 = omega arith in
-    rw (padded-is x h, padded-is y k, e) (eq-behind x y (replicate (32 - length y) 0) e)
 
 -- ---- order
 module _ (x y v w : List ℕ) (p : (i : ℕ) → nth x i ≡ nth v i) (q : (i : ℕ) → nth y i ≡ nth w i) where

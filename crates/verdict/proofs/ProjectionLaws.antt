@@ -12,13 +12,13 @@ use Rattle.eos.specs.Model.{NetToken, Marking, Model, places, net, typeOf, size
 use Rattle.eos.specs.Firing.{outer, insideOf, inner}
 use Rattle.eos.proofs.Basics.{true-is, and-l, and-r}
 use Rattle.eos.proofs.VectorLaws.{getD-⊕}
+use Rattle.eos.proofs.VectorSums.{length-unit, length-zeros, long-right, nth-zero}
 use Rattle.text.specs.Answers.{padded}
 use Rattle.text.proofs.PaddedLaws.{at-padded, length-padded}
 use Rattle.model.specs.Rules.{nth, rightModel}
 use Rattle.model.proofs.RuleLaws.{right-is, few-places}
 use Rattle.marking.specs.Held.{rowOf}
 use Rattle.verdict.specs.Verdict.{outerRows, insideIn, innerRows}
-use Rattle.verdict.proofs.SumLaws.{long-right, length-zeros, nth-zero, length-unit}
 use Rattle.verdict.proofs.RowLaws.{outer-none, outer-more, inner-none, inner-more}
 use Rattle.verdict.proofs.PadLaws.{padded-of}
 use Rattle.verdict.proofs.SideLaws.{net-small}

@@ -8,11 +8,12 @@ use native.Mathlib.Numerals.{add-one}
 use lib.ListN.{length, getD, take, drop, drop-of-length-le}
 use lib.Seq.{drop-cons, getD-take, getD-drop}
 use Rattle.eos.specs.Vector.{_⊕_, zeros, unit}
+use Rattle.eos.proofs.VectorSums.{length-zeros}
 use Rattle.rows.specs.Rows.{Row, rowsIn}
 use Rattle.rows.proofs.RowLaws.{length-rows, row-at}
 use Rattle.verdict.specs.Verdict.{outerRows, insideIn, innerRows}
 use Rattle.verdict.specs.Held.{OnPlaces}
-use Rattle.verdict.proofs.SumLaws.{sum-assoc, at-least, length-zeros, zeros-left, zeros-right}
+use Rattle.verdict.proofs.SumLaws.{sum-assoc, at-least, zeros-left, zeros-right}
 
 -- ---- places
 

@@ -1,5 +1,5 @@
 -- Laws of an event's sides in a right model: how long they are, and where they are held.
-use Prim.Native.Nat.{ℕ, suc, _≤_, _<_}
+use Prim.Native.Nat.{ℕ, _≤_, _<_}
 use mathlib.Core.Path.{_≡_, refl, ap, _∙_}
 use mathlib.Core.Bool.{true}
 use mathlib.Core.List.{List, [], _∷_}
@@ -10,6 +10,7 @@ use lib.Dec.{ltb}
 use Rattle.eos.specs.Vector.{times, zeros, unit}
 use Rattle.eos.specs.Model.{Transition, Act, move, idle, Event, Model, places, net, event, noTransition}
 use Rattle.eos.specs.Firing.{ofAct, outerOf, summed, innerOf, pre, post}
+use Rattle.eos.proofs.VectorSums.{length-times, length-unit, length-zeros, long-left, long-right}
 use Rattle.scan.proofs.Basics.{and-true}
 use Rattle.text.specs.Lines.{every}
 use Rattle.text.specs.Answers.{padded}
@@ -20,7 +21,6 @@ use Rattle.model.proofs.RuleLaws.{sides-long, net-is, right-is, few-nets, right
 use Rattle.model.proofs.SlotLaws.{length-listed, listed-at}
 use Rattle.model.proofs.TableLaws.{tabled-row}
 use Rattle.sides.specs.Held.{holdSides}
-use Rattle.verdict.proofs.SumLaws.{long-left, long-right, length-zeros, length-unit}
 
 -- a side of a transition is as long as its net has places
 abbrev pub Side : (Transition → List ℕ) → Type 0
@@ -31,10 +31,6 @@ pre-side size t h = sides-long size t h .0
 
 pub post-side : Side post
 post-side size t h = sides-long size t h .1
-
-length-times : (c : ℕ) (x : List ℕ) → length (times c x) ≡ length x
-length-times c [] = refl
-length-times c (a ∷ x) = ap suc (length-times c x)
 
 module _ (side : Transition → List ℕ) (s : Side side) where
   summed-long : (size : ℕ) (cs : List ℕ) (ts : List Transition) → every (rightSides size) ts ≡ true → length (summed side cs ts) ≤ size

@@ -1,5 +1,5 @@
 -- What the verdict is asked of holds of every right model's rule, and of the rows of right net-tokens.
-use Prim.Native.Nat.{ℕ, zero, suc, _+_, _-_, _*_, _/_, _%_, _^_, _≤_, _<_}
+use Prim.Native.Nat.{ℕ, suc, _+_, _-_, _*_, _/_, _%_, _^_, _≤_, _<_}
 use mathlib.Core.Path.{_≡_, refl, ap, _∙_}
 use mathlib.Core.Bool.{true}
 use mathlib.Core.List.{List, [], _∷_, map}
@@ -14,6 +14,7 @@ use Rattle.eos.specs.Model.{NetToken, Marking, Transition, Model, places, net, 
 use Rattle.eos.specs.Firing.{summed, innerOf, pre, post}
 use Rattle.eos.proofs.Basics.{true-is, and-l, and-r, and-i}
 use Rattle.eos.proofs.VectorLaws.{getD-⊕}
+use Rattle.eos.proofs.VectorSums.{nth-times, nth-zero}
 use Rattle.scan.proofs.Basics.{and-true}
 use Rattle.text.specs.Lines.{every}
 use Rattle.text.specs.Answers.{padded}
@@ -31,7 +32,6 @@ use Rattle.marking.specs.Reading.{Limits, rightNetToken}
 use Rattle.marking.proofs.HoldLaws as hold
 use Rattle.sides.specs.Held.{holdSides, holdRule}
 use Rattle.verdict.specs.Held.{Sound, OnPlaces, Placed}
-use Rattle.verdict.proofs.SumLaws.{nth-zero}
 use Rattle.verdict.proofs.SideLaws.{inner-side-long, net-small, Side, pre-side, post-side}
 use Rattle.verdict.proofs.ProjectionLaws.{fit}
 
@@ -46,11 +46,6 @@ pre-bytes size t h i = small-at (t .pre) (list-is size byte (t .pre) (sides-are 
 
 post-bytes : Bytes post
 post-bytes size t h i = small-at (t .post) (list-is size byte (t .post) (sides-are size t h .1) .1) i
-
-nth-times : (c : ℕ) (x : List ℕ) (i : ℕ) → nth (times c x) i ≡ c * nth x i
-nth-times c [] i = omega arith
-nth-times c (a ∷ x) zero = refl
-nth-times c (a ∷ x) (suc i) = nth-times c x i
 
 module _ (side : Transition → List ℕ) (s : Side side) (b : Bytes side) where
   summed-small : (size : ℕ) (cs : List ℕ) (ts : List Transition) → every byte cs ≡ true → every (rightSides size) ts ≡ true

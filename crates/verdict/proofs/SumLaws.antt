@@ -8,6 +8,7 @@ use lib.ListN.{length, take, drop, set, length-append, length-drop, List·getD-a
 use lib.Seq.{ext-getD, getD-append-add, getD-drop, take-suc, length-take-le}
 use Rattle.eos.specs.Vector.{_⊕_, _⊖_, zeros, unit}
 use Rattle.eos.proofs.VectorLaws.{getD-⊕}
+use Rattle.eos.proofs.VectorSums.{length-zeros, long-left, nth-zero}
 use Rattle.model.specs.Rules.{nth}
 use Rattle.model.specs.Held.{rowIn}
 use Rattle.model.proofs.SlotLaws.{by-index}
@@ -23,33 +24,12 @@ sum-assoc (a ∷ x) [] z = refl
 sum-assoc (a ∷ x) (b ∷ y) [] = refl
 sum-assoc (a ∷ x) (b ∷ y) (c ∷ z) = let e : a + (b + c) ≡ a + b + c = omega arith in ap₂ _∷_ e (sum-assoc x y z)
 
--- a sum is as long as its longer part
-pub long-right : (x y : List ℕ) → length x ≤ length y → length (x ⊕ y) ≡ length y
-long-right [] y h = refl
-long-right (a ∷ x) [] h = absurd (omega arith)
-long-right (a ∷ x) (b ∷ y) h = ap suc (long-right x y (omega arith))
-
-pub long-left : (x y : List ℕ) → length y ≤ length x → length (x ⊕ y) ≡ length x
-long-left [] [] h = refl
-long-left [] (b ∷ y) h = absurd (omega arith)
-long-left (a ∷ x) [] h = refl
-long-left (a ∷ x) (b ∷ y) h = ap suc (long-left x y (omega arith))
-
 pub at-least : (x y : List ℕ) → length y ≤ length (x ⊕ y)
 at-least [] y = omega arith
 at-least (a ∷ x) [] = omega arith
 at-least (a ∷ x) (b ∷ y) = omega (arith, at-least x y)
 
 -- ---- zeros and one
-
-pub length-zeros : (n : ℕ) → length (zeros n) ≡ n
-length-zeros zero = refl
-length-zeros (suc n) = ap suc (length-zeros n)
-
-pub nth-zero : (n i : ℕ) → nth (zeros n) i ≡ 0
-nth-zero zero i = refl
-nth-zero (suc n) zero = refl
-nth-zero (suc n) (suc i) = nth-zero n i
 
 pub zeros-left : (n : ℕ) (y : List ℕ) → n ≤ length y → zeros n ⊕ y ≡ y
 zeros-left zero y h = refl
@@ -60,10 +40,6 @@ pub zeros-right : (n : ℕ) (x : List ℕ) → n ≤ length x → x ⊕ zeros n 
 zeros-right zero x h = sum-nil x
 zeros-right (suc n) [] h = absurd (omega arith)
 zeros-right (suc n) (a ∷ x) h = let e : a + 0 ≡ a = omega arith in ap₂ _∷_ e (zeros-right n x (omega arith))
-
-pub length-unit : (p : ℕ) → length (unit p) ≡ suc p
-length-unit zero = refl
-length-unit (suc p) = ap suc (length-unit p)
 
 unit-small : (p i : ℕ) → nth (unit p) i ≤ 1
 unit-small zero zero = omega arith

@@ -12,11 +12,12 @@ use lib.Seq.{drop-cons}
 use Rattle.eos.specs.Vector.{_⊕_, _⊖_, leV, eqV}
 use Rattle.eos.specs.Causes.{failing}
 use Rattle.eos.proofs.VectorLaws.{getD-⊕}
+use Rattle.eos.proofs.VectorSums.{long-left}
 use Rattle.rows.proofs.Compare.{eq-on, eq-end}
 use Rattle.model.specs.Rules.{nth}
 use Rattle.model.specs.Held.{rowIn}
 use Rattle.model.proofs.TableLaws.{row-at, length-row}
-use Rattle.verdict.proofs.SumLaws.{length-less, nth-less, long-left}
+use Rattle.verdict.proofs.SumLaws.{length-less, nth-less}
 
 -- ---- the first number at which a test fails
 module _ (d n : ℕ) (f : ℕ → Bool) where

@@ -11,20 +11,7 @@ ghost use Rattle.verdict.specs.Verdict.{lackingRows};
 ghost use Rattle.verdict.specs.Held.{written};
 use rows::count;
 use rows::like;
-
-// The row at `at`.
-fn row_at(rows: &[u16], at: usize) -> [u16; 33]
-    requires { ⌜ at + 33 ≤ length (now rows) ⌝ }
-    ensures { λ r. ⌜ r ≡ take 33 (drop at (now (rows .entry))) ⌝ }
-{
-    let mut row = [0u16; 33];
-    let mut k = 0;
-    while k < 33 {
-        row[k] = rows[at + k];
-        k += 1;
-    }
-    row
-}
+use rows::row_at;
 
 // How many of the first n rows are `row`.
 fn seen(rows: &[u16], n: usize, row: [u16; 33]) -> usize

@@ -7,10 +7,11 @@ use native.Mathlib.Omega.{arith}
 use borrow.Author.Needs.{needs}
 use lib.ListN.{length, drop, getD, take, length-set}
 use Rattle.eos.specs.Vector.{_⊕_, unit}
+use Rattle.eos.proofs.VectorSums.{nth-zero}
 use Rattle.rows.specs.Rows.{rowsIn}
 use Rattle.model.specs.Rules.{nth}
 use Rattle.verdict.specs.Verdict.{outerRows}
-use Rattle.verdict.proofs.SumLaws.{put-unit, unit-more, nth-zero}
+use Rattle.verdict.proofs.SumLaws.{put-unit, unit-more}
 use Rattle.verdict.proofs.RowLaws.{place-at, first-of, sum-start, sum-turn, sum-end, placeIn, outer-none, outer-more}
 
 abbrev Inv-loop : tie.InvT-loop

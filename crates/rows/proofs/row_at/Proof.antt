@@ -1,18 +1,18 @@
--- `row_at` copies a row. The loop's invariant: its first j numbers are copied.
+-- `row_at` copies a row. The loop's invariant: that many numbers are copied.
 use borrow.Author.Needs.{needs}
-use Rattle.steps.proofs.changing.row_at.Statement.{statement}
-use Rattle.steps.proofs.changing.row_at.Tie as tie
+use Rattle.rows.proofs.row_at.Statement.{statement}
+use Rattle.rows.proofs.row_at.Tie as tie
 use Prim.Native.Nat.{_≤_, _-_}
 use mathlib.Core.Path.{_≡_, refl, _∙_}
 use native.Mathlib.Omega.{arith}
 use lib.ListN.{length, take, drop, length-set}
-use Rattle.steps.proofs.RowLaws.{copy-turn, row-done}
+use Rattle.rows.proofs.Shift.{copy-turn, copy-done}
 
 abbrev Inv-loop : tie.InvT-loop
-Inv-loop rows at row₀ j₀ row j = (j ≤ 33) × (length row ≡ 33) × (take j row ≡ take j (drop at rows))
+Inv-loop rows at row₀ copied₀ row copied = (copied ≤ 33) × (length row ≡ 33) × (take copied row ≡ take copied (drop at rows))
 
 abbrev μ-loop : tie.MeasureT-loop
-μ-loop rows at row₀ j₀ row j = 33 - j
+μ-loop rows at row₀ copied₀ row copied = 33 - copied
 
 loop-holds : tie.Need-loop-holds Inv-loop μ-loop
 loop-holds c = (omega arith, refl, refl)
@@ -32,8 +32,8 @@ mul-row-2 c = search needs
 array-write-row : tie.Need-array-write-row Inv-loop μ-loop
 array-write-row c = search needs
 
-add-j : tie.Need-add-j Inv-loop μ-loop
-add-j c = search needs
+add-copied : tie.Need-add-copied Inv-loop μ-loop
+add-copied c = search needs
 
 loop-less : tie.Need-loop-less Inv-loop μ-loop
 loop-less c = search needs
@@ -42,13 +42,13 @@ loop-again : tie.Need-loop-again Inv-loop μ-loop
 loop-again c =
     let l = c .before .before .loop in
     let a = c .before .before .before .args in
-    (omega arith, length-set (l .row) _ _ ∙ l .inv .1, copy-turn (a .rows .now) (l .row) (a .at) (l .j) (l .inv .2) (omega arith) (omega arith))
+    (omega arith, length-set (l .row) _ _ ∙ l .inv .1, copy-turn (a .rows .now) (l .row) (a .at) (l .copied) (l .inv .2) (omega arith) (omega arith))
 
 returns : tie.Need-returns Inv-loop μ-loop
 returns c =
     let l = c .before .loop in
     let a = c .before .before .args in
-    row-done (a .rows .now) (l .row) (a .at) (l .j) (l .inv .2) (l .inv .1) (omega arith)
+    copy-done (a .rows .now) (l .row) (a .at) (l .copied) (l .inv .2) (l .inv .1) (omega arith)
 
 pub row-at-spec : {M : Type 1} → statement M
 row-at-spec =
@@ -62,7 +62,7 @@ row-at-spec =
     shared-slice-read-row
     mul-row-2
     array-write-row
-    add-j
+    add-copied
     loop-less
     loop-again
     returns)
