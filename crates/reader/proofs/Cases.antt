@@ -1,5 +1,5 @@
--- The printers compute: the model, the weight file and the two steps of 01's listing ("One listing, whole"), byte for byte; a minus sign,
--- a model with no net, a black token.
+-- The printers compute: the model and the weight file of 01's listing ("One listing, whole"), byte for byte; a minus sign, a model with
+-- no net.
 use Prim.Native.Nat.{ℕ}
 use mathlib.Core.Path.{_≡_, refl}
 use mathlib.Core.List.{List, [], _∷_}
@@ -7,11 +7,10 @@ use lib.IntN.{pos, negsuc}
 use Rattle.scan.specs.Bytes.{bytes}
 use Rattle.text.specs.Lists.{stopOf}
 use Rattle.text.specs.Printed.{decimalOf, decimal, signedText, itemsText, endText, texts, numberText, listText, weightsText, tokenText}
-use Rattle.eos.specs.Model.{NetToken, Marking, Transition, move, idle, Model}
-use Rattle.eos.specs.Firing.{Step}
+use Rattle.eos.specs.Model.{NetToken, Transition, move, idle, Model}
 use Rattle.plant.specs.Printed.{sidesText, netText, actText, eventText, plantText}
 use Rattle.marking.specs.Printed.{netTokenText, blockText, markingText}
-use Rattle.reader.specs.Printed.{modelText, weightFileText, stepText}
+use Rattle.reader.specs.Printed.{modelText, weightFileText}
 
 abbrev onward : Transition
 onward = record { pre = 1 ∷ 0 ∷ []; post = 0 ∷ 1 ∷ [] }
@@ -28,17 +27,11 @@ listing = record {
 abbrev token : ℕ → List ℕ → NetToken
 token p x = record { place = p; inside = x }
 
-abbrev step : ℕ → Marking → Marking → Step
-step e taken given = record { event = e; taken = taken; given = given }
-
 pub printed-cases :
     (modelText (record { model = listing; start = token 0 (1 ∷ 0 ∷ []) ∷ token 0 (0 ∷ 0 ∷ []) ∷ [] })
     ≡ bytes "eos=1\nnets=1\nplaces=2\ntype=1,1\nmoves=1\npre=1,0\npost=0,1\ninner=2\nsteps=1\npre=1,0\npost=0,1\nevents=2\nevent=1\nsync=1\nidle=2\nsync=1\nstart=2\ntoken=1:1,0\ntoken=1:0,0\n")
     × (weightFileText (record { outward = pos 1 ∷ pos 1 ∷ []; inward = (pos 1 ∷ pos 1 ∷ []) ∷ [] }) ≡ bytes "inv=1\nouter=1,1\ninner=1,1\n")
-    × (stepText (step 0 (token 0 (1 ∷ 0 ∷ []) ∷ []) (token 1 (0 ∷ 1 ∷ []) ∷ [])) ≡ bytes "fire=1\ntake=1\ntoken=1:1,0\ngive=1\ntoken=2:0,1\n")
-    × (stepText (step 0 (token 0 (0 ∷ 0 ∷ []) ∷ []) (token 1 (0 ∷ 0 ∷ []) ∷ [])) ≡ bytes "fire=1\ntake=1\ntoken=1:0,0\ngive=1\ntoken=2:0,0\n")
     × (weightFileText (record { outward = negsuc 999 ∷ pos 0 ∷ []; inward = [] }) ≡ bytes "inv=1\nouter=-1000,0\n")
-    × (stepText (step 1 [] (token 2 [] ∷ [])) ≡ bytes "fire=2\ntake=0\ngive=1\ntoken=3:\n")
-unfolding modelText weightFileText stepText plantText sidesText netText actText eventText markingText blockText netTokenText numberText listText weightsText tokenText
+unfolding modelText weightFileText plantText sidesText netText actText eventText markingText blockText netTokenText numberText listText weightsText tokenText
     texts endText itemsText stopOf signedText decimal decimalOf
-printed-cases = (refl, refl, refl, refl, refl, refl)
+printed-cases = (refl, refl, refl)

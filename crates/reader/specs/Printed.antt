@@ -1,12 +1,10 @@
--- The texts of 01's files ("Files"): a model with its start, a weight file, a step. A text numbers events from 1.
-use Prim.Native.Nat.{suc}
+-- The texts of 01's files ("Files"): a model with its start, a weight file.
 use mathlib.Core.List.{_++_}
 use Rattle.scan.specs.Bytes.{Text, bytes}
 use Rattle.text.specs.Printed.{texts, numberText, weightsText}
-use Rattle.eos.specs.Firing.{Step}
 use Rattle.eos.specs.Weights.{Weights}
 use Rattle.plant.specs.Printed.{plantText}
-use Rattle.marking.specs.Printed.{blockText, markingText}
+use Rattle.marking.specs.Printed.{markingText}
 use Rattle.reader.specs.Reading.{Loaded}
 
 unfoldable pub modelText : Loaded → Text
@@ -15,7 +13,3 @@ modelText l = plantText (l .model) ++ markingText (l .start)
 -- `inv=1`, `outer`, then per net `inner`
 unfoldable pub weightFileText : Weights → Text
 weightFileText w = numberText (bytes "inv=") 1 ++ (weightsText (bytes "outer=") (w .outward) ++ texts (weightsText (bytes "inner=")) (w .inward))
-
--- `fire`, then `take` and `give`, each with its token lines
-unfoldable pub stepText : Step → Text
-stepText s = numberText (bytes "fire=") (suc (s .event)) ++ (blockText (bytes "take=") (s .taken) ++ blockText (bytes "give=") (s .given))

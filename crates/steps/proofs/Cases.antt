@@ -1,4 +1,5 @@
--- The reading of steps computes: the two steps of 01's listing ("One listing, whole"), and a count over 01's limit, which the rule takes.
+-- Reading and printing steps computes: the two steps of 01's listing ("One listing, whole"), a count over 01's limit, which the rule
+-- takes, and a black token.
 use Prim.Native.Nat.{ℕ}
 use mathlib.Core.Path.{_≡_, refl}
 use mathlib.Core.List.{List, [], _∷_}
@@ -6,12 +7,15 @@ use Rattle.scan.specs.Bytes.{Text, bytes, starts}
 use Rattle.numbers.specs.Number.{digits, numberOf, number, ended, item}
 use Rattle.text.specs.Lists.{stopOf, before, items, listEnd}
 use Rattle.text.specs.Lines.{got, bad, fault, then, need, many, judged, behind, readNumber}
+use Rattle.text.specs.Printed.{decimalOf, decimal, itemsText, endText, texts, numberText, tokenText}
 use Rattle.text.specs.Token.{countsAt, tokenAt, readToken}
 use Rattle.eos.specs.Model.{NetToken, Marking}
 use Rattle.eos.specs.Firing.{Step}
 use Rattle.marking.specs.Held.{Sizes}
+use Rattle.marking.specs.Printed.{netTokenText, blockText}
 use Rattle.marking.specs.Reading.{limits, free, readNetToken, readBlock}
 use Rattle.steps.specs.Reading.{readStep}
+use Rattle.steps.specs.Printed.{stepText}
 
 -- two places with two counts each, as in the listing
 abbrev listed : Sizes
@@ -43,3 +47,10 @@ pub step-cases :
 unfolding readStep readBlock readNetToken readToken tokenAt countsAt readNumber behind judged many need then listEnd items item before ended stopOf
     number numberOf digits starts
 step-cases = (refl, refl, refl, refl, refl, refl)
+
+pub printed-cases :
+    (stepText (step 0 (token 0 (1 ∷ 0 ∷ []) ∷ []) (token 1 (0 ∷ 1 ∷ []) ∷ [])) ≡ first)
+    × (stepText (step 0 (token 0 (0 ∷ 0 ∷ []) ∷ []) (token 1 (0 ∷ 0 ∷ []) ∷ [])) ≡ second)
+    × (stepText (step 1 [] (token 2 [] ∷ [])) ≡ bytes "fire=2\ntake=0\ngive=1\ntoken=3:\n")
+unfolding stepText blockText netTokenText numberText tokenText texts endText itemsText stopOf decimal decimalOf
+printed-cases = (refl, refl, refl)
