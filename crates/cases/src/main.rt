@@ -7,6 +7,7 @@ use reader::ReadAnswer;
 use reader::WriteAnswer;
 
 mod reading;
+mod sharing;
 
 fn put(text: &[u8]) {
     io::write_all(STDOUT_FILENO, text);
@@ -59,6 +60,18 @@ fn write_case(name: &[u8], m: Model, k: Marking, out: &mut [u8]) {
     put(b"\n");
 }
 
+// 256 net-tokens on place 1; their counts are those of the rows.
+fn full(rows: [u16; 8448]) -> Marking {
+    let mut k = Marking { len: 256, rows };
+    let mut i = 0;
+    while i < 256 {
+        k.rows[i * 33] = 1;
+        i += 1;
+    }
+    k
+}
+
 fn main() {
     reading::run();
+    sharing::run();
 }
