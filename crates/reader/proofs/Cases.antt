@@ -1,16 +1,15 @@
--- The printers compute: the model and the weight file of 01's listing ("One listing, whole"), byte for byte; a minus sign, a model with
--- no net.
+-- The printer computes: the model of 01's listing ("One listing, whole"), byte for byte.
 use Prim.Native.Nat.{ℕ}
 use mathlib.Core.Path.{_≡_, refl}
 use mathlib.Core.List.{List, [], _∷_}
 use lib.IntN.{pos, negsuc}
 use Rattle.scan.specs.Bytes.{bytes}
 use Rattle.text.specs.Lists.{stopOf}
-use Rattle.text.specs.Printed.{decimalOf, decimal, signedText, itemsText, endText, texts, numberText, listText, weightsText, tokenText}
+use Rattle.text.specs.Printed.{decimalOf, decimal, itemsText, endText, texts, numberText, listText, tokenText}
 use Rattle.eos.specs.Model.{NetToken, Transition, move, idle, Model}
 use Rattle.plant.specs.Printed.{sidesText, netText, actText, eventText, plantText}
 use Rattle.marking.specs.Printed.{netTokenText, blockText, markingText}
-use Rattle.reader.specs.Printed.{modelText, weightFileText}
+use Rattle.reader.specs.Printed.{modelText}
 
 abbrev onward : Transition
 onward = record { pre = 1 ∷ 0 ∷ []; post = 0 ∷ 1 ∷ [] }
@@ -27,11 +26,9 @@ listing = record {
 abbrev token : ℕ → List ℕ → NetToken
 token p x = record { place = p; inside = x }
 
-pub printed-cases :
-    (modelText (record { model = listing; start = token 0 (1 ∷ 0 ∷ []) ∷ token 0 (0 ∷ 0 ∷ []) ∷ [] })
-    ≡ bytes "eos=1\nnets=1\nplaces=2\ntype=1,1\nmoves=1\npre=1,0\npost=0,1\ninner=2\nsteps=1\npre=1,0\npost=0,1\nevents=2\nevent=1\nsync=1\nidle=2\nsync=1\nstart=2\ntoken=1:1,0\ntoken=1:0,0\n")
-    × (weightFileText (record { outward = pos 1 ∷ pos 1 ∷ []; inward = (pos 1 ∷ pos 1 ∷ []) ∷ [] }) ≡ bytes "inv=1\nouter=1,1\ninner=1,1\n")
-    × (weightFileText (record { outward = negsuc 999 ∷ pos 0 ∷ []; inward = [] }) ≡ bytes "inv=1\nouter=-1000,0\n")
-unfolding modelText weightFileText plantText sidesText netText actText eventText markingText blockText netTokenText numberText listText weightsText tokenText
-    texts endText itemsText stopOf signedText decimal decimalOf
-printed-cases = (refl, refl, refl)
+pub printed-case :
+    modelText (record { model = listing; start = token 0 (1 ∷ 0 ∷ []) ∷ token 0 (0 ∷ 0 ∷ []) ∷ [] })
+    ≡ bytes "eos=1\nnets=1\nplaces=2\ntype=1,1\nmoves=1\npre=1,0\npost=0,1\ninner=2\nsteps=1\npre=1,0\npost=0,1\nevents=2\nevent=1\nsync=1\nidle=2\nsync=1\nstart=2\ntoken=1:1,0\ntoken=1:0,0\n"
+unfolding modelText plantText sidesText netText actText eventText markingText blockText netTokenText numberText listText tokenText texts
+    endText itemsText stopOf decimal decimalOf
+printed-case = refl

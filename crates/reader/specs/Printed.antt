@@ -1,4 +1,4 @@
--- The texts of 01's files ("Files"): a model with its start, a weight file.
+-- The text of a model file (01, "Files"): a model with its start.
 use mathlib.Core.List.{_++_}
 use Rattle.scan.specs.Bytes.{Text, bytes}
 use Rattle.text.specs.Printed.{texts, numberText, weightsText}
@@ -9,7 +9,3 @@ use Rattle.reader.specs.Reading.{Loaded}
 
 unfoldable pub modelText : Loaded → Text
 modelText l = plantText (l .model) ++ markingText (l .start)
-
--- `inv=1`, `outer`, then per net `inner`
-unfoldable pub weightFileText : Weights → Text
-weightFileText w = numberText (bytes "inv=") 1 ++ (weightsText (bytes "outer=") (w .outward) ++ texts (weightsText (bytes "inner=")) (w .inward))

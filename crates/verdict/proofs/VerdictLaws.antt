@@ -9,14 +9,14 @@ use borrow.Author.Tests.{le-leb, lt-leb}
 use lib.Dec.{leb}
 use lib.ListN.{length}
 use Rattle.eos.specs.Vector.{leV, eqV}
-use Rattle.eos.specs.Causes.{Refusal, first, unless, at, failing}
+use Rattle.eos.specs.Causes.{Refusal, first, unless, at, failing, numbered}
 use Rattle.rows.specs.Rows.{Row}
 use Rattle.model.specs.Held.{rowIn}
 use Rattle.sides.specs.declared.Rule.{Rule}
 use Rattle.verdict.specs.declared.Verdict.{Verdict}
 use Rattle.verdict.specs.declared.Verdict.the-variants.{Fires, Turned}
 use Rattle.verdict.specs.Verdict.{outerRows, innerTakenIn, innerGivenIn, lackingRows, causesIn, verdictOf}
-use Rattle.verdict.specs.Held.{written, Inner, balanced}
+use Rattle.verdict.specs.Held.{Inner, balanced}
 use Rattle.verdict.proofs.TestLaws.{failing-same}
 
 -- ---- one test
@@ -34,12 +34,12 @@ module _ (n k : ℕ) (l : List (Option Refusal)) where
   stop b e = rw e
 
 module _ (n : ℕ) (l : List (Option Refusal)) where
-  pub skip-at : (o : Option ℕ) → written o ≡ 0 → answer (at n o ∷ l) ≡ answer l
+  pub skip-at : (o : Option ℕ) → numbered o ≡ 0 → answer (at n o ∷ l) ≡ answer l
   unfolding first at
   skip-at none e = refl
   skip-at (some i) e = absurd (omega arith)
 
-  pub stop-at : (o : Option ℕ) (v : ℕ) → v ≡ written o → (v ≡ 0 → ⊥) → answer (at n o ∷ l) ≡ Turned n v
+  pub stop-at : (o : Option ℕ) (v : ℕ) → v ≡ numbered o → (v ≡ 0 → ⊥) → answer (at n o ∷ l) ≡ Turned n v
   unfolding first at verdictOf
   stop-at none v e h = absurd (h e)
   stop-at (some i) v e h = ap (Turned n) (sym e)
@@ -50,12 +50,12 @@ nothing = refl
 
 -- ---- the tests against the marking
 module _ (o : Option ℕ) (take give len : ℕ) where
-  pub on-12 : written o ≡ 0 → 256 + take < len + give → answer (at 11 o ∷ unless (leb (len - take + give) 256) 12 (3 + take) ∷ []) ≡ Turned 12 (take + 3)
+  pub on-12 : numbered o ≡ 0 → 256 + take < len + give → answer (at 11 o ∷ unless (leb (len - take + give) 256) 12 (3 + take) ∷ []) ≡ Turned 12 (take + 3)
   on-12 e h =
       let k : 3 + take ≡ take + 3 = omega arith in
       skip-at 11 _ o e ∙ stop 12 (3 + take) [] _ (lt-leb (len - take + give) 256 (omega arith)) ∙ ap (Turned 12) k
 
-  pub on-fires : written o ≡ 0 → give ≤ 256 → len + give ≤ 256 + take → answer (at 11 o ∷ unless (leb (len - take + give) 256) 12 (3 + take) ∷ []) ≡ Fires
+  pub on-fires : numbered o ≡ 0 → give ≤ 256 → len + give ≤ 256 + take → answer (at 11 o ∷ unless (leb (len - take + give) 256) 12 (3 + take) ∷ []) ≡ Fires
   on-fires e g h = skip-at 11 _ o e ∙ skip 12 (3 + take) [] _ (le-leb (len - take + give) 256 (omega arith)) ∙ nothing
 
 -- ---- the tests of nets, over tables of the inner projections
@@ -98,15 +98,15 @@ module _ (q : Rule) (taken given rows : List Row) where
       unfolding causesIn
       outer-passed = skip 8 2 _ (eqV (outerRows taken) (q .pre .outer)) a ∙ skip 8 (3 + length taken) _ (eqV (outerRows given) (q .post .outer)) b
 
-      pub stop-9 : (v : ℕ) → v ≡ written (failing (q .nets) 0 (innerTakenIn q taken)) → (v ≡ 0 → ⊥) → answer (causesIn q taken given rows) ≡ Turned 9 v
+      pub stop-9 : (v : ℕ) → v ≡ numbered (failing (q .nets) 0 (innerTakenIn q taken)) → (v ≡ 0 → ⊥) → answer (causesIn q taken given rows) ≡ Turned 9 v
       stop-9 v e h = outer-passed ∙ stop-at 9 _ (failing (q .nets) 0 (innerTakenIn q taken)) v e h
 
-      module _ (c : written (failing (q .nets) 0 (innerTakenIn q taken)) ≡ 0) where
-        pub stop-10 : (v : ℕ) → v ≡ written (failing (q .nets) 0 (innerGivenIn q taken given)) → (v ≡ 0 → ⊥) → answer (causesIn q taken given rows) ≡ Turned 10 v
+      module _ (c : numbered (failing (q .nets) 0 (innerTakenIn q taken)) ≡ 0) where
+        pub stop-10 : (v : ℕ) → v ≡ numbered (failing (q .nets) 0 (innerGivenIn q taken given)) → (v ≡ 0 → ⊥) → answer (causesIn q taken given rows) ≡ Turned 10 v
         stop-10 v e h =
             outer-passed ∙ skip-at 9 _ (failing (q .nets) 0 (innerTakenIn q taken)) c ∙ stop-at 10 _ (failing (q .nets) 0 (innerGivenIn q taken given)) v e h
 
-        pub go-on : (t g n : ℕ) → length taken ≡ t → length given ≡ g → length rows ≡ n → written (failing (q .nets) 0 (innerGivenIn q taken given)) ≡ 0
+        pub go-on : (t g n : ℕ) → length taken ≡ t → length given ≡ g → length rows ≡ n → numbered (failing (q .nets) 0 (innerGivenIn q taken given)) ≡ 0
             → answer (causesIn q taken given rows) ≡ answer (at 11 (lackingRows rows 2 [] taken) ∷ unless (leb (n - t + g) 256) 12 (3 + t) ∷ [])
         go-on t g n x y z e =
             rw (← x, ← y, ← z)

@@ -33,11 +33,6 @@ pub record Placed (n : ℕ) (l : List ℕ) : Type 0 where
 
 -- ---- what the parts answer
 
--- an index as it is written, from 1; 0 for none
-abbrev pub written : Option ℕ → ℕ
-written none = 0
-written (some i) = suc i
-
 -- the inside of a row added to the sums of its net, which are row n of a table
 pub record Added (types : List ℕ) (r : Row) (before after : List ℕ) : Type 0 where
   pub long : length after ≡ 256

@@ -8,7 +8,7 @@ ghost use Rattle.eos.specs.Vector.{eqV};
 ghost use Rattle.eos.specs.Multiset as M;
 ghost use Rattle.rows.specs.Rows.{rowsIn, Kept};
 ghost use Rattle.verdict.specs.Verdict.{lackingRows};
-ghost use Rattle.verdict.specs.Held.{written};
+ghost use Rattle.eos.specs.Causes.{numbered};
 use rows::count;
 use rows::like;
 use rows::row_at;
@@ -42,7 +42,7 @@ fn has(taken: &[u16], i: usize, rows: &[u16], len: usize) -> bool
 // The line of the first of the rows taken of which the marking has too few; 0 where there is none.
 pub fn lacking(taken: &[u16], n: usize, rows: &[u16], len: usize) -> usize
     requires { ⌜ (n ≤ 256) × (length (now taken) ≡ 8448) × Kept len (now rows) ⌝ }
-    ensures { λ r. ⌜ r ≡ written (lackingRows (rowsIn len (now (rows .entry))) 2 [] (rowsIn n (now (taken .entry)))) ⌝ }
+    ensures { λ r. ⌜ r ≡ numbered (lackingRows (rowsIn len (now (rows .entry))) 2 [] (rowsIn n (now (taken .entry)))) ⌝ }
 {
     let mut i = 0;
     while i < n {

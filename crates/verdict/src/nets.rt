@@ -3,9 +3,9 @@ ghost use mathlib.Core.Path.{_≡_};
 ghost use Prim.Native.Nat.{ℕ, _+_, _-_, _*_, _^_, _≤_, _<_};
 ghost use lib.ListN.{length, getD};
 ghost use Rattle.eos.specs.Vector.{leV};
-ghost use Rattle.eos.specs.Causes.{failing};
+ghost use Rattle.eos.specs.Causes.{failing, numbered};
 ghost use Rattle.model.specs.Held.{rowIn};
-ghost use Rattle.verdict.specs.Held.{written, balanced};
+ghost use Rattle.verdict.specs.Held.{balanced};
 
 // Whether net n is asked no more than is held of it.
 fn enough<'a>(n: usize, asked: &'a [u64], held: &'a [u64]) -> bool
@@ -26,7 +26,7 @@ fn enough<'a>(n: usize, asked: &'a [u64], held: &'a [u64]) -> bool
 // The first net of which more is asked than is held, from 1; 0 where there is none.
 pub fn short_net<'a>(nets: usize, asked: &'a [u64], held: &'a [u64]) -> usize
     requires { ⌜ (nets ≤ 8) × (length (now asked) ≡ 256) × (length (now held) ≡ 256) ⌝ }
-    ensures { λ r. ⌜ r ≡ written (failing nets 0 (λ n. leV (rowIn 32 (now (asked .entry)) n) (rowIn 32 (now (held .entry)) n))) ⌝ }
+    ensures { λ r. ⌜ r ≡ numbered (failing nets 0 (λ n. leV (rowIn 32 (now (asked .entry)) n) (rowIn 32 (now (held .entry)) n))) ⌝ }
 {
     let mut net = 0;
     while net < nets {
@@ -76,7 +76,7 @@ pub fn unbalanced_net<'a>(
 ) -> usize
     requires { ⌜ (nets ≤ 8) × (length (now made) ≡ 256) × (length (now held) ≡ 256) × (length (now pre) ≡ 256) × (length (now post) ≡ 256)
         × ((k : ℕ) → getD (now held) k 0 < 2 ^ 32) × ((k : ℕ) → getD (now post) k 0 < 2 ^ 32) ⌝ }
-    ensures { λ r. ⌜ r ≡ written (failing nets 0 (balanced (now (made .entry)) (now (held .entry)) (now (pre .entry)) (now (post .entry)))) ⌝ }
+    ensures { λ r. ⌜ r ≡ numbered (failing nets 0 (balanced (now (made .entry)) (now (held .entry)) (now (pre .entry)) (now (post .entry)))) ⌝ }
 {
     let mut n = 0;
     while n < nets {

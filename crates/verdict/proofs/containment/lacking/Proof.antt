@@ -9,7 +9,7 @@ use borrow.Author.Needs.{needs}
 use borrow.Author.Tests.{not-true, not-false}
 use Rattle.rows.specs.Rows.{rowsIn}
 use Rattle.verdict.specs.Verdict.{lackingRows}
-use Rattle.verdict.specs.Held.{written}
+use Rattle.eos.specs.Causes.{numbered}
 use Rattle.verdict.proofs.LackLaws.{rest, rest-start, rest-on, rest-here, rest-end}
 
 abbrev Inv-loop : tie.InvT-loop
@@ -38,7 +38,7 @@ returns c =
     let e =
     rest-here (rowsIn (a .len) (a .rows .now)) (a .n) (a .taken .now) (l .loop .i) (c .before .before .loop-test .taken) (t .ensures)
     (not-true (t .result) (c .if1 .taken)) in
-    sym (ap written (l .loop .inv .1 ∙ e) ∙ k)
+    sym (ap numbered (l .loop .inv .1 ∙ e) ∙ k)
 
 add-i : tie.Need-add-i Inv-loop μ-loop
 add-i c = search needs
@@ -60,7 +60,7 @@ returns-2 : tie.Need-returns-2 Inv-loop μ-loop
 returns-2 c =
     let l = c .before in
     let a = l .before .before .before .args in
-    sym (ap written (l .loop .inv .1 ∙ rest-end (rowsIn (a .len) (a .rows .now)) (a .n) (a .taken .now) (l .loop .i) (c .loop-test .left)))
+    sym (ap numbered (l .loop .inv .1 ∙ rest-end (rowsIn (a .len) (a .rows .now)) (a .n) (a .taken .now) (l .loop .i) (c .loop-test .left)))
 
 pub lacking-spec : {M : Type 1} → statement M
 lacking-spec =

@@ -8,12 +8,11 @@ use mathlib.Core.List.{List}
 use borrow.Author.Needs.{needs}
 use borrow.Author.Tests.{not-true, not-false}
 use Rattle.eos.specs.Vector.{eqV}
-use Rattle.eos.specs.Causes.{failing}
+use Rattle.eos.specs.Causes.{failing, numbered}
 use Rattle.rows.specs.Rows.{Row, rowsIn}
 use Rattle.rows.proofs.RowLaws.{length-rows}
 use Rattle.sides.specs.declared.Rule.{Rule}
 use Rattle.verdict.specs.Verdict.{outerRows, innerTakenIn, innerGivenIn}
-use Rattle.verdict.specs.Held.{written}
 use Rattle.verdict.proofs.VerdictLaws.{taken-same, given-same, stop-8, stop-8-given, stop-9, stop-10, go-on}
 
 -- the entry, from the places that follow
@@ -61,27 +60,27 @@ abbrev from-nets : tie.After-inner-of → tie.Start
 from-nets c = from-same2 (c .before .before .before)
 
 inner-taken : (c : tie.After-short-net)
-    → c .short-net .result ≡ written (failing (rule (from-nets (from-short c)) .nets) 0 (innerTakenIn (rule (from-nets (from-short c))) (taken (from-nets (from-short c)))))
+    → c .short-net .result ≡ numbered (failing (rule (from-nets (from-short c)) .nets) 0 (innerTakenIn (rule (from-nets (from-short c))) (taken (from-nets (from-short c)))))
 inner-taken c =
     let i = from-short c in
     let s = from-nets i in
-    c .short-net .ensures ∙ ap written (taken-same (rule s) (taken s) (i .inner-of .result) (s .pre .0 .nets) (i .inner-of .ensures))
+    c .short-net .ensures ∙ ap numbered (taken-same (rule s) (taken s) (i .inner-of .result) (s .pre .0 .nets) (i .inner-of .ensures))
 
 passed3 : (c : tie.Else3)
-    → written (failing (rule (from-nets (from-short (c .before))) .nets) 0 (innerTakenIn (rule (from-nets (from-short (c .before)))) (taken (from-nets (from-short (c .before)))))) ≡ 0
+    → numbered (failing (rule (from-nets (from-short (c .before))) .nets) 0 (innerTakenIn (rule (from-nets (from-short (c .before)))) (taken (from-nets (from-short (c .before)))))) ≡ 0
 passed3 c = sym (inner-taken (c .before)) ∙ c .if3 .left
 
 abbrev from-all : tie.After-unbalanced-net → tie.Start
 from-all c = from-nets (from-short (from-unbalanced c .before .before))
 
 inner-given : (c : tie.After-unbalanced-net)
-    → c .unbalanced-net .result ≡ written (failing (rule (from-all c) .nets) 0 (innerGivenIn (rule (from-all c)) (taken (from-all c)) (given (from-all c))))
+    → c .unbalanced-net .result ≡ numbered (failing (rule (from-all c) .nets) 0 (innerGivenIn (rule (from-all c)) (taken (from-all c)) (given (from-all c))))
 inner-given c =
     let m = from-unbalanced c in
     let i = from-short (m .before .before) in
     let s = from-nets i in
     c .unbalanced-net .ensures
-    ∙ ap written
+    ∙ ap numbered
     (given-same (rule s) (taken s) (i .inner-of .result) (s .pre .0 .nets) (i .inner-of .ensures) (given s) (m .inner-of2 .result) (m .inner-of2 .ensures))
 
 outer-of-requires : tie.Need-outer-of-requires

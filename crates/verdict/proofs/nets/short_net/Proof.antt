@@ -10,9 +10,8 @@ use native.Mathlib.Nat.{sub-zero}
 use borrow.Author.Needs.{needs}
 use borrow.Author.Tests.{not-true, not-false}
 use Rattle.eos.specs.Vector.{leV}
-use Rattle.eos.specs.Causes.{failing}
+use Rattle.eos.specs.Causes.{failing, numbered}
 use Rattle.model.specs.Held.{rowIn}
-use Rattle.verdict.specs.Held.{written}
 use Rattle.verdict.proofs.TestLaws.{failing-on, failing-here, failing-end}
 
 -- net n is asked no more than is held
@@ -44,7 +43,7 @@ returns c =
     let f = test (a .asked .now) (a .held .now) in
     let e = c .before .enough in
     let k : suc (l .loop .net) ≡ l .loop .net + 1 = omega arith in
-    sym (ap written (l .loop .inv .1
+    sym (ap numbered (l .loop .inv .1
     ∙ failing-here (a .nets) (l .loop .net) f (c .before .before .loop-test .taken) (sym (e .ensures) ∙ not-true (e .result) (c .if1 .taken))) ∙ k)
 
 add-net : tie.Need-add-net Inv-loop μ-loop
@@ -67,7 +66,7 @@ returns-2 : tie.Need-returns-2 Inv-loop μ-loop
 returns-2 c =
     let l = c .before in
     let a = l .before .before .before .args in
-    sym (ap written (l .loop .inv .1 ∙ failing-end (a .nets) (l .loop .net) (test (a .asked .now) (a .held .now)) (c .loop-test .left)))
+    sym (ap numbered (l .loop .inv .1 ∙ failing-end (a .nets) (l .loop .net) (test (a .asked .now) (a .held .now)) (c .loop-test .left)))
 
 pub short-net-spec : {M : Type 1} → statement M
 short-net-spec =

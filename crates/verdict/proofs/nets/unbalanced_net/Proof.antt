@@ -7,8 +7,8 @@ use native.Mathlib.Omega.{arith}
 use native.Mathlib.Nat.{sub-zero}
 use borrow.Author.Needs.{needs}
 use borrow.Author.Tests.{not-true, not-false}
-use Rattle.eos.specs.Causes.{failing}
-use Rattle.verdict.specs.Held.{written, balanced}
+use Rattle.eos.specs.Causes.{failing, numbered}
+use Rattle.verdict.specs.Held.{balanced}
 use Rattle.verdict.proofs.TestLaws.{failing-on, failing-here, failing-end}
 
 abbrev Inv-loop : tie.InvT-loop
@@ -35,7 +35,7 @@ returns c =
     let f = balanced (a .made .now) (a .held .now) (a .pre .now) (a .post .now) in
     let e = c .before .even in
     let k : suc (l .loop .n) ≡ l .loop .n + 1 = omega arith in
-    sym (ap written (l .loop .inv .1
+    sym (ap numbered (l .loop .inv .1
     ∙ failing-here (a .nets) (l .loop .n) f (c .before .before .loop-test .taken) (sym (e .ensures) ∙ not-true (e .result) (c .if1 .taken))) ∙ k)
 
 add-n : tie.Need-add-n Inv-loop μ-loop
@@ -58,7 +58,7 @@ returns-2 : tie.Need-returns-2 Inv-loop μ-loop
 returns-2 c =
     let l = c .before in
     let a = l .before .before .before .before .before .args in
-    sym (ap written (l .loop .inv .1 ∙ failing-end (a .nets) (l .loop .n) (balanced (a .made .now) (a .held .now) (a .pre .now) (a .post .now)) (c .loop-test .left)))
+    sym (ap numbered (l .loop .inv .1 ∙ failing-end (a .nets) (l .loop .n) (balanced (a .made .now) (a .held .now) (a .pre .now) (a .post .now)) (c .loop-test .left)))
 
 pub unbalanced-net-spec : {M : Type 1} → statement M
 unbalanced-net-spec =

@@ -1,0 +1,180 @@
+// The Keeper level: a weight file is read for a held model, judged, and weighed on a held marking.
+ghost use mathlib.Core.Path.{_≡_};
+ghost use mathlib.Core.Bool.{true, _&&_};
+ghost use Prim.Native.Nat.{_-_, _≤_};
+ghost use lib.ListN.{length};
+ghost use Rattle.eos.specs.Weights.{Weights, weigh};
+ghost use Rattle.model.specs.Held.{modelOf};
+ghost use Rattle.model.specs.Test.{empty};
+ghost use Rattle.marking.specs.Held.{tokensOf};
+ghost use Rattle.reader.specs.Answers.{longest, heldBoth};
+ghost use Rattle.reader.specs.Sizes.{sizesFor};
+ghost use Rattle.weights.specs.Answers.{refusedWeights, passedWeights, faulty, judgedWeights, weightChecking};
+ghost use Rattle.weights.specs.Parts.{Holds};
+use cover::covers;
+use effects::unbalanced;
+use lines::weight_lines;
+use marking::Marking;
+use model::Model;
+use reader::test_marking;
+use rows::empty_from;
+use scan::lines_before;
+use sums::marking_weight;
+use text::Ended;
+use text::Fault;
+
+mod cover;
+mod effects;
+mod lines;
+mod sums;
+
+// The longest text that is read.
+const LONGEST: usize = 1048576;
+
+// The weights of a model's places, each as its part above 0 and its part below 0: nine rows of 32, the outer weights and then those of
+// each net. Unused room is 0.
+pub struct HeldWeights {
+    pub above: [u16; 288],
+    pub below: [u16; 288],
+}
+
+impl HeldWeights {
+    // 01's limit either side of 0.
+    pub const MOST: u16 = 1000;
+}
+
+// How the reading of a weight file ended, and the weights; a refusal holds none.
+pub struct WeightLines {
+    pub ended: Ended,
+    pub weights: HeldWeights,
+}
+
+// How the check of a weight file ended.
+pub enum WeightAnswer {
+    Passed,
+    TooLong,
+    NotHeld,
+    Faulty { why: u8, line: usize },
+    Turned { cause: u8, beside: usize },
+}
+
+// The part of a sum above 0 and its part below 0, of which one is 0.
+pub struct Sum {
+    pub above: u64,
+    pub below: u64,
+}
+
+// The answer; for weights that pass, the marking's weighted sum and whether the weights cover.
+pub struct WeightCheck {
+    pub answer: WeightAnswer,
+    pub sum: Sum,
+    pub cover: bool,
+}
+
+// Refused weights: sum 0, cover 0.
+fn refused(answer: WeightAnswer) -> WeightCheck
+    ensures { λ r. ⌜ r ≡ refusedWeights answer ⌝ }
+{
+    WeightCheck {
+        answer,
+        sum: Sum { above: 0, below: 0 },
+        cover: false,
+    }
+}
+
+// The answer for a fault, which is named by its line.
+fn fault_answer(s: &[u8], fault: Fault) -> WeightAnswer
+    requires { ⌜ length (now s) ≤ longest ⌝ }
+    ensures { λ r. ⌜ r ≡ faulty (now (s .entry)) fault ⌝ }
+{
+    let line = lines_before(s, fault.at) + 1;
+    WeightAnswer::Faulty {
+        why: fault.why,
+        line,
+    }
+}
+
+// Whether every weight is 0.
+fn all_zero(h: HeldWeights) -> bool
+    ensures { λ r. ⌜ r ≡ (empty (h .above) && empty (h .below)) ⌝ }
+{
+    let up = empty_from(&h.above, 0);
+    let down = empty_from(&h.below, 0);
+    up & down
+}
+
+// The difference of two sums.
+fn difference(up: u64, down: u64) -> Sum
+    ensures { λ r. ⌜ r ≡ record { above = up - down; below = down - up } ⌝ }
+{
+    if up < down {
+        return Sum {
+            above: 0,
+            below: down - up,
+        };
+    }
+    Sum {
+        above: up - down,
+        below: 0,
+    }
+}
+
+// The check of weights that pass: the marking's weighted sum, and whether the weights cover.
+fn passed(m: Model, k: Marking, h: HeldWeights) -> WeightCheck
+    requires { ⌜ heldBoth m k ≡ true ⌝ }
+    ensures { λ r. ⌜ ((w : Weights) → Holds m w h → r ≡ passedWeights w (weigh (modelOf m) w (tokensOf (sizesFor m) k))) ⌝ }
+{
+    let types = m.types;
+    let len = k.len;
+    let up = marking_weight(&h.above, types, &k.rows, len);
+    let down = marking_weight(&h.below, types, &k.rows, len);
+    let sum = difference(up, down);
+    let objects = m.objects;
+    let above = h.above;
+    let cover = covers(m.places, m.nets, objects, above, sum.above + sum.below);
+    WeightCheck {
+        answer: WeightAnswer::Passed,
+        sum,
+        cover,
+    }
+}
+
+// The check of the weights of a file: 6, 7, or they pass.
+fn judged(m: Model, k: Marking, h: HeldWeights) -> WeightCheck
+    requires { ⌜ heldBoth m k ≡ true ⌝ }
+    ensures { λ r. ⌜ ((w : Weights) → Holds m w h → r ≡ judgedWeights (modelOf m) (tokensOf (sizesFor m) k) w) ⌝ }
+{
+    if all_zero(h) {
+        return refused(WeightAnswer::Turned {
+            cause: 6,
+            beside: m.nets + 2,
+        });
+    }
+    let event = unbalanced(m, h);
+    if event != 0 {
+        return refused(WeightAnswer::Turned {
+            cause: 7,
+            beside: event,
+        });
+    }
+    passed(m, k, h)
+}
+
+// Reads the weight file of a held model, judges the weights, and weighs a held marking.
+pub fn check_weights(m: Model, k: Marking, s: &[u8]) -> WeightCheck
+    ensures { λ r. ⌜ r ≡ weightChecking m k (now (s .entry)) ⌝ }
+{
+    if LONGEST < s.len() {
+        return refused(WeightAnswer::TooLong);
+    }
+    if !test_marking(m, k) {
+        return refused(WeightAnswer::NotHeld);
+    }
+    let read = weight_lines(m, s);
+    let ended = read.ended;
+    let weights = read.weights;
+    let Ended::Stopped { fault } = ended else {
+        return judged(m, k, weights);
+    };
+    refused(fault_answer(s, fault))
+}
