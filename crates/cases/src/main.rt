@@ -8,6 +8,7 @@ use reader::WriteAnswer;
 
 mod reading;
 mod sharing;
+mod weighing;
 
 fn put(text: &[u8]) {
     io::write_all(STDOUT_FILENO, text);
@@ -73,5 +74,6 @@ fn full(rows: [u16; 8448]) -> Marking {
 
 fn main() {
     reading::run();
+    weighing::run();
     sharing::run();
 }

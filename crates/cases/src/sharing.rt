@@ -12,11 +12,13 @@ fn case(n: usize, k: usize) {
     put(b": ");
     let answer = spread::ways(n, k);
     match answer {
-        Spread::Ways { value } => put_number(value as usize),
+        Spread::Ways { value } => {
+            put_number(value as usize);
+            put(b"\n");
+        }
         Spread::TokensOver => put_pair(3, 1),
         Spread::RacksOver => put_pair(3, 2),
     }
-    put(b"\n");
 }
 
 pub fn run() {

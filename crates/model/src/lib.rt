@@ -79,6 +79,9 @@ impl Model {
 
     pub const COUNT: u16 = 65535;
 
+    // The bytes of the longest text that is read.
+    pub const LONGEST: usize = 1048576;
+
     // The empty model: no places.
     pub fn empty() -> Model
         ensures { λ r. ⌜ r ≡ noModel ⌝ }

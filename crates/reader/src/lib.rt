@@ -22,9 +22,6 @@ use text::Fault;
 
 mod sizes;
 
-// The longest text that is read.
-const LONGEST: usize = 1048576;
-
 // How the reading of a text ended.
 pub enum ReadAnswer {
     Accepted,
@@ -106,7 +103,7 @@ fn no_reading(answer: ReadAnswer) -> ModelReading
 pub fn read_model(s: &[u8]) -> ModelReading
     ensures { λ r. ⌜ r ≡ modelReading (now (s .entry)) ⌝ }
 {
-    if LONGEST < s.len() {
+    if Model::LONGEST < s.len() {
         return no_reading(ReadAnswer::TooLong);
     }
     let read = read_plant(s, 0);
@@ -140,7 +137,7 @@ fn no_tokens(answer: ReadAnswer) -> MarkingReading
 pub fn read_marking(m: Model, s: &[u8]) -> MarkingReading
     ensures { λ r. ⌜ r ≡ markingReading m (now (s .entry)) ⌝ }
 {
-    if LONGEST < s.len() {
+    if Model::LONGEST < s.len() {
         return no_tokens(ReadAnswer::TooLong);
     }
     if !model::held::test(m) {

@@ -28,9 +28,6 @@ mod effects;
 mod lines;
 mod sums;
 
-// The longest text that is read.
-const LONGEST: usize = 1048576;
-
 // The weights of a model's places, each as its part above 0 and its part below 0: nine rows of 32, the outer weights and then those of
 // each net. Unused room is 0.
 pub struct HeldWeights {
@@ -164,7 +161,7 @@ fn judged(m: Model, k: Marking, h: HeldWeights) -> WeightCheck
 pub fn check_weights(m: Model, k: Marking, s: &[u8]) -> WeightCheck
     ensures { λ r. ⌜ r ≡ weightChecking m k (now (s .entry)) ⌝ }
 {
-    if LONGEST < s.len() {
+    if Model::LONGEST < s.len() {
         return refused(WeightAnswer::TooLong);
     }
     if !test_marking(m, k) {
