@@ -1,6 +1,6 @@
 -- A held marking stands for one marking, and is held as that is: the held test passes exactly for what is held of a right marking in
 -- canonical order.
-use Prim.Native.Nat.{ℕ, zero, suc, _-_, _*_, _<_}
+use Prim.Native.Nat.{ℕ, zero, suc, _-_, _*_, _≤_, _<_}
 use mathlib.Core.Path.{_≡_, refl, ap, sym, _∙_}
 use mathlib.Core.Logic.{_↔_}
 use mathlib.Core.List.{List, [], _∷_, map}
@@ -114,23 +114,23 @@ module _ (z : Sizes) (roomy : Roomy z) where
       padded-is (take n cs) (omega (arith, roomy p)) ∙ rw (l, ← d) (take-append-drop n cs) in
       rw (k, c)
 
-  row-right : (r : Row) → length r ≡ 33 → rightRow z r ≡ true → every (λ v. leb v 65535) r ≡ true → Right (λ v. leb v 65535) z (tokenOf z r)
+  row-right : (range : ℕ → Bool) (r : Row) → length r ≡ 33 → rightRow z r ≡ true → every range (drop 1 r) ≡ true → Right range z (tokenOf z r)
   unfolding rightRow
-  row-right [] e h b = absurd (omega arith)
-  row-right (p ∷ cs) e h b =
+  row-right range [] e h b = absurd (omega arith)
+  row-right range (p ∷ cs) e h b =
       let a = and-true (within 1 (z .places) p) _ h in
       let w = within-is 1 (z .places) p (a .0) in
       let k : suc (p - 1) ≡ p = omega arith in
       record {
         place = omega arith;
         size = length-take (z .size p) cs ∙ rw k (omega (arith, roomy p));
-        counts = every-take (λ v. leb v 65535) (z .size p) cs (and-true (leb p 65535) _ b .1);
+        counts = every-take range (z .size p) cs b;
       }
 
-  right-row : (t : eos.NetToken) → Right (λ v. leb v 65535) z t → rightRow z (rowOf t) ≡ true
+  right-row : (range : ℕ → Bool) (t : eos.NetToken) → Right range z t → rightRow z (rowOf t) ≡ true
   unfolding rightRow
-  right-row t r =
-      let f = fitting (λ v. leb v 65535) z t roomy r in
+  right-row range t r =
+      let f = fitting range z t roomy r in
       let d : drop (z .size (suc (t .place))) (padded (t .inside)) ≡ replicate (32 - length (t .inside)) 0 =
       rw (← f .size) (drop-padded (t .inside) (f .room)) in
       and-both (within 1 (z .places) (suc (t .place))) _
@@ -139,24 +139,24 @@ module _ (z : Sizes) (roomy : Roomy z) where
 
   -- ---- all rows
 
-  rows-tokens : (rs : List Row) → Wide rs → every (rightRow z) rs ≡ true → map rowOf (map (tokenOf z) rs) ≡ rs
+  pub rows-tokens : (rs : List Row) → Wide rs → every (rightRow z) rs ≡ true → map rowOf (map (tokenOf z) rs) ≡ rs
   rows-tokens [] w h = refl
   rows-tokens (r ∷ rs) w h = let p = and-true (rightRow z r) _ h in rw (row-token r (w .0) (p .0), rows-tokens rs (w .1) (p .1))
 
-  tokens-right : (rs : List Row) → Wide rs → every (rightRow z) rs ≡ true → every (every (λ v. leb v 65535)) rs ≡ true
-      → every (rightNetToken (limits 256 65535) z) (map (tokenOf z) rs) ≡ true
-  tokens-right [] w h b = refl
-  tokens-right (r ∷ rs) w h b =
+  pub tokens-right : (lim : Limits) (rs : List Row) → Wide rs → every (rightRow z) rs ≡ true → every (λ r. every (lim .counts) (drop 1 r)) rs ≡ true
+      → every (rightNetToken lim z) (map (tokenOf z) rs) ≡ true
+  tokens-right lim [] w h b = refl
+  tokens-right lim (r ∷ rs) w h b =
       let p = and-true (rightRow z r) _ h in
-      let q = and-true (every (λ v. leb v 65535) r) _ b in
-      and-both (rightNetToken (limits 256 65535) z (tokenOf z r)) _
-      (is-right (limits 256 65535) z (tokenOf z r) (row-right r (w .0) (p .0) (q .0))) (tokens-right rs (w .1) (p .1) (q .1))
+      let q = and-true (every (lim .counts) (drop 1 r)) _ b in
+      and-both (rightNetToken lim z (tokenOf z r)) _
+      (is-right lim z (tokenOf z r) (row-right (lim .counts) r (w .0) (p .0) (q .0))) (tokens-right lim rs (w .1) (p .1) (q .1))
 
-  rows-right : (μ : eos.Marking) → every (rightNetToken (limits 256 65535) z) μ ≡ true → every (rightRow z) (map rowOf μ) ≡ true
-  rows-right [] h = refl
-  rows-right (t ∷ μ) h =
-      let p = and-true (rightNetToken (limits 256 65535) z t) _ h in
-      and-both (rightRow z (rowOf t)) _ (right-row t (right-is (limits 256 65535) z t (p .0))) (rows-right μ (p .1))
+  rows-right : (lim : Limits) (μ : eos.Marking) → every (rightNetToken lim z) μ ≡ true → every (rightRow z) (map rowOf μ) ≡ true
+  rows-right lim [] h = refl
+  rows-right lim (t ∷ μ) h =
+      let p = and-true (rightNetToken lim z t) _ h in
+      and-both (rightRow z (rowOf t)) _ (right-row (lim .counts) t (right-is lim z t (p .0))) (rows-right lim μ (p .1))
 
   below-back : (t : eos.NetToken) (μ : eos.Marking) → Fitting z t → All z μ → M.Below lexV (rowOf t) (map rowOf μ) → M.Below eos.before t μ
   below-back t [] f none b = tt
@@ -167,10 +167,10 @@ module _ (z : Sizes) (roomy : Roomy z) where
   sorted-back [] none s = tt
   sorted-back (t ∷ μ) (more f a) s = (below-back t μ f a (s .0), sorted-back μ a (s .1))
 
-rows-small : (n : ℕ) (l : List ℕ) → every (λ v. leb v 65535) l ≡ true → every (every (λ v. leb v 65535)) (rowsIn n l) ≡ true
-rows-small zero l h = refl
-rows-small (suc n) l h =
-    and-both (every (λ v. leb v 65535) (take 33 l)) _ (every-take _ 33 l h) (rows-small n (drop 33 l) (every-drop _ 33 l h))
+rows-small : (f : ℕ → Bool) (n : ℕ) (l : List ℕ) → every f l ≡ true → every (λ r. every f (drop 1 r)) (rowsIn n l) ≡ true
+rows-small f zero l h = refl
+rows-small f (suc n) l h =
+    and-both (every f (drop 1 (take 33 l))) _ (every-drop f 1 (take 33 l) (every-take f 33 l h)) (rows-small f n (drop 33 l) (every-drop f 33 l h))
 
 -- ---- the held test
 
@@ -190,7 +190,7 @@ module _ (z : Sizes) (roomy : Roomy z) where
       let kept = kept-test (k .len) (k .rows) (leb-true (k .len) 256 (a .0)) (sz .long) (b .0) (c .0) in
       let wide = kept-wide (k .len) (k .rows) kept in
       let back = rows-tokens z roomy rs wide (c .1) in
-      let right = tokens-right z roomy rs wide (c .1) (rows-small (k .len) (k .rows) (sz .small)) in
+      let right = tokens-right z roomy (limits 256 65535) rs wide (c .1) (rows-small (λ v. leb v 65535) (k .len) (k .rows) (sz .small)) in
       let n : length (map (tokenOf z) rs) ≡ k .len = length-map rs (tokenOf z) ∙ length-rows (k .len) (k .rows) in
       let all = all-right (limits 256 65535) z roomy (map (tokenOf z) rs) right in
       let order : M.Sorted lexV (map rowOf (map (tokenOf z) rs)) = rw back (kept .sorted) in
@@ -199,21 +199,27 @@ module _ (z : Sizes) (roomy : Roomy z) where
         λ i. record { len = sym n i; rows = q i },
       )
 
-  pub hold-held : (μ : eos.Marking) → Held z μ → heldMarking z (holdMarking μ) ≡ true
-  unfolding heldMarking holdMarking rightBlock
-  hold-held μ h =
-      let p = and-true (leb (length μ) 256) _ (h .right) in
+  -- whatever the range of their counts
+  pub ordered-held : (lim : Limits) (μ : eos.Marking) → length μ ≤ 256 → eos.canonical μ ≡ μ → every (rightNetToken lim z) μ ≡ true
+      → heldMarking z (holdMarking μ) ≡ true
+  unfolding heldMarking holdMarking
+  ordered-held lim μ few ordered right =
       let n : length μ ≡ length (map rowOf μ) = sym (length-map μ rowOf) in
-      let few = leb-true (length μ) 256 (p .0) in
-      let all = all-right (limits 256 65535) z roomy μ (p .1) in
-      let sorted : M.Sorted lexV (map rowOf μ) = rw (h .ordered) at (rows-sorted z μ all) in
+      let all = all-right lim z roomy μ right in
+      let sorted : M.Sorted lexV (map rowOf μ) = rw ordered at (rows-sorted z μ all) in
       let kept = kept-laid (map rowOf μ) (omega arith) (rows-wide μ) sorted in
       let t = test-kept (length (map rowOf μ)) (laid (map rowOf μ)) kept in
-      and-both (leb (length μ) 256) _ (p .0)
+      and-both (leb (length μ) 256) _ (le-leb (length μ) 256 few)
       (rw n
       (and-both (ascending (rowsIn (length (map rowOf μ)) (laid (map rowOf μ)))) _ (t .0)
       (and-both (every (λ v. eqb v 0) (drop (length (map rowOf μ) * 33) (laid (map rowOf μ)))) _ (t .1)
-      (rw (rows-laid (map rowOf μ) (rows-wide μ)) (rows-right z roomy μ (p .1))))))
+      (rw (rows-laid (map rowOf μ) (rows-wide μ)) (rows-right z roomy lim μ right)))))
+
+  pub hold-held : (μ : eos.Marking) → Held z μ → heldMarking z (holdMarking μ) ≡ true
+  unfolding rightBlock
+  hold-held μ h =
+      let p = and-true (leb (length μ) 256) _ (h .right) in
+      ordered-held (limits 256 65535) μ (leb-true (length μ) 256 (p .0)) (h .ordered) (p .1)
 
   -- the held test passes exactly for what is held of such a marking
   pub held-marking-exactly : (k : Marking) → Sized k → (heldMarking z k ≡ true) ↔ ((μ : eos.Marking) × Held z μ × (k ≡ holdMarking μ))

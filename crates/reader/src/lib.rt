@@ -20,7 +20,7 @@ use sizes::sizes;
 use text::Ended;
 use text::Fault;
 
-mod sizes;
+pub mod sizes;
 
 // How the reading of a text ended.
 pub enum ReadAnswer {

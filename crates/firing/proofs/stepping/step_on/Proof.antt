@@ -1,0 +1,132 @@
+-- `step_on` meets its contract: what was read is a right step of the held model, so that the verdict and the change may be asked.
+use borrow.Author.Needs.{needs}
+use Rattle.firing.proofs.stepping.step_on.Statement.{statement}
+use Rattle.firing.proofs.stepping.step_on.Tie as tie
+use mathlib.Core.Path.{_≡_, ap, _∙_}
+use mathlib.Core.List.{List}
+use mathlib.Core.Bool.{true}
+use native.Mathlib.Omega.{arith}
+use Rattle.rows.specs.Rows.{Row, rowsIn}
+use Rattle.model.specs.Held.{Sized}
+use Rattle.model.specs.Test.{heldModel}
+use Rattle.model.proofs.TestLaws.{held-is, most-places, most-events}
+use Rattle.marking.specs.declared.Marking.{Marking}
+use Rattle.reader.specs.Sizes.{sizesFor}
+use Rattle.reader.proofs.ReadingLaws.{roomy-of}
+use Rattle.steps.specs.Answers.{stepRows}
+use Rattle.firing.specs.declared.StepAnswer.{StepAnswer}
+use Rattle.firing.specs.Answers.{stays}
+use Rattle.firing.proofs.SizedLaws.{model-sized}
+use Rattle.firing.proofs.StandsLaws.{Stands}
+use Rattle.firing.proofs.ReadLaws.{ReadRows, lines-bad, lines-got}
+use Rattle.firing.proofs.RuledLaws.{RightStep, read-right, rule-is-sound, rows-placed}
+use Rattle.firing.proofs.StepLaws.{both-model, both-stands, reading, reading-is, step-refused, step-ruled}
+
+-- the entry, from the place behind the reading
+abbrev start : tie.After-read-step → tie.Start
+start c = c .before .before .before .before .before .before
+
+-- the marking whose rows are lent
+abbrev marked : tie.Start → Marking
+marked s = record { len = s .args .len; rows = s .args .rows .now }
+
+held : (s : tie.Start) → heldModel (s .args .m) ≡ true
+held s = both-model (s .args .m) (marked s) (s .pre .0)
+
+sized : (s : tie.Start) → Sized (s .args .m)
+sized s = model-sized (s .args .m) _ (s .good .0)
+
+stands : (s : tie.Start) → Stands (sizesFor (s .args .m)) (marked s)
+stands s = both-stands (s .args .m) (marked s) (s .pre .3) (s .pre .0)
+
+-- the rows that were read
+abbrev taken : tie.After-read-step → List Row
+taken c = rowsIn (c .read-step .result .take) (c .read-step .last .1 .1 .1 .1 .1 .0)
+
+abbrev given : tie.After-read-step → List Row
+given c = rowsIn (c .read-step .result .give) (c .read-step .last .1 .1 .1 .1 .1 .1 .0)
+
+rows-read : (c : tie.After-read-step)
+    → record { lines = c .read-step .result; taken = taken c; given = given c }
+    ≡ stepRows (reading (start c .args .m) (marked (start c)) (start c .args .s .now))
+rows-read c =
+    let s = start c in
+    c .read-step .ensures ∙ ap stepRows (reading-is (s .args .m) (marked s) (s .args .s .now) (s .args .sizes) (s .pre .1))
+
+-- the step that was read
+read : (c : tie.After-ended)
+    → ReadRows (c .before .before .read-step .result) (taken (c .before .before)) (given (c .before .before)) (reading (start (c .before .before) .args .m) (marked (start (c .before .before))) (start (c .before .before) .args .s .now)) (c .ended .given .0 .0)
+read c = let r = c .before .before in lines-got (r .read-step .result) (taken r) (given r) _ (rows-read r) _ (c .ended .given .1)
+
+right : (c : tie.After-ended) → RightStep (sizesFor (start (c .before .before) .args .m)) (start (c .before .before) .args .m .listed) (read c .step)
+right c = let s = start (c .before .before) in read-right _ _ (s .args .s .now) _ _ (read c .is)
+
+cast-read-step : tie.Need-cast-read-step
+cast-read-step c = omega (arith, most-events _ (held-is _ (held (c .before .before))))
+
+cast-read-step-2 : tie.Need-cast-read-step-2
+cast-read-step-2 c = omega (arith, most-places _ (held-is _ (held (c .before .before .before))))
+
+read-step-requires : tie.Need-read-step-requires
+read-step-requires c κs =
+    let s = c .before .before .before .before .before in
+    roomy-of (s .args .m) (held s) (s .args .sizes) (s .pre .1)
+
+enum-known-ended : tie.Need-enum-known-ended
+enum-known-ended c = search needs
+
+enum-told : tie.Need-enum-told
+enum-told c = search needs
+
+answer-of-requires : tie.Need-answer-of-requires
+answer-of-requires c κs = search needs
+
+returns : tie.Need-returns
+returns c =
+    let t = c .before in
+    let r = t .before .before in
+    let s = start r in
+    ap (λ (a : StepAnswer). stays a (marked s)) (c .answer-of .ensures)
+    ∙ step-refused (s .args .m) (marked s) (s .args .s .now) _ _ (t .enum-told .given .1) (lines-bad (r .read-step .result) (taken r) (given r) _ (rows-read r) _ (t .enum-told .given .1))
+
+rule-of-requires : tie.Need-rule-of-requires
+rule-of-requires c κs =
+    let e = c .before in
+    let s = start (e .before .before) in
+    (held s, omega (arith, read e .event-is, right e .known))
+
+fire-requires : tie.Need-fire-requires
+fire-requires c κs =
+    let q = c .before .before .before .before .before in
+    let e = q .before .before in
+    let s = start (e .before .before) in
+    let t = read e .step in
+    let r = right e in
+    let m = s .args .m in (
+      rule-is-sound m (sized s) (held s) t r _ _ (q .rule-of .ensures) (read e .event-is),
+      rows-placed m (sized s) (held s) (t .taken) (r .taken) (r .take-few) _ _ (read e .take-is) (search needs) (read e .taken-are),
+      rows-placed m (sized s) (held s) (t .given) (r .given) (r .give-few) _ _ (read e .give-is) (search needs) (read e .given-are),
+      stands s .kept,
+    )
+
+returns-2 : tie.Need-returns-2
+returns-2 c =
+    let q = c .before .before .before .before .before .before in
+    let e = q .before .before in
+    let s = start (e .before .before) in
+    c .fire .ensures ∙ step-ruled (s .args .m) (marked s) (s .args .s .now) (sized s) (held s) (stands s) _ _ _ _ (read e) _ (q .rule-of .ensures)
+
+pub step-on-spec : {M : Type 1} → statement M
+step-on-spec =
+    tie.close
+    (tie.spec
+    cast-read-step
+    cast-read-step-2
+    read-step-requires
+    enum-known-ended
+    enum-told
+    answer-of-requires
+    returns
+    rule-of-requires
+    fire-requires
+    returns-2)

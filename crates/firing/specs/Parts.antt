@@ -1,0 +1,51 @@
+-- What the parts of this crate's code answer.
+use Prim.Native.Nat.{ℕ, suc, _+_, _-_}
+use mathlib.Core.List.{List, _++_}
+use lib.ListN.{length, take}
+use Rattle.scan.specs.Bytes.{Text, newlines}
+use Rattle.text.specs.declared.Ended.{Ended}
+use Rattle.text.specs.declared.Ended.the-variants.{Past, Stopped}
+use Rattle.eos.specs.Vector.{eqV, lexV}
+use Rattle.eos.specs.Multiset as M
+use Rattle.rows.specs.Rows.{Row, rowsIn, laid}
+use Rattle.marking.specs.declared.Marking.{Marking}
+use Rattle.verdict.specs.declared.Verdict.{Verdict}
+use Rattle.verdict.specs.declared.Verdict.the-variants as verdict
+use Rattle.firing.specs.declared.StepAnswer.{StepAnswer}
+use Rattle.firing.specs.declared.StepAnswer.the-variants.{Fired, TooLong, NotHeld, Faulty, Turned}
+use Rattle.firing.specs.declared.Stepped.{Stepped}
+use Rattle.firing.specs.declared.Stop.{Stop}
+use Rattle.firing.specs.declared.Stop.the-variants.{AtEnd}
+use Rattle.firing.specs.declared.Turn.{Turn}
+use Rattle.firing.specs.declared.Turn.the-variants.{On, Off}
+use Rattle.firing.specs.Answers.{stays}
+use Rattle.firing.specs.Running.{stopOf}
+
+-- how the reading of a step's lines ended
+abbrev pub answered : Text → Ended → StepAnswer
+answered s (Past next) = Fired 0
+answered s (Stopped e) = Faulty (e .why) (suc (newlines (take (e .at) s)))
+
+-- the rows of a marking changed by those taken and given
+abbrev pub changed : Marking → List Row → List Row → Marking
+changed k taken given = record {
+  len = k .len - length taken + length given;
+  rows = laid (M.sort lexV (M.less eqV (rowsIn (k .len) (k .rows)) taken ++ given));
+}
+
+-- a step whose lines were read, up to a position, by the verdict on it
+unfoldable pub ruled : ℕ → Marking → List Row → List Row → Verdict → Stepped
+ruled next k taken given verdict.Fires = record { answer = Fired next; marking = changed k taken given }
+ruled next k taken given (verdict.Turned cause beside) = stays (Turned cause beside) k
+
+-- a run after a step: on behind its bytes, or stopped
+abbrev pub turnOf : StepAnswer → Turn
+turnOf (Fired n) = On n
+turnOf TooLong = Off (stopOf TooLong)
+turnOf NotHeld = Off (stopOf NotHeld)
+turnOf (Faulty why line) = Off (stopOf (Faulty why line))
+turnOf (Turned cause beside) = Off (stopOf (Turned cause beside))
+
+abbrev pub stopIn : Turn → Stop
+stopIn (On n) = AtEnd
+stopIn (Off a) = a
