@@ -8,6 +8,7 @@ use reader::WriteAnswer;
 
 mod reading;
 mod sharing;
+mod stepping;
 mod weighing;
 
 fn put(text: &[u8]) {
@@ -74,6 +75,7 @@ fn full(rows: [u16; 8448]) -> Marking {
 
 fn main() {
     reading::run();
+    stepping::run();
     weighing::run();
     sharing::run();
 }

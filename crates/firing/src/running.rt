@@ -24,8 +24,12 @@ fn turn_of(answer: StepAnswer) -> Turn
 {
     match answer {
         StepAnswer::Fired { bytes } => Turn::On { bytes },
-        StepAnswer::TooLong => Turn::Off { stop: Stop::TooLong },
-        StepAnswer::NotHeld => Turn::Off { stop: Stop::NotHeld },
+        StepAnswer::TooLong => Turn::Off {
+            stop: Stop::TooLong,
+        },
+        StepAnswer::NotHeld => Turn::Off {
+            stop: Stop::NotHeld,
+        },
         StepAnswer::Faulty { why, line } => Turn::Off {
             stop: Stop::Faulty { why, line },
         },
