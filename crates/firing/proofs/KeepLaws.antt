@@ -27,12 +27,13 @@ use Rattle.marking.proofs.HoldLaws.{ordered-held}
 use Rattle.reader.specs.Reading.{bounds}
 use Rattle.reader.specs.Sizes.{sizesFor}
 use Rattle.reader.specs.Answers.{heldBoth}
+use Rattle.reader.proofs.ReadingLaws.{both-model}
 use Rattle.reader.proofs.SizeLaws.{held-roomy}
 use Rattle.firing.specs.declared.Stepped.{Stepped}
 use Rattle.firing.specs.Answers.{judged, readThen, stepped, heldStep}
 use Rattle.firing.proofs.StandsLaws.{Stands, any-range, after-every}
 use Rattle.firing.proofs.RuledLaws.{RightStep, read-right, length-canonical}
-use Rattle.firing.proofs.StepLaws.{both-model, both-stands, reading, held-reads}
+use Rattle.firing.proofs.StepLaws.{both-stands, reading, held-reads}
 
 -- a held marking, in an array of 8,448 numbers
 pub record Keeps (m : Model) (k : Marking) : Type 0 where

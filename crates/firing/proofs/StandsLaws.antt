@@ -34,13 +34,14 @@ pub record Stands (z : Sizes) (k : Marking) : Type 0 where
   pub rows-are : rowsIn (k .len) (k .rows) ≡ map rowOf (tokensOf z k)
   pub right : every (rightNetToken free z) (tokensOf z k) ≡ true
 
-any-counts : (rs : List Row) → every (λ r. every (free .counts) (drop 1 r)) rs ≡ true
+-- where no range is asked, all counts are in it
+any-counts : (l : List ℕ) → every (free .counts) l ≡ true
 any-counts [] = refl
-any-counts (r ∷ rs) = and-both (every (free .counts) (drop 1 r)) _ (any (drop 1 r)) (any-counts rs)
-  where
-    any : (l : List ℕ) → every (free .counts) l ≡ true
-    any [] = refl
-    any (v ∷ l) = any l
+any-counts (v ∷ l) = any-counts l
+
+any-rows : (rs : List Row) → every (λ r. every (free .counts) (drop 1 r)) rs ≡ true
+any-rows [] = refl
+any-rows (r ∷ rs) = and-both (every (free .counts) (drop 1 r)) _ (any-counts (drop 1 r)) (any-rows rs)
 
 pub held-stands : (z : Sizes) → Roomy z → (k : Marking) → length (k .rows) ≡ 8448 → heldMarking z k ≡ true → Stands z k
 unfolding heldMarking tokensOf
@@ -54,7 +55,7 @@ held-stands z roomy k long h =
     record {
       kept = kept;
       rows-are = sym (rows-tokens z roomy rs wide (c .1));
-      right = tokens-right z roomy free rs wide (c .1) (any-counts rs);
+      right = tokens-right z roomy free rs wide (c .1) (any-rows rs);
     }
 
 module _ (z : Sizes) (k : Marking) (st : Stands z k) where
@@ -73,11 +74,7 @@ any-range lim z [] h = refl
 any-range lim z (t ∷ μ) h =
     let p = and-true (rightNetToken lim z t) _ h in
     let r = right-is lim z t (p .0) in
-    and-both (rightNetToken free z t) _ (is-right free z t (record { place = r .place; size = r .size; counts = any (t .inside) })) (any-range lim z μ (p .1))
-  where
-    any : (l : List ℕ) → every (free .counts) l ≡ true
-    any [] = refl
-    any (v ∷ l) = any l
+    and-both (rightNetToken free z t) _ (is-right free z t (record { place = r .place; size = r .size; counts = any-counts (t .inside) })) (any-range lim z μ (p .1))
 
 -- what holds of the marking's net-tokens and of those given holds of those after
 pub after-every : (f : eos.NetToken → Bool) (t : Step) (μ : eos.Marking) → M.Within eos.like (t .taken) μ → every f μ ≡ true → every f (t .given) ≡ true

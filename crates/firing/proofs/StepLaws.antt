@@ -62,12 +62,7 @@ module _ (next len take give : ℕ) (rows taken given : List ℕ) (v : Verdict) 
 
 -- ---- a step on the rows of a held marking
 
--- of two that are held, the model is
-pub both-model : (m : Model) (k : Marking) → heldBoth m k ≡ true → heldModel m ≡ true
-unfolding heldBoth
-both-model m k h = and-true (heldModel m) _ h .0
-
--- and the rows of the marking stand for net-tokens
+-- the rows of a held marking stand for net-tokens
 pub both-stands : (m : Model) (k : Marking) → length (k .rows) ≡ 8448 → heldBoth m k ≡ true → Stands (sizesFor m) k
 unfolding heldBoth
 both-stands m k long h = let p = and-true (heldModel m) _ h in held-stands (sizesFor m) (held-roomy m (p .0)) k long (p .1)

@@ -21,7 +21,7 @@ use Rattle.firing.specs.declared.Turn.the-variants.{On, Off}
 use Rattle.firing.specs.Answers.{stays}
 use Rattle.firing.specs.Running.{stopOf}
 
--- how the reading of a step's lines ended
+-- how the reading of a step's lines ended; asked of a fault only
 abbrev pub answered : Text → Ended → StepAnswer
 answered s (Past next) = Fired 0
 answered s (Stopped e) = Faulty (e .why) (suc (newlines (take (e .at) s)))

@@ -6,12 +6,12 @@ use Prim.Native.Nat.{_+_, _-_, _≤_}
 use mathlib.Core.Path.{ap, sym, _∙_}
 use native.Mathlib.Omega.{arith}
 use lib.ListN.{length, length-drop}
+use Rattle.reader.proofs.ReadingLaws.{both-model}
 use Rattle.firing.specs.declared.Stop.{Stop}
 use Rattle.firing.specs.declared.Stepped.{Stepped}
 use Rattle.firing.specs.Parts.{stopIn}
 use Rattle.firing.specs.Running.{ran}
 use Rattle.firing.proofs.SizedLaws.{rows-room}
-use Rattle.firing.proofs.StepLaws.{both-model}
 use Rattle.firing.proofs.RunLaws.{rest-left, Going, going-start, going-done, going-uses, going-turn, going-stop}
 
 abbrev Inv-loop : tie.InvT-loop

@@ -6,8 +6,9 @@ use mathlib.Core.Path.{_≡_, sym, _∙_}
 use mathlib.Core.Bool.{true}
 use borrow.Author.Tests.{not-true, not-false}
 use Rattle.reader.specs.Answers.{heldBoth}
+use Rattle.reader.proofs.ReadingLaws.{both-model}
 use Rattle.firing.proofs.SizedLaws.{rows-room}
-use Rattle.firing.proofs.StepLaws.{both-model, step-long, step-unheld, step-held}
+use Rattle.firing.proofs.StepLaws.{step-long, step-unheld, step-held}
 
 -- the two passed the held test
 passed : (c : tie.Else2) → heldBoth (c .before .before .before .before .args .m) (c .before .before .before .before .args .k) ≡ true

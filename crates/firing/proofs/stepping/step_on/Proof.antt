@@ -12,7 +12,7 @@ use Rattle.model.specs.Test.{heldModel}
 use Rattle.model.proofs.TestLaws.{held-is, most-places, most-events}
 use Rattle.marking.specs.declared.Marking.{Marking}
 use Rattle.reader.specs.Sizes.{sizesFor}
-use Rattle.reader.proofs.ReadingLaws.{roomy-of}
+use Rattle.reader.proofs.ReadingLaws.{both-model, roomy-of}
 use Rattle.steps.specs.Answers.{stepRows}
 use Rattle.firing.specs.declared.StepAnswer.{StepAnswer}
 use Rattle.firing.specs.Answers.{stays}
@@ -20,7 +20,7 @@ use Rattle.firing.proofs.SizedLaws.{model-sized}
 use Rattle.firing.proofs.StandsLaws.{Stands}
 use Rattle.firing.proofs.ReadLaws.{ReadRows, lines-bad, lines-got}
 use Rattle.firing.proofs.RuledLaws.{RightStep, read-right, rule-is-sound, rows-placed}
-use Rattle.firing.proofs.StepLaws.{both-model, both-stands, reading, reading-is, step-refused, step-ruled}
+use Rattle.firing.proofs.StepLaws.{both-stands, reading, reading-is, step-refused, step-ruled}
 
 -- the entry, from the place behind the reading
 abbrev start : tie.After-read-step → tie.Start
