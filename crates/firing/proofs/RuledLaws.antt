@@ -27,8 +27,8 @@ use Rattle.model.specs.Test.{heldModel}
 use Rattle.model.specs.declared.Model.{Model}
 use Rattle.model.proofs.SlotLaws.{length-listed}
 use Rattle.model.proofs.TestLaws.{held-is}
-use Rattle.model.proofs.HeldBack.{held-again}
-use Rattle.model.proofs.HeldRight.{held-right}
+use Rattle.holding.proofs.HeldBack.{held-again}
+use Rattle.holding.proofs.HeldRight.{held-right}
 use Rattle.marking.specs.Held.{Sizes, sizesOf, rowOf, holdMarking, tokensOf}
 use Rattle.marking.specs.Reading.{Limits, free, rightNetToken, rightBlock}
 use Rattle.marking.specs.declared.Marking.{Marking}

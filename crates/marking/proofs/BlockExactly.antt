@@ -9,10 +9,10 @@ use Rattle.scan.proofs.Basics.{and-true}
 use Rattle.text.specs.Lines.{need, within}
 use Rattle.text.specs.Token.{Token, rightToken}
 use Rattle.text.proofs.TestLaws.{and-both, eqb-and, and-eqb, within-is}
-use Rattle.text.proofs.Exactly.{Exactly, many-exactly}
-use Rattle.text.proofs.LinesExactly.{number-exactly}
-use Rattle.text.proofs.TokenExactly.{token-exactly}
-use Rattle.text.proofs.ChainExactly.{exactly-by, made-exactly, first-makes, last-makes}
+use Rattle.encoding.proofs.Exactly.{Exactly, many-exactly}
+use Rattle.encoding.proofs.LinesExactly.{number-exactly}
+use Rattle.encoding.proofs.TokenExactly.{token-exactly}
+use Rattle.encoding.proofs.ChainExactly.{exactly-by, made-exactly, first-makes, last-makes}
 use Rattle.eos.specs.Model as eos
 use Rattle.marking.specs.Held.{Sizes}
 use Rattle.marking.specs.Reading.{Limits, tokenLine, lineToken, readNetToken, readBlock, rightNetToken, rightBlock}

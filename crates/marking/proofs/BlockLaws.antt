@@ -18,9 +18,9 @@ use Rattle.text.specs.declared.Ended.the-variants.{Past, Stopped}
 use Rattle.text.specs.declared.TokenRow.{TokenRow}
 use Rattle.text.proofs.TestLaws.{within-is}
 use Rattle.text.proofs.Loops.{got-of, bad-of, loop-turn, loop-bad, loop-done}
-use Rattle.text.proofs.Exactly.{got-is}
-use Rattle.text.proofs.LinesExactly.{number-exactly}
-use Rattle.text.proofs.TokenExactly.{token-exactly}
+use Rattle.encoding.proofs.Exactly.{got-is}
+use Rattle.encoding.proofs.LinesExactly.{number-exactly}
+use Rattle.encoding.proofs.TokenExactly.{token-exactly}
 use Rattle.eos.specs.Vector.{lexV}
 use Rattle.eos.specs.Multiset as M
 use Rattle.eos.specs.Model as eos

@@ -9,7 +9,7 @@ use lib.Seq.{sets, take-take, drop-drop}
 use Rattle.scan.specs.Bytes.{Text, bytes, lf, colon}
 use Rattle.text.specs.Printed.{decimal, endText, texts, numberText, tokenText}
 use Rattle.text.proofs.DecimalLaws.{length-below}
-use Rattle.text.proofs.Standing.{ends-join}
+use Rattle.encoding.proofs.Standing.{ends-join}
 use Rattle.print.specs.Writing.{write}
 use Rattle.print.specs.declared.Written.{Written}
 use Rattle.print.specs.declared.Written.the-variants.{Upto}

@@ -16,8 +16,8 @@ use Rattle.text.specs.Printed.{decimal, texts, numberText, tokenText}
 use Rattle.text.specs.Answers.{endedOf, keptOr}
 use Rattle.text.specs.declared.Ended.the-variants.{Past}
 use Rattle.text.proofs.TestLaws.{within-is, every-at}
-use Rattle.text.proofs.LengthLaws.{texts-length, end-length}
-use Rattle.text.proofs.Standing.{Stands}
+use Rattle.encoding.proofs.LengthLaws.{texts-length, end-length}
+use Rattle.encoding.proofs.Standing.{Stands}
 use Rattle.print.proofs.WritingLaws.{sets-append}
 use Rattle.eos.specs.Model as eos
 use Rattle.rows.specs.Rows.{Row, rowsIn, ascending}

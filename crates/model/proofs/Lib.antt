@@ -2,13 +2,8 @@ pub mod RuleLaws
 pub mod PadLaws
 pub mod SlotLaws
 pub mod TableLaws
-pub mod HoldLaws
 pub mod TestLaws
 pub mod UsedLaws
 pub mod RoomLaws
-pub mod HeldBack
-pub mod HoldHeld
-pub mod HeldRight
-pub mod HeldLaws
 pub mod RuleLoops
 pub mod TestLoops

@@ -17,7 +17,7 @@ use Rattle.text.specs.declared.Line.the-variants as line
 use Rattle.text.specs.declared.Ended.{Ended}
 use Rattle.text.specs.declared.Ended.the-variants.{Past, Stopped}
 use Rattle.text.specs.declared.Row.{Row}
-use Rattle.text.proofs.Exactly.{then-got, need-got, got-is}
+use Rattle.encoding.proofs.Exactly.{then-got, need-got, got-is}
 use Rattle.eos.specs.Model.{Act, move, idle}
 use Rattle.model.specs.Rules.{byte, Frame, ownNet, takesPart}
 use Rattle.model.specs.Held.{kindOf, indexOf}

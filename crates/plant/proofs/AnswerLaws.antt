@@ -18,8 +18,8 @@ use Rattle.text.specs.declared.Ended.{Ended}
 use Rattle.text.specs.declared.Ended.the-variants.{Past, Stopped}
 use Rattle.text.specs.declared.Row.{Row}
 use Rattle.text.proofs.Loops.{line-got, Got, got-of, bad-of, loop-turn, loop-bad}
-use Rattle.text.proofs.Exactly.{then-got, got-is}
-use Rattle.text.proofs.LinesExactly.{number-exactly, list-exactly}
+use Rattle.encoding.proofs.Exactly.{then-got, got-is}
+use Rattle.encoding.proofs.LinesExactly.{number-exactly, list-exactly}
 use Rattle.text.proofs.PaddedLaws.{narrow-padded}
 
 -- ---- a line of one number

@@ -11,11 +11,11 @@ use Rattle.scan.proofs.Basics.{by-test, and-true}
 use Rattle.text.specs.Lines.{got, need, within}
 use Rattle.text.specs.Printed.{numberText, listText}
 use Rattle.text.proofs.TestLaws.{and-both, within-is, is-within}
-use Rattle.text.proofs.Standing.{Stands}
-use Rattle.text.proofs.Exactly.{Accepts, Exactly, needed-exactly}
-use Rattle.text.proofs.ManyExactly.{manyAt-exactly}
-use Rattle.text.proofs.LinesExactly.{number-exactly, list-exactly}
-use Rattle.text.proofs.ChainExactly.{Makes, exactly-by, first-makes, last-makes}
+use Rattle.encoding.proofs.Standing.{Stands}
+use Rattle.encoding.proofs.Exactly.{Accepts, Exactly, needed-exactly}
+use Rattle.encoding.proofs.ManyExactly.{manyAt-exactly}
+use Rattle.encoding.proofs.LinesExactly.{number-exactly, list-exactly}
+use Rattle.encoding.proofs.ChainExactly.{Makes, exactly-by, first-makes, last-makes}
 use Rattle.eos.specs.Model.{Act, move, idle, Event}
 use Rattle.model.specs.Rules.{byte, listOf, Frame, ownNet, takesPart, rightAct, rightSync, rightEvent}
 use Rattle.model.specs.Held.{indexOf}

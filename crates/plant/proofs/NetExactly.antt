@@ -10,9 +10,9 @@ use Rattle.scan.proofs.Basics.{and-true}
 use Rattle.text.specs.Lines.{need, many, within, every}
 use Rattle.text.specs.Printed.{texts}
 use Rattle.text.proofs.TestLaws.{eqb-and, and-eqb}
-use Rattle.text.proofs.Exactly.{Exactly, many-exactly}
-use Rattle.text.proofs.LinesExactly.{number-exactly, list-exactly}
-use Rattle.text.proofs.ChainExactly.{exactly-by, first-makes, last-makes}
+use Rattle.encoding.proofs.Exactly.{Exactly, many-exactly}
+use Rattle.encoding.proofs.LinesExactly.{number-exactly, list-exactly}
+use Rattle.encoding.proofs.ChainExactly.{exactly-by, first-makes, last-makes}
 use Rattle.eos.specs.Model.{Transition, ObjectNet}
 use Rattle.model.specs.Rules.{byte, listOf, rightSides, rightNet}
 use Rattle.plant.specs.Reading.{readSides, readNet}

@@ -16,7 +16,7 @@ use Rattle.text.specs.declared.Line.{Line}
 use Rattle.text.specs.declared.Line.the-variants.{Value, Refused}
 use Rattle.text.specs.declared.Ended.{Ended}
 use Rattle.text.specs.declared.Ended.the-variants.{Past, Stopped}
-use Rattle.text.proofs.Exactly.{then-got, got-is}
+use Rattle.encoding.proofs.Exactly.{then-got, got-is}
 use Rattle.eos.specs.Model.{Transition, ObjectNet}
 use Rattle.model.specs.Rules.{monotonous, nth}
 use Rattle.model.specs.Held.{preOf, postOf, tabled, holdNet, noNet, putAt, holdNets}

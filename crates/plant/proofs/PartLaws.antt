@@ -15,7 +15,7 @@ use Rattle.text.specs.declared.Line.the-variants.{Value, Refused}
 use Rattle.text.specs.declared.Ended.{Ended}
 use Rattle.text.specs.declared.Ended.the-variants.{Past, Stopped}
 use Rattle.text.specs.declared.Row.{Row}
-use Rattle.text.proofs.Exactly.{then-got, got-is}
+use Rattle.encoding.proofs.Exactly.{then-got, got-is}
 use Rattle.text.proofs.Loops.{line-got, line-bad, Got, got-of, bad-of}
 use Rattle.eos.specs.Model.{Transition, ObjectNet, Event}
 use Rattle.model.specs.Rules.{Frame}

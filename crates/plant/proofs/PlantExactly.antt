@@ -7,9 +7,9 @@ use lib.ListN.{length}
 use Rattle.scan.specs.Bytes.{Text, bytes}
 use Rattle.text.specs.Lines.{need, within}
 use Rattle.text.proofs.TestLaws.{eqb-and, and-eqb}
-use Rattle.text.proofs.Exactly.{Exactly, many-exactly}
-use Rattle.text.proofs.LinesExactly.{number-exactly, list-exactly, head-exactly}
-use Rattle.text.proofs.ChainExactly.{exactly-by, first-makes, last-makes}
+use Rattle.encoding.proofs.Exactly.{Exactly, many-exactly}
+use Rattle.encoding.proofs.LinesExactly.{number-exactly, list-exactly, head-exactly}
+use Rattle.encoding.proofs.ChainExactly.{exactly-by, first-makes, last-makes}
 use Rattle.eos.specs.Model.{Model, places}
 use Rattle.model.specs.Rules.{frameOf, keepsTypes, rightMove, rightNet, rightModel}
 use Rattle.model.proofs.RuleLaws.{right-is, is-right}

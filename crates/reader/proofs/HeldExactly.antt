@@ -13,7 +13,7 @@ use Rattle.scan.specs.Bytes.{Text}
 use Rattle.scan.proofs.Basics.{by-test, and-true}
 use Rattle.text.specs.Lines.{Outcome, got, bad, every}
 use Rattle.text.proofs.TestLaws.{and-both}
-use Rattle.text.proofs.Unique.{was-printed}
+use Rattle.encoding.proofs.Unique.{was-printed}
 use Rattle.eos.specs.Model as eos
 use Rattle.eos.proofs.MultisetLaws.{Monoid, sumOf, ℕ+}
 use Rattle.eos.proofs.OrderLaws.{sort-again, sum-sort}
@@ -23,8 +23,8 @@ use Rattle.model.specs.Held.{holdModel}
 use Rattle.model.specs.Held as model
 use Rattle.model.specs.Test.{heldModel}
 use Rattle.model.specs.declared.Model.{Model}
-use Rattle.model.proofs.HoldHeld.{hold-held}
-use Rattle.model.proofs.HeldLaws as laws
+use Rattle.holding.proofs.HoldHeld.{hold-held}
+use Rattle.holding.proofs.HeldLaws as laws
 use Rattle.model.proofs.RuleLaws.{right-is, few-places}
 use Rattle.model.proofs.TestLaws.{held-is, most-places}
 use Rattle.plant.specs.Printed.{plantText}

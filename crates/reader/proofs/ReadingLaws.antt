@@ -21,7 +21,7 @@ use Rattle.model.specs.Rules.{rightModel}
 use Rattle.model.specs.Held.{holdModel}
 use Rattle.model.specs.Test.{heldModel}
 use Rattle.model.specs.declared.Model.{Model}
-use Rattle.model.proofs.HoldHeld.{hold-held}
+use Rattle.holding.proofs.HoldHeld.{hold-held}
 use Rattle.plant.specs.Reading.{readPlant}
 use Rattle.plant.specs.Answers.{readingOf}
 use Rattle.plant.specs.declared.Reading.{Reading}

@@ -12,9 +12,9 @@ use Rattle.scan.specs.Bytes.{Text, bytes}
 use Rattle.scan.proofs.Basics.{and-true}
 use Rattle.text.specs.Lines.{Outcome, got, then, need}
 use Rattle.text.proofs.TestLaws.{and-both}
-use Rattle.text.proofs.Exactly.{Exactly, got-is, need-got, then-got}
-use Rattle.text.proofs.ChainExactly.{exactly-by, first-makes, last-makes}
-use Rattle.text.proofs.Unique.{reads-back, was-printed}
+use Rattle.encoding.proofs.Exactly.{Exactly, got-is, need-got, then-got}
+use Rattle.encoding.proofs.ChainExactly.{exactly-by, first-makes, last-makes}
+use Rattle.encoding.proofs.Unique.{reads-back, was-printed}
 use Rattle.eos.specs.Model as eos
 use Rattle.model.specs.Rules.{rightModel}
 use Rattle.plant.proofs.PlantExactly.{plant-exactly}

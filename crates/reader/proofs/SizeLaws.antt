@@ -23,7 +23,7 @@ use Rattle.model.proofs.PadLaws.{nth-zeros, nth-padded}
 use Rattle.model.proofs.RuleLaws.{right-is, few-nets, few-places}
 use Rattle.model.proofs.SlotLaws.{cond-below, cond-from, by-index, length-listed, listed-at, listed-past}
 use Rattle.model.proofs.TestLoops.{at-any}
-use Rattle.model.proofs.HoldLaws.{net-at, net-past}
+use Rattle.holding.proofs.HoldLaws.{net-at, net-past}
 use Rattle.model.proofs.TestLaws.{held-is, most-nets, types-at, countTest, nets-at}
 use Rattle.marking.specs.Held.{Roomy, sizesOf}
 use Rattle.reader.specs.Sizes.{sizeOfType, sizesIn, sizesFor, SmallNets}

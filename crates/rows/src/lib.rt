@@ -58,7 +58,7 @@ pub fn row_at(rows: &[u16], at: usize) -> [u16; 33]
 }
 
 // Whether `row` is at most the row that stands at `at`.
-pub fn at_most(rows: &[u16], at: usize, row: [u16; 33]) -> bool
+fn at_most(rows: &[u16], at: usize, row: [u16; 33]) -> bool
     requires { ⌜ at + 33 ≤ length (now rows) ⌝ }
     ensures { λ r. ⌜ r ≡ lexV row (take 33 (drop at (now (rows .entry)))) ⌝ }
 {
@@ -82,7 +82,7 @@ fn rising(rows: &[u16], at: usize) -> bool
 }
 
 // How many of the `n` rows stand before the place of `row`.
-pub fn place_for(rows: &[u16], n: usize, row: [u16; 33]) -> usize
+fn place_for(rows: &[u16], n: usize, row: [u16; 33]) -> usize
     requires { ⌜ Kept n (now rows) ⌝ }
     ensures { λ r. ⌜ r ≡ placeFor row (rowsIn n (now (rows .entry))) ⌝ }
 {

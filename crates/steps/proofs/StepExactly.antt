@@ -9,9 +9,9 @@ use Rattle.scan.specs.Bytes.{Text, bytes}
 use Rattle.scan.proofs.Basics.{and-true}
 use Rattle.text.specs.Lines.{need, within}
 use Rattle.text.proofs.TestLaws.{and-both, within-is, is-within}
-use Rattle.text.proofs.Exactly.{Exactly}
-use Rattle.text.proofs.LinesExactly.{number-exactly}
-use Rattle.text.proofs.ChainExactly.{exactly-by, first-makes, last-makes}
+use Rattle.encoding.proofs.Exactly.{Exactly}
+use Rattle.encoding.proofs.LinesExactly.{number-exactly}
+use Rattle.encoding.proofs.ChainExactly.{exactly-by, first-makes, last-makes}
 use Rattle.eos.specs.Firing.{Step}
 use Rattle.marking.specs.Held.{Sizes}
 use Rattle.marking.specs.Reading.{Limits, rightBlock}

@@ -15,11 +15,11 @@ use Rattle.text.specs.Lines.{Outcome, got, bad, then, need, every, readHead, re
 use Rattle.text.specs.Repeat.{manyAt}
 use Rattle.text.specs.Printed.{weightsText}
 use Rattle.text.proofs.TestLaws.{and-both, everyAt-at}
-use Rattle.text.proofs.Exactly.{Exactly}
-use Rattle.text.proofs.LinesExactly.{head-exactly, weights-exactly}
-use Rattle.text.proofs.ManyExactly.{manyAt-exactly}
-use Rattle.text.proofs.ChainExactly.{exactly-by, first-makes, last-makes}
-use Rattle.text.proofs.Unique.{reads-back, was-printed}
+use Rattle.encoding.proofs.Exactly.{Exactly}
+use Rattle.encoding.proofs.LinesExactly.{head-exactly, weights-exactly}
+use Rattle.encoding.proofs.ManyExactly.{manyAt-exactly}
+use Rattle.encoding.proofs.ChainExactly.{exactly-by, first-makes, last-makes}
+use Rattle.encoding.proofs.Unique.{reads-back, was-printed}
 use Rattle.eos.specs.Model as eos
 use Rattle.eos.specs.Weights.{Weights, Shaped}
 use Rattle.model.proofs.SlotLaws.{by-index}

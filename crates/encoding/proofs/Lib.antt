@@ -1,0 +1,12 @@
+pub mod Standing
+pub mod Spelled
+pub mod Exactly
+pub mod LengthLaws
+pub mod ManyExactly
+pub mod ChainExactly
+pub mod LinesExactly
+pub mod TokenExactly
+pub mod AnyList
+pub mod Refused
+pub mod Unique
+pub mod Cases
