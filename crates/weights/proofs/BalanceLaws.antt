@@ -1,7 +1,7 @@
 -- An event's effect is 0 exactly where it gains what it loses, by the tables of gains and of losses; the least event that does not.
 use Prim.Native.Nat.{ℕ, zero, suc, _+_, _-_, _*_, _≤_, _<_, pred}
 use mathlib.Core.Path.{_≡_, refl, ap, ap₂, sym, _∙_}
-use mathlib.Core.Bool.{Bool, true, false, cond, false≢true}
+use mathlib.Core.Bool.{Bool, true, cond, false≢true}
 use mathlib.Core.List.{List, map}
 use mathlib.Core.Option.{Option, some}
 use native.Mathlib.Omega.{arith}
@@ -24,9 +24,9 @@ use Rattle.model.specs.declared.Event.{Event}
 use Rattle.model.specs.declared.Model.{Model}
 use Rattle.model.proofs.TestLaws.{held-is, most-moves, most-places}
 use Rattle.weights.specs.Held.{rows, holdWeights}
-use Rattle.weights.specs.Parts.{total, product, gainOf, Gains, eventGain, balancedAt, ActIn}
+use Rattle.sums.specs.Sums.{total, product, gainOf, Gains, eventGain, balancedAt, ActIn}
 use Rattle.weights.specs.declared.HeldWeights.{HeldWeights}
-use Rattle.weights.proofs.TotalLaws.{total-same, total-plus, total-rows}
+use Rattle.sums.proofs.TotalLaws.{total-same, total-plus, total-rows}
 use Rattle.weights.proofs.SplitLaws.{sub-minus, sub-zero, dotN, dotsN, valueBy, value-split}
 use Rattle.weights.proofs.HeldRows.{Kept, event-test}
 use Rattle.weights.proofs.EffectLaws.{event-is, inside-is, outside-move, outside-idle}

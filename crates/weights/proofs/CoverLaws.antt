@@ -1,5 +1,5 @@
 -- Weights cover as the code tests it: the least outer weight, and each inner weight where it is held.
-use Prim.Native.Nat.{ℕ, zero, suc, _+_, _*_, _/_, _≤_, _<_, min}
+use Prim.Native.Nat.{ℕ, zero, suc, _+_, _*_, _/_, _<_, min}
 use mathlib.Core.Path.{_≡_, refl, ap, ap₂, sym, _∙_}
 use mathlib.Core.Bool.{Bool, true, false, _&&_, false≢true}
 use mathlib.Core.List.{List, [], _∷_, map}
@@ -8,7 +8,7 @@ use lib.Dec.{leb, ltb}
 use lib.IntN.{ℤ, pos, negsuc, natAbs}
 use lib.ListN.{length, take, getD, length-map, List·getD-map}
 use lib.Seq.{length-take-le, getD-take, ext-getD}
-use borrow.Author.Tests.{ltb-true, lt-ltb, lt-leb, le-leb}
+use borrow.Author.Tests.{lt-ltb}
 use Rattle.scan.proofs.Basics.{by-test, and-true}
 use Rattle.numbers.specs.Answers.{above}
 use Rattle.eos.specs.Firing.{allBelow}
@@ -16,45 +16,12 @@ use Rattle.eos.specs.Multiset.{every}
 use Rattle.eos.specs.Weights.{Weights, positive, least, covers}
 use Rattle.model.specs.Rules.{nth}
 use Rattle.model.specs.Held.{noNet, tabled}
-use Rattle.model.specs.declared.ObjectNet.{ObjectNet}
 use Rattle.model.specs.declared.Model.{Model}
-use Rattle.model.proofs.SlotLaws.{below-at}
 use Rattle.model.proofs.TableLaws.{length-tabled}
 use Rattle.weights.specs.Held.{rows}
-use Rattle.weights.specs.Parts.{lowest, someAt, enoughAt, netCovered, covered}
+use Rattle.sums.specs.Sums.{lowest, someAt, enoughAt, netCovered, covered}
 use Rattle.weights.proofs.EveryLaws.{below-same, every-below, each-and}
 use Rattle.weights.proofs.HeldRows.{Kept, few-places, outer-long, inner-long, net-long, net-small, outer-at, inner-at}
-
--- ---- the code's test, case by case
-
--- the least of numbers that are not 0 is not 0
-lowest-some : (l : List ℕ) → 1 ≤ length l → ((i : ℕ) → i < length l → 1 ≤ nth l i) → 1 ≤ lowest l
-lowest-some [] h p = absurd (omega arith)
-lowest-some (v ∷ []) h p = p 0 (omega arith)
-lowest-some (v ∷ u ∷ l) h p = omega (arith, p 0 (omega arith), lowest-some (u ∷ l) (omega arith) (λ i q. p (suc i) (omega arith)))
-
-pub low-some : (w : List ℕ) (n : ℕ) → 1 ≤ n → n ≤ length w → allBelow n (someAt w) ≡ true → 1 ≤ lowest (take n w)
-low-some w n p q h =
-    let long : length (take n w) ≡ n = length-take-le n w q in
-    lowest-some (take n w) (omega arith) λ i k.
-    let e : nth (take n w) i ≡ nth w i = getD-take n w i 0 (omega arith) in
-    omega (arith, ltb-true 0 (nth w i) (below-at n (someAt w) h i (omega arith)))
-
-module _ (places nets : ℕ) (objects : List ObjectNet) (w : List ℕ) (sum : ℕ) where
-  pub cover-lacks : allBelow places (someAt w) ≡ false → false ≡ covered places nets objects w sum
-  unfolding covered
-  cover-lacks h = rw h
-
-  module _ (some : allBelow places (someAt w) ≡ true) (low : ℕ) (is : low ≡ lowest (take places w)) where
-    pub cover-many : 256 < sum / low → false ≡ covered places nets objects w sum
-    unfolding covered
-    cover-many h = rw (some, ← is, lt-leb (sum / low) 256 h)
-
-    pub cover-rest : sum / low ≤ 256 → (t : Bool) → t ≡ allBelow nets (netCovered sum w objects) → t ≡ covered places nets objects w sum
-    unfolding covered
-    cover-rest h t e = rw (some, ← is, le-leb (sum / low) 256 h) e
-
--- ---- the theory's test
 
 -- three tests in another order
 and-turn : (a b c : Bool) → ((a && b) && c) ≡ (b && (a && c))

@@ -11,8 +11,8 @@ use Rattle.eos.specs.Firing.{summed, innerOf}
 use Rattle.model.specs.Rules.{nth}
 use Rattle.model.specs.Held.{rowIn}
 use Rattle.model.proofs.SlotLaws.{by-index}
-use Rattle.weights.specs.Parts.{total, product}
-use Rattle.weights.proofs.TotalLaws.{total-none, total-same, total-zero, total-front}
+use Rattle.sums.specs.Sums.{total, product}
+use Rattle.sums.proofs.TotalLaws.{total-none, total-same, total-zero, total-front}
 use Rattle.weights.proofs.SplitLaws.{dotN, dotsN}
 
 -- ---- linear

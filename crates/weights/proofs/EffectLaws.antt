@@ -25,8 +25,8 @@ use Rattle.model.proofs.SlotLaws.{by-index, cond-below, listed-at}
 use Rattle.model.proofs.TableLaws.{row-at, nth-row}
 use Rattle.model.proofs.TestLaws.{held-is, countTest, nets-at}
 use Rattle.weights.specs.Held.{rows}
-use Rattle.weights.specs.Parts.{total, product}
-use Rattle.weights.proofs.TotalLaws.{total-same}
+use Rattle.sums.specs.Sums.{total, product}
+use Rattle.sums.proofs.TotalLaws.{total-same}
 use Rattle.weights.proofs.SplitLaws.{dotN, dotsN}
 use Rattle.weights.proofs.DotLaws.{dotN-⊕, dotN-zeros, dotN-unit, dotsN-total, dotN-inner, dotN-row, row-nth}
 use Rattle.weights.proofs.FileLaws.{net-is}

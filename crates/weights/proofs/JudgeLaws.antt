@@ -24,7 +24,7 @@ use Rattle.reader.specs.Answers.{heldBoth}
 use Rattle.reader.specs.Sizes.{sizesFor}
 use Rattle.weights.specs.Held.{rows, holdWeights}
 use Rattle.weights.specs.Answers.{sumOf, refusedWeights, passedWeights, turnedOr, judgedWeights}
-use Rattle.weights.specs.Parts.{markingWeight, PlaceIn, covered}
+use Rattle.sums.specs.Sums.{markingWeight, PlaceIn, covered}
 use Rattle.weights.specs.declared.HeldWeights.{HeldWeights}
 use Rattle.weights.specs.declared.WeightAnswer.the-variants.{Passed, Turned}
 use Rattle.weights.specs.declared.Sum.{Sum}

@@ -1,8 +1,6 @@
-pub mod TotalLaws
+pub mod AnswerLaws
 pub mod SplitLaws
 pub mod DotLaws
-pub mod StepLaws
-pub mod GainLaws
 pub mod FileLaws
 pub mod ChainLaws
 pub mod CoverLaws

@@ -24,8 +24,8 @@ use Rattle.marking.specs.Held.{tokenOf, tokensOf, heldMarking}
 use Rattle.marking.specs.declared.Marking.{Marking}
 use Rattle.reader.specs.Sizes.{sizeOfType, sizesIn, sizesFor}
 use Rattle.weights.specs.Held.{rows}
-use Rattle.weights.specs.Parts.{total, product, tokenWeight, markingWeight}
-use Rattle.weights.proofs.TotalLaws.{total-none, total-same, total-zero, total-front, total-one}
+use Rattle.sums.specs.Sums.{total, product, tokenWeight, markingWeight}
+use Rattle.sums.proofs.TotalLaws.{total-none, total-same, total-zero, total-front, total-one}
 use Rattle.weights.proofs.SplitLaws.{dotN, dotsN, value-split}
 use Rattle.weights.proofs.DotLaws.{dotN-none, dotsN-total, dotN-row}
 use Rattle.weights.proofs.HeldRows.{Kept, few-places, inner-long, net-long, net-small, outer-at, inner-at}

@@ -2,7 +2,7 @@
 use borrow.Author.Needs.{needs}
 use Rattle.weights.proofs.difference.Statement.{statement}
 use Rattle.weights.proofs.difference.Tie as tie
-use Rattle.weights.proofs.StepLaws.{below-zero, above-zero}
+use Rattle.weights.proofs.AnswerLaws.{below-zero, above-zero}
 
 sub-t4 : tie.Need-sub-t4
 sub-t4 c = search needs

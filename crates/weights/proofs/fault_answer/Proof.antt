@@ -5,7 +5,7 @@ use Rattle.weights.proofs.fault_answer.Tie as tie
 use native.Mathlib.Omega.{arith}
 use denote.Ref.{now}
 use Rattle.reader.proofs.ReadingLaws.{lines-few}
-use Rattle.weights.proofs.StepLaws.{fault-line}
+use Rattle.weights.proofs.AnswerLaws.{fault-line}
 
 lines-before-requires : tie.Need-lines-before-requires
 lines-before-requires c κs = search needs

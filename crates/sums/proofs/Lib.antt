@@ -1,0 +1,4 @@
+pub mod TotalLaws
+pub mod StepLaws
+pub mod GainLaws
+pub mod CoverLaws
