@@ -1,3 +1,6 @@
+pub mod Loops
+pub mod TestLaws
+pub mod DecimalLaws
 pub mod Standing
 pub mod Spelled
 pub mod Exactly

@@ -15,7 +15,7 @@ use Rattle.scan.proofs.Basics.{by-test}
 use Rattle.numbers.specs.Number.{Read, missing, found, isDigit, digits, numberOf, number, plainly, negated, signed}
 use Rattle.text.specs.Printed.{decimal, signedText}
 use Rattle.numbers.proofs.Basics.{missing≢found, found-is}
-use Rattle.text.proofs.DecimalLaws.{decimal-small, decimal-large, decimal-more, decimal-leads, by-digits, is-digit}
+use Rattle.encoding.proofs.DecimalLaws.{decimal-small, decimal-large, decimal-more, decimal-leads, by-digits, is-digit}
 use Rattle.numbers.proofs.NumberSteps.{digits-more, digits-stop, of-zero, of-digit, of-other, digit-bounds}
 use Rattle.encoding.proofs.Standing.{Reaches, front-stands, drop-behind, byte-stands, first-byte, ends-join, reach-join}
 

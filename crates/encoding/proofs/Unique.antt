@@ -15,7 +15,7 @@ use Rattle.text.specs.Lines.{Outcome, got}
 use Rattle.text.specs.Token.{Token}
 use Rattle.text.specs.Printed.{decimal, signedText, itemsText, endText, numberText, listText, weightsText, tokenText}
 use Rattle.numbers.proofs.Basics.{found-is}
-use Rattle.text.proofs.DecimalLaws.{length-positive}
+use Rattle.encoding.proofs.DecimalLaws.{length-positive}
 use Rattle.encoding.proofs.Standing.{all-of, stands-all}
 use Rattle.encoding.proofs.Spelled.{Spelled, number-spelled, signed-spelled}
 use Rattle.encoding.proofs.Exactly.{Exactly, got-is}

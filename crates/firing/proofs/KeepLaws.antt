@@ -8,7 +8,7 @@ use native.Mathlib.Omega.{arith}
 use lib.ListN.{length, length-map}
 use Rattle.scan.specs.Bytes.{Text}
 use Rattle.text.specs.Lines.{Outcome, got, bad}
-use Rattle.text.proofs.TestLaws.{and-both}
+use Rattle.encoding.proofs.TestLaws.{and-both}
 use Rattle.eos.specs.Model as eos
 use Rattle.eos.specs.Firing.{Step, after}
 use Rattle.eos.specs.Causes.{Refusal, refusal}

@@ -7,7 +7,7 @@ use Rattle.text.specs.Lines.{Outcome, got, bad}
 use Rattle.text.specs.Answers.{endedOf}
 use Rattle.text.specs.declared.Fault.{Fault}
 use Rattle.text.specs.declared.Ended.the-variants.{Past, Stopped}
-use Rattle.text.proofs.Loops.{got-of, bad-of}
+use Rattle.encoding.proofs.Loops.{got-of, bad-of}
 use Rattle.eos.specs.Firing.{Step}
 use Rattle.rows.specs.Rows.{Row}
 use Rattle.marking.specs.Held.{rowOf}

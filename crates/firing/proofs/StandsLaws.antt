@@ -10,7 +10,7 @@ use lib.ListN.{length, drop, length-map}
 use borrow.Author.Tests.{leb-true}
 use Rattle.scan.proofs.Basics.{and-true}
 use Rattle.text.specs.Lines.{every}
-use Rattle.text.proofs.TestLaws.{and-both}
+use Rattle.encoding.proofs.TestLaws.{and-both}
 use Rattle.eos.specs.Multiset as M
 use Rattle.eos.specs.Model as eos
 use Rattle.eos.specs.Firing.{Step, after}

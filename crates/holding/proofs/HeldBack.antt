@@ -12,7 +12,7 @@ use Rattle.text.specs.Lines.{within}
 use Rattle.text.specs.Repeat.{fill}
 use Rattle.text.specs.Answers.{padded}
 use Rattle.scan.proofs.Basics.{and-true}
-use Rattle.text.proofs.TestLaws.{within-is, eqb-and}
+use Rattle.encoding.proofs.TestLaws.{within-is, eqb-and}
 use Rattle.eos.specs.Model as eos
 use Rattle.model.specs.Held.{preOf, postOf, row, tabled, holdNet, holdEvent, noNet, noEvent, holdNets, holdEvents, holdModel}
 use Rattle.model.specs.Held.{SizedNet, Sized, rowIn, listed, sidesIn, netOf, syncIn, eventOf, modelOf}

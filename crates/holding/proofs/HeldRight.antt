@@ -10,7 +10,7 @@ use borrow.Author.Tests.{le-leb}
 use lib.ListN.{length, take, drop, getD}
 use lib.Seq.{getD-take, getD-drop, length-take-le}
 use Rattle.text.specs.Lines.{within, every}
-use Rattle.text.proofs.TestLaws.{and-both, and-eqb, within-is, every-of, everyAt-of}
+use Rattle.encoding.proofs.TestLaws.{and-both, and-eqb, within-is, every-of, everyAt-of}
 use Rattle.eos.specs.Model as eos
 use Rattle.model.specs.Rules.{nth, byte, listOf, frameOf, monotonous, rightSides}
 use Rattle.model.specs.Rules.{keepsTypes, rightMove, ownNet, takesPart, rightNet, rightSync, rightEvent, rightModel}

@@ -9,7 +9,7 @@ use borrow.Author.Tests.{eq-eqb, le-leb}
 use lib.ListN.{length, getD, replicate, List·getD-eq-default}
 use Rattle.text.specs.Lines.{within}
 use Rattle.text.specs.Repeat.{fill}
-use Rattle.text.proofs.TestLaws.{and-both, within-is, every-at}
+use Rattle.encoding.proofs.TestLaws.{and-both, within-is, every-at}
 use Rattle.eos.specs.Model as eos
 use Rattle.model.specs.Rules.{nth, frameOf, rightSides, keepsTypes, ownNet, rightModel}
 use Rattle.model.specs.Held.{preOf, postOf, row, tabled, holdNet, holdEvent, noNet, noEvent, holdEvents, holdModel, rowIn}

@@ -6,7 +6,7 @@ use mathlib.Core.Bool.{true}
 use native.Mathlib.Omega.{arith}
 use lib.ListN.{length, getD, replicate, length-replicate, List·getD-eq-default}
 use Rattle.text.specs.Lines.{every}
-use Rattle.text.proofs.TestLaws.{and-eqb, within-is, every-at}
+use Rattle.encoding.proofs.TestLaws.{and-eqb, within-is, every-at}
 use Rattle.eos.specs.Model as eos
 use Rattle.model.specs.Rules.{byte, listOf, frameOf, rightSides, rightNet, rightModel}
 use Rattle.model.specs.Held.{preOf, postOf, row, tabled, holdNet, kindOf, indexOf, holdEvent, noNet, noEvent, holdNets, holdEvents, holdModel}

@@ -8,7 +8,7 @@ use Rattle.scan.specs.Bytes.{Text, bytes}
 use Rattle.scan.proofs.Basics.{and-true}
 use Rattle.text.specs.Lines.{need, within}
 use Rattle.text.specs.Token.{Token, rightToken}
-use Rattle.text.proofs.TestLaws.{and-both, eqb-and, and-eqb, within-is}
+use Rattle.encoding.proofs.TestLaws.{and-both, eqb-and, and-eqb, within-is}
 use Rattle.encoding.proofs.Exactly.{Exactly, many-exactly}
 use Rattle.encoding.proofs.LinesExactly.{number-exactly}
 use Rattle.encoding.proofs.TokenExactly.{token-exactly}

@@ -16,8 +16,8 @@ use Rattle.text.specs.Answers.{endedOf, keptOr, padded, tokenRowOf}
 use Rattle.text.specs.declared.Fault.{Fault}
 use Rattle.text.specs.declared.Ended.the-variants.{Past, Stopped}
 use Rattle.text.specs.declared.TokenRow.{TokenRow}
-use Rattle.text.proofs.TestLaws.{within-is}
-use Rattle.text.proofs.Loops.{got-of, bad-of, loop-turn, loop-bad, loop-done}
+use Rattle.encoding.proofs.TestLaws.{within-is}
+use Rattle.encoding.proofs.Loops.{got-of, bad-of, loop-turn, loop-bad, loop-done}
 use Rattle.encoding.proofs.Exactly.{got-is}
 use Rattle.encoding.proofs.LinesExactly.{number-exactly}
 use Rattle.encoding.proofs.TokenExactly.{token-exactly}

@@ -13,7 +13,7 @@ use Rattle.text.specs.Lines.{every, within}
 use Rattle.text.specs.Token.{rightToken}
 use Rattle.text.specs.Answers.{padded}
 use Rattle.scan.proofs.Basics.{and-true}
-use Rattle.text.proofs.TestLaws.{and-both, eqb-and, within-is}
+use Rattle.encoding.proofs.TestLaws.{and-both, eqb-and, within-is}
 use Rattle.text.proofs.PaddedLaws.{padded-is, take-padded, drop-padded}
 use Rattle.eos.specs.Vector.{lexV}
 use Rattle.eos.specs.Multiset as M

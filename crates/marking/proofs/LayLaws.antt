@@ -8,7 +8,7 @@ use lib.ListN.{length, take, drop, getD, length-append}
 use lib.Seq.{sets, take-take, drop-drop}
 use Rattle.scan.specs.Bytes.{Text, bytes, lf, colon}
 use Rattle.text.specs.Printed.{decimal, endText, texts, numberText, tokenText}
-use Rattle.text.proofs.DecimalLaws.{length-below}
+use Rattle.encoding.proofs.DecimalLaws.{length-below}
 use Rattle.encoding.proofs.Standing.{ends-join}
 use Rattle.print.specs.Writing.{write}
 use Rattle.print.specs.declared.Written.{Written}

@@ -15,7 +15,7 @@ use Rattle.text.specs.Lines.{got, every, within}
 use Rattle.text.specs.Printed.{decimal, texts, numberText, tokenText}
 use Rattle.text.specs.Answers.{endedOf, keptOr}
 use Rattle.text.specs.declared.Ended.the-variants.{Past}
-use Rattle.text.proofs.TestLaws.{within-is, every-at}
+use Rattle.encoding.proofs.TestLaws.{within-is, every-at}
 use Rattle.encoding.proofs.LengthLaws.{texts-length, end-length}
 use Rattle.encoding.proofs.Standing.{Stands}
 use Rattle.print.proofs.WritingLaws.{sets-append}

@@ -11,7 +11,7 @@ use lib.Seq.{ext-getD, getD-drop}
 use Rattle.text.specs.Lines.{every}
 use Rattle.text.specs.Answers.{padded}
 use Rattle.scan.proofs.Basics.{by-test, and-true}
-use Rattle.text.proofs.TestLaws.{and-both}
+use Rattle.encoding.proofs.TestLaws.{and-both}
 use Rattle.text.proofs.PaddedLaws.{padded-is, at-padded, length-padded}
 use Rattle.eos.specs.Vector.{eqV}
 use Rattle.eos.proofs.Basics.{is-true}

@@ -10,7 +10,7 @@ use lib.ListN.{length, getD}
 use Rattle.text.specs.Lines.{within, every}
 use Rattle.text.specs.Repeat.{everyAt}
 use Rattle.scan.proofs.Basics.{and-true}
-use Rattle.text.proofs.TestLaws.{eqb-and, and-eqb, within-is, every-at, everyAt-at}
+use Rattle.encoding.proofs.TestLaws.{eqb-and, and-eqb, within-is, every-at, everyAt-at}
 use Rattle.eos.specs.Model.{Transition, ObjectNet, Event, Model, places, noTransition, noNet, noEvent}
 use Rattle.model.specs.Rules.{byte, listOf, frameOf, Frame, ownNet, takesPart, rightSides, keepsTypes, rightMove, rightNet, rightAct, rightSync, rightEvent}
 use Rattle.model.specs.Rules.{rightModel}

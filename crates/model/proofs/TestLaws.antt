@@ -9,7 +9,7 @@ use borrow.Author.Tests.{le-leb}
 use lib.ListN.{length, getD}
 use Rattle.text.specs.Lines.{within}
 use Rattle.scan.proofs.Basics.{and-true}
-use Rattle.text.proofs.TestLaws.{within-is}
+use Rattle.encoding.proofs.TestLaws.{within-is}
 use Rattle.eos.specs.Model as eos
 use Rattle.text.specs.Answers.{padded}
 use Rattle.model.specs.Rules.{nth, Frame, monotonous, ownNet, takesPart, rightAct}

@@ -26,7 +26,7 @@ use Rattle.model.proofs.TestLaws.{part-padded}
 use Rattle.plant.specs.Reading.{readIdle, readMove, readAct, readSync}
 use Rattle.plant.specs.Answers.{actingOf, countsOf}
 use Rattle.plant.specs.declared.Acting.the-variants.{Acts, Refused}
-use Rattle.text.proofs.Loops.{line-got, line-bad}
+use Rattle.encoding.proofs.Loops.{line-got, line-bad}
 use Rattle.plant.proofs.AnswerLaws.{number-in, value-in, row-bad, Bytes, bytes-got}
 
 -- ---- the first line

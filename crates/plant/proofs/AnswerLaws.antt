@@ -17,7 +17,7 @@ use Rattle.text.specs.declared.Line.the-variants.{Value}
 use Rattle.text.specs.declared.Ended.{Ended}
 use Rattle.text.specs.declared.Ended.the-variants.{Past, Stopped}
 use Rattle.text.specs.declared.Row.{Row}
-use Rattle.text.proofs.Loops.{line-got, Got, got-of, bad-of, loop-turn, loop-bad}
+use Rattle.encoding.proofs.Loops.{line-got, Got, got-of, bad-of, loop-turn, loop-bad}
 use Rattle.encoding.proofs.Exactly.{then-got, got-is}
 use Rattle.encoding.proofs.LinesExactly.{number-exactly, list-exactly}
 use Rattle.text.proofs.PaddedLaws.{narrow-padded}

@@ -10,7 +10,7 @@ use Rattle.scan.specs.Bytes.{Text, bytes, starts}
 use Rattle.scan.proofs.Basics.{by-test, and-true}
 use Rattle.text.specs.Lines.{got, need, within}
 use Rattle.text.specs.Printed.{numberText, listText}
-use Rattle.text.proofs.TestLaws.{and-both, within-is, is-within}
+use Rattle.encoding.proofs.TestLaws.{and-both, within-is, is-within}
 use Rattle.encoding.proofs.Standing.{Stands}
 use Rattle.encoding.proofs.Exactly.{Accepts, Exactly, needed-exactly}
 use Rattle.encoding.proofs.ManyExactly.{manyAt-exactly}

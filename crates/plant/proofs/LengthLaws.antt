@@ -11,7 +11,7 @@ use Rattle.scan.specs.Bytes.{Text, bytes}
 use Rattle.scan.proofs.Basics.{and-true}
 use Rattle.text.specs.Lines.{every}
 use Rattle.text.specs.Printed.{numberText, listText, texts}
-use Rattle.text.proofs.TestLaws.{within-is, every-at}
+use Rattle.encoding.proofs.TestLaws.{within-is, every-at}
 use Rattle.encoding.proofs.LengthLaws.{texts-length, number-length, list-length}
 use Rattle.eos.specs.Model.{Transition, ObjectNet, Act, move, idle, Event, Model, places, noTransition, noNet, noEvent}
 use Rattle.model.specs.Rules.{byte, Frame, frameOf, rightSides, rightNet, rightAct, rightModel}

@@ -9,7 +9,7 @@ use Rattle.scan.specs.Bytes.{Text, bytes}
 use Rattle.scan.proofs.Basics.{and-true}
 use Rattle.text.specs.Lines.{need, many, within, every}
 use Rattle.text.specs.Printed.{texts}
-use Rattle.text.proofs.TestLaws.{eqb-and, and-eqb}
+use Rattle.encoding.proofs.TestLaws.{eqb-and, and-eqb}
 use Rattle.encoding.proofs.Exactly.{Exactly, many-exactly}
 use Rattle.encoding.proofs.LinesExactly.{number-exactly, list-exactly}
 use Rattle.encoding.proofs.ChainExactly.{exactly-by, first-makes, last-makes}

@@ -26,7 +26,7 @@ use Rattle.text.specs.Answers.{endedIn}
 use Rattle.plant.specs.Answers.{tablesOf, netLinesOf, netsOf}
 use Rattle.plant.specs.declared.Tables.{Tables}
 use Rattle.plant.specs.declared.NetLines.{NetLines}
-use Rattle.text.proofs.Loops.{line-got, line-bad}
+use Rattle.encoding.proofs.Loops.{line-got, line-bad}
 use Rattle.plant.proofs.AnswerLaws.{number-in, many-long, turn-past, turn-stopped, filled-got, filled-bad}
 use Rattle.plant.proofs.SideLaws.{tables-past, tables-stopped, tables-held}
 

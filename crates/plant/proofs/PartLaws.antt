@@ -16,7 +16,7 @@ use Rattle.text.specs.declared.Ended.{Ended}
 use Rattle.text.specs.declared.Ended.the-variants.{Past, Stopped}
 use Rattle.text.specs.declared.Row.{Row}
 use Rattle.encoding.proofs.Exactly.{then-got, got-is}
-use Rattle.text.proofs.Loops.{line-got, line-bad, Got, got-of, bad-of}
+use Rattle.encoding.proofs.Loops.{line-got, line-bad, Got, got-of, bad-of}
 use Rattle.eos.specs.Model.{Transition, ObjectNet, Event}
 use Rattle.model.specs.Rules.{Frame}
 use Rattle.model.specs.Held.{preOf, postOf, tabled, noNet, holdNets, noEvent, holdEvents}

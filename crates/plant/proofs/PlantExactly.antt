@@ -6,7 +6,7 @@ use borrow.Author.Tests.{eqb-true}
 use lib.ListN.{length}
 use Rattle.scan.specs.Bytes.{Text, bytes}
 use Rattle.text.specs.Lines.{need, within}
-use Rattle.text.proofs.TestLaws.{eqb-and, and-eqb}
+use Rattle.encoding.proofs.TestLaws.{eqb-and, and-eqb}
 use Rattle.encoding.proofs.Exactly.{Exactly, many-exactly}
 use Rattle.encoding.proofs.LinesExactly.{number-exactly, list-exactly, head-exactly}
 use Rattle.encoding.proofs.ChainExactly.{exactly-by, first-makes, last-makes}

@@ -11,7 +11,7 @@ use Rattle.text.specs.Answers.{endedOf, keptOr, padded}
 use Rattle.text.specs.declared.Fault.{Fault}
 use Rattle.text.specs.declared.Ended.{Ended}
 use Rattle.text.specs.declared.Ended.the-variants.{Past, Stopped}
-use Rattle.text.proofs.Loops.{Got, got-of, bad-of}
+use Rattle.encoding.proofs.Loops.{Got, got-of, bad-of}
 use Rattle.eos.specs.Model as eos
 use Rattle.model.specs.Rules as rules
 use Rattle.model.specs.Rules.{nth, frameOf, monotonous, keepsTypes}

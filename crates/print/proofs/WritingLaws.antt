@@ -17,7 +17,7 @@ use Rattle.print.specs.Writing.{Lent, write}
 use Rattle.print.specs.declared.Written.{Written}
 use Rattle.print.specs.declared.Written.the-variants.{Upto, Full}
 use Rattle.scan.proofs.Basics.{by-test}
-use Rattle.text.proofs.DecimalLaws.{decimal-small, decimal-large}
+use Rattle.encoding.proofs.DecimalLaws.{decimal-small, decimal-large}
 
 -- two numbers by their order
 pub by-le : {G : Type 0} (a b : ℕ) → (a ≤ b → G) → (b < a → G) → G

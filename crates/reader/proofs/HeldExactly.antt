@@ -12,7 +12,7 @@ use borrow.Author.Tests.{le-leb, leb-true}
 use Rattle.scan.specs.Bytes.{Text}
 use Rattle.scan.proofs.Basics.{by-test, and-true}
 use Rattle.text.specs.Lines.{Outcome, got, bad, every}
-use Rattle.text.proofs.TestLaws.{and-both}
+use Rattle.encoding.proofs.TestLaws.{and-both}
 use Rattle.encoding.proofs.Unique.{was-printed}
 use Rattle.eos.specs.Model as eos
 use Rattle.eos.proofs.MultisetLaws.{Monoid, sumOf, ℕ+}

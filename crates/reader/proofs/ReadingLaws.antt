@@ -15,7 +15,7 @@ use Rattle.text.specs.Answers.{endedOf, keptOr}
 use Rattle.text.specs.declared.Fault.{Fault}
 use Rattle.text.specs.declared.Ended.{Ended}
 use Rattle.text.specs.declared.Ended.the-variants.{Past, Stopped}
-use Rattle.text.proofs.Loops.{Got, got-of, bad-of}
+use Rattle.encoding.proofs.Loops.{Got, got-of, bad-of}
 use Rattle.eos.specs.Model as eos
 use Rattle.model.specs.Rules.{rightModel}
 use Rattle.model.specs.Held.{holdModel}

@@ -11,7 +11,7 @@ use borrow.Author.Tests.{leb-true, le-leb}
 use Rattle.scan.specs.Bytes.{Text, bytes}
 use Rattle.scan.proofs.Basics.{and-true}
 use Rattle.text.specs.Lines.{Outcome, got, then, need}
-use Rattle.text.proofs.TestLaws.{and-both}
+use Rattle.encoding.proofs.TestLaws.{and-both}
 use Rattle.encoding.proofs.Exactly.{Exactly, got-is, need-got, then-got}
 use Rattle.encoding.proofs.ChainExactly.{exactly-by, first-makes, last-makes}
 use Rattle.encoding.proofs.Unique.{reads-back, was-printed}

@@ -12,7 +12,7 @@ use borrow.Author.Tests.{leb-true, eqb-true}
 use Rattle.text.specs.Lines.{within}
 use Rattle.text.specs.Answers.{padded}
 use Rattle.scan.proofs.Basics.{and-true}
-use Rattle.text.proofs.TestLaws.{within-is, eqb-and}
+use Rattle.encoding.proofs.TestLaws.{within-is, eqb-and}
 use Rattle.eos.specs.Model as eos
 use Rattle.model.specs.Rules.{nth, rightModel}
 use Rattle.model.specs.Held.{noNet, holdNet, holdNets, holdModel, listed}

@@ -11,7 +11,7 @@ use Rattle.scan.proofs.Basics.{and-true}
 use Rattle.text.specs.Lines.{within}
 use Rattle.text.specs.Answers.{padded}
 use Rattle.text.proofs.PaddedLaws.{length-padded}
-use Rattle.text.proofs.TestLaws.{within-is}
+use Rattle.encoding.proofs.TestLaws.{within-is}
 use Rattle.eos.specs.Vector.{_⊕_, times, zeros, unit}
 use Rattle.eos.specs.Model as eos
 use Rattle.eos.specs.Firing.{ofAct, outerOf, innerOf, summed, pre, post}

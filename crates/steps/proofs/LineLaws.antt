@@ -13,7 +13,7 @@ use Rattle.text.specs.Answers.{endedOf}
 use Rattle.text.specs.declared.Fault.{Fault}
 use Rattle.text.specs.declared.Ended.{Ended}
 use Rattle.text.specs.declared.Ended.the-variants.{Past, Stopped}
-use Rattle.text.proofs.Loops.{got-of, bad-of, loop-turn, loop-bad, loop-done}
+use Rattle.encoding.proofs.Loops.{got-of, bad-of, loop-turn, loop-bad, loop-done}
 use Rattle.text.proofs.PaddedLaws.{length-padded}
 use Rattle.eos.specs.Model as eos
 use Rattle.rows.specs.Rows.{Row, rowsIn}

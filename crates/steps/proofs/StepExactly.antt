@@ -8,7 +8,7 @@ use borrow.Author.Tests.{ltb-true, lt-ltb}
 use Rattle.scan.specs.Bytes.{Text, bytes}
 use Rattle.scan.proofs.Basics.{and-true}
 use Rattle.text.specs.Lines.{need, within}
-use Rattle.text.proofs.TestLaws.{and-both, within-is, is-within}
+use Rattle.encoding.proofs.TestLaws.{and-both, within-is, is-within}
 use Rattle.encoding.proofs.Exactly.{Exactly}
 use Rattle.encoding.proofs.LinesExactly.{number-exactly}
 use Rattle.encoding.proofs.ChainExactly.{exactly-by, first-makes, last-makes}

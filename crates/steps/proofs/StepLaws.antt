@@ -6,7 +6,7 @@ use Rattle.scan.specs.Bytes.{Text, bytes}
 use Rattle.text.specs.Lines.{Outcome, got, bad, then, within, readNumber}
 use Rattle.text.specs.declared.Fault.{Fault}
 use Rattle.text.specs.declared.Ended.the-variants.{Stopped}
-use Rattle.text.proofs.TestLaws.{within-is}
+use Rattle.encoding.proofs.TestLaws.{within-is}
 use Rattle.encoding.proofs.LinesExactly.{number-exactly}
 use Rattle.eos.specs.Firing.{Step}
 use Rattle.rows.specs.Rows.{rowsIn}

@@ -17,15 +17,6 @@ use numbers::Decimal;
 use numbers::item;
 use scan::starts;
 
-fn in_range(v: u32, lo: u16, hi: u16) -> bool
-    ensures { λ r. ⌜ r ≡ within lo hi v ⌝ }
-{
-    if v < lo as u32 {
-        return false;
-    }
-    v <= hi as u32
-}
-
 // The line of key and one number from lo to hi.
 pub fn number_line(s: &[u8], at: usize, key: &[u8], lo: u16, hi: u16) -> Line
     ensures { λ r. ⌜ r ≡ lineOf (readNumber (now (key .entry)) (within lo hi) (now (s .entry)) at) ⌝ }
@@ -40,7 +31,12 @@ pub fn number_line(s: &[u8], at: usize, key: &[u8], lo: u16, hi: u16) -> Line
             fault: Fault { why: 2, at },
         };
     };
-    if !in_range(value, lo, hi) {
+    if value < lo as u32 {
+        return Line::Refused {
+            fault: Fault { why: 3, at },
+        };
+    }
+    if (hi as u32) < value {
         return Line::Refused {
             fault: Fault { why: 3, at },
         };

@@ -14,7 +14,7 @@ use Rattle.eos.proofs.VectorSums.{length-times, length-unit, length-zeros, long
 use Rattle.scan.proofs.Basics.{and-true}
 use Rattle.text.specs.Lines.{every}
 use Rattle.text.specs.Answers.{padded}
-use Rattle.text.proofs.TestLaws.{within-is}
+use Rattle.encoding.proofs.TestLaws.{within-is}
 use Rattle.model.specs.Rules.{rightSides, rightAct, frameOf, rightModel}
 use Rattle.model.specs.Held.{row, rowIn, listed}
 use Rattle.model.proofs.RuleLaws.{sides-long, net-is, right-is, few-nets, right-move, right-net, right-event}

@@ -19,7 +19,7 @@ use Rattle.scan.proofs.Basics.{and-true}
 use Rattle.text.specs.Lines.{every}
 use Rattle.text.specs.Answers.{padded}
 use Rattle.text.proofs.PaddedLaws.{at-padded}
-use Rattle.text.proofs.TestLaws.{within-is}
+use Rattle.encoding.proofs.TestLaws.{within-is}
 use Rattle.rows.specs.Rows.{rowsIn}
 use Rattle.model.specs.Rules.{nth, byte, rightSides, rightModel, frameOf}
 use Rattle.model.specs.Held.{row, tabled, listed}

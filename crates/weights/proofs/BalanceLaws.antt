@@ -12,7 +12,7 @@ use borrow.Author.Tests.{eqb-true, eqb-false, eq-eqb, ne-eqb}
 use Rattle.scan.proofs.Basics.{by-test, and-true}
 use Rattle.text.specs.Lines.{within}
 use Rattle.numbers.specs.Answers.{above, below}
-use Rattle.text.proofs.TestLaws.{within-is}
+use Rattle.encoding.proofs.TestLaws.{within-is}
 use Rattle.eos.specs.Model as eos
 use Rattle.eos.specs.Firing.{pre, post, outerOf, innerOf}
 use Rattle.eos.specs.Causes.{failing, numbered}

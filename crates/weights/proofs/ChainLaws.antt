@@ -17,7 +17,7 @@ use Rattle.text.specs.declared.Ended.the-variants.{Past, Stopped}
 use Rattle.text.specs.declared.Line.{Line}
 use Rattle.text.specs.declared.Line.the-variants.{Value, Refused}
 use Rattle.text.specs.declared.WeightRow.{WeightRow}
-use Rattle.text.proofs.Loops.{Got, got-of, bad-of, line-got, line-bad}
+use Rattle.encoding.proofs.Loops.{Got, got-of, bad-of, line-got, line-bad}
 use Rattle.eos.specs.Weights.{Weights}
 use Rattle.model.specs.Held.{tabled, modelOf}
 use Rattle.model.specs.declared.Model.{Model}

@@ -9,7 +9,7 @@ use Rattle.text.specs.Lines.{Outcome, got, bad}
 use Rattle.text.specs.Answers.{endedOf, keptOr}
 use Rattle.text.specs.declared.Fault.{Fault}
 use Rattle.text.specs.declared.Ended.the-variants.{Past, Stopped}
-use Rattle.text.proofs.Loops.{got-of, bad-of}
+use Rattle.encoding.proofs.Loops.{got-of, bad-of}
 use Rattle.eos.specs.Weights.{Weights}
 use Rattle.model.specs.Held.{modelOf}
 use Rattle.model.specs.declared.Model.{Model}

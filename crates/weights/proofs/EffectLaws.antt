@@ -10,7 +10,7 @@ use lib.IntN.{ℤ}
 use lib.ListN.{length, drop, getD, length-map, List·getD-map, List·getD-eq-default, length-take}
 use Rattle.scan.proofs.Basics.{and-true}
 use Rattle.text.specs.Lines.{within}
-use Rattle.text.proofs.TestLaws.{within-is}
+use Rattle.encoding.proofs.TestLaws.{within-is}
 use Rattle.eos.specs.Vector.{zeros, unit}
 use Rattle.eos.specs.Model as eos
 use Rattle.eos.specs.Firing.{pre, post, outerOf, innerOf}

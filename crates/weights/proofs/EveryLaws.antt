@@ -5,7 +5,7 @@ use mathlib.Core.Bool.{Bool, true, false, _&&_, false≢true}
 use mathlib.Core.List.{List, [], _∷_}
 use native.Mathlib.Omega.{arith}
 use lib.ListN.{length, getD}
-use Rattle.text.proofs.TestLaws.{every-at, every-of}
+use Rattle.encoding.proofs.TestLaws.{every-at, every-of}
 use Rattle.eos.specs.Firing.{allBelow}
 use Rattle.eos.specs.Multiset.{every}
 use Rattle.model.proofs.SlotLaws.{below-at, below-of}

@@ -15,7 +15,7 @@ use Rattle.text.specs.declared.Fault.{Fault}
 use Rattle.text.specs.declared.Ended.{Ended}
 use Rattle.text.specs.declared.Ended.the-variants.{Past, Stopped}
 use Rattle.text.specs.declared.WeightRow.{WeightRow}
-use Rattle.text.proofs.Loops.{Got, got-of, bad-of, turn-at, bad-at}
+use Rattle.encoding.proofs.Loops.{Got, got-of, bad-of, turn-at, bad-at}
 use Rattle.eos.specs.Model as eos
 use Rattle.eos.specs.Weights.{Weights}
 use Rattle.model.specs.Held.{noNet, putRow, netOf, modelOf}

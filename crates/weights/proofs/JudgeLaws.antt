@@ -9,7 +9,7 @@ use lib.IntN.{ℤ, natAbs, subℕ}
 use lib.ListN.{length, getD}
 use Rattle.scan.proofs.Basics.{and-true}
 use Rattle.numbers.specs.Answers.{above, below}
-use Rattle.text.proofs.TestLaws.{within-is}
+use Rattle.encoding.proofs.TestLaws.{within-is}
 use Rattle.eos.specs.Model as eos
 use Rattle.eos.specs.Causes.{first, unless, at, failing, numbered}
 use Rattle.eos.specs.Weights.{Weights, isZero, effect, allZero, weigh, weightRefusal, covers}

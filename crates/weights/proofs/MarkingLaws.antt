@@ -11,7 +11,7 @@ use lib.Seq.{getD-take, getD-drop}
 use borrow.Author.Tests.{leb-true}
 use Rattle.scan.proofs.Basics.{and-true}
 use Rattle.text.specs.Lines.{within, every}
-use Rattle.text.proofs.TestLaws.{within-is, every-at}
+use Rattle.encoding.proofs.TestLaws.{within-is, every-at}
 use Rattle.eos.specs.Vector.{_⊕_, zeros, unit}
 use Rattle.eos.specs.Model as eos
 use Rattle.eos.specs.Firing.{outer, inner, insideOf}

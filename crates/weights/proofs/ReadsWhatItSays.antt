@@ -14,7 +14,7 @@ use Rattle.scan.proofs.Basics.{and-true}
 use Rattle.text.specs.Lines.{Outcome, got, bad, then, need, every, readHead, readWeights, modest}
 use Rattle.text.specs.Repeat.{manyAt}
 use Rattle.text.specs.Printed.{weightsText}
-use Rattle.text.proofs.TestLaws.{and-both, everyAt-at}
+use Rattle.encoding.proofs.TestLaws.{and-both, everyAt-at}
 use Rattle.encoding.proofs.Exactly.{Exactly}
 use Rattle.encoding.proofs.LinesExactly.{head-exactly, weights-exactly}
 use Rattle.encoding.proofs.ManyExactly.{manyAt-exactly}

@@ -15,7 +15,7 @@ use Rattle.scan.specs.Bytes.{Text}
 use Rattle.scan.proofs.Basics.{by-test, and-true}
 use Rattle.text.specs.Lines.{Outcome, got, bad}
 use Rattle.numbers.specs.Answers.{above}
-use Rattle.text.proofs.TestLaws.{and-both, every-at, every-of}
+use Rattle.encoding.proofs.TestLaws.{and-both, every-at, every-of}
 use Rattle.eos.specs.Model as eos
 use Rattle.eos.specs.Multiset.{every}
 use Rattle.eos.specs.Causes.{Refusal}

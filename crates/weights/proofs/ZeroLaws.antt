@@ -9,7 +9,7 @@ use lib.IntN.{ℤ, pos, negsuc}
 use lib.ListN.{length, getD, List·getD-map, List·getD-eq-default}
 use borrow.Author.Tests.{eqb-true, eq-eqb, ne-eqb}
 use Rattle.numbers.specs.Answers.{above, below}
-use Rattle.text.proofs.TestLaws.{every-at, every-of}
+use Rattle.encoding.proofs.TestLaws.{every-at, every-of}
 use Rattle.eos.specs.Multiset.{every}
 use Rattle.eos.specs.Weights.{Weights, isZero, allZero}
 use Rattle.model.specs.Rules.{nth}

@@ -5,7 +5,7 @@ use Rattle.firing.proofs.running.run.Tie as tie
 use mathlib.Core.Path.{_≡_, sym, _∙_}
 use mathlib.Core.Bool.{true}
 use borrow.Author.Tests.{not-true, not-false}
-use Rattle.text.proofs.Loops.{line-got, line-bad}
+use Rattle.encoding.proofs.Loops.{line-got, line-bad}
 use Rattle.reader.specs.Answers.{heldBoth}
 use Rattle.firing.proofs.TraceLaws.{trace-long, trace-unheld, trace-unheaded, trace-headed}
 

@@ -3,7 +3,7 @@ use borrow.Author.Needs.{needs}
 use mathlib.Core.Path.{ap, ap₂, sym, _∙_}
 use Rattle.text.specs.Answers.{endedIn}
 use Rattle.text.specs.declared.Ended.{Ended}
-use Rattle.text.proofs.Loops.{line-got, line-bad}
+use Rattle.encoding.proofs.Loops.{line-got, line-bad}
 use Rattle.marking.specs.declared.Marking.{Marking}
 use Rattle.marking.specs.declared.Block.{Block}
 use Rattle.marking.proofs.BlockLaws.{block-refused, block-counted, counted-few}

@@ -10,7 +10,7 @@ use native.Mathlib.Nat.{sub-zero}
 use lib.ListN.{replicate}
 use Rattle.text.specs.Lines.{many}
 use Rattle.text.specs.Repeat.{filled}
-use Rattle.text.proofs.Loops.{loop-done}
+use Rattle.encoding.proofs.Loops.{loop-done}
 use Rattle.model.specs.Held.{holdEvent, noEvent, putAt}
 use Rattle.plant.specs.Reading.{readEvent}
 use Rattle.plant.specs.Answers.{framed}

@@ -9,7 +9,7 @@ use native.Mathlib.Omega.{arith}
 use native.Mathlib.Nat.{sub-zero}
 use lib.ListN.{length, replicate}
 use Rattle.text.specs.Repeat.{manyAt, filled}
-use Rattle.text.proofs.Loops.{done-at}
+use Rattle.encoding.proofs.Loops.{done-at}
 use Rattle.model.specs.Held.{row, putRow}
 use Rattle.plant.specs.Reading.{readSync}
 use Rattle.plant.specs.Answers.{framed}

@@ -12,7 +12,7 @@ use lib.ListN.{length, replicate}
 use Rattle.scan.specs.Bytes.{Text}
 use Rattle.text.specs.Lines.{Outcome, many}
 use Rattle.text.specs.Repeat.{filled}
-use Rattle.text.proofs.Loops.{loop-done}
+use Rattle.encoding.proofs.Loops.{loop-done}
 use Rattle.eos.specs.Model.{Transition}
 use Rattle.model.specs.Rules.{nth, monotonous}
 use Rattle.model.specs.Held.{preOf, postOf, putRow}

@@ -5,7 +5,7 @@ use Rattle.steps.proofs.reading.read_step.Tie as tie
 use mathlib.Core.Path.{ap, sym, _∙_}
 use native.Mathlib.Omega.{arith}
 use Rattle.text.specs.Answers.{endedIn}
-use Rattle.text.proofs.Loops.{line-got, line-bad}
+use Rattle.encoding.proofs.Loops.{line-got, line-bad}
 use Rattle.steps.specs.Answers.{noStep}
 use Rattle.steps.proofs.LineLaws.{lines-bad, lines-got}
 use Rattle.steps.proofs.StepLaws.{event-from-one, rows-refused, step-unfired, step-untaken, step-ungiven, step-read}

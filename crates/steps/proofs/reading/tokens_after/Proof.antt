@@ -4,7 +4,7 @@ use Rattle.steps.proofs.reading.tokens_after.Statement.{statement}
 use Rattle.steps.proofs.reading.tokens_after.Tie as tie
 use mathlib.Core.Path.{ap, sym, _∙_}
 use Rattle.text.specs.Answers.{endedIn}
-use Rattle.text.proofs.Loops.{line-got, line-bad}
+use Rattle.encoding.proofs.Loops.{line-got, line-bad}
 use Rattle.marking.proofs.BlockLaws.{counted-few}
 use Rattle.steps.specs.Answers.{tokenRows}
 use Rattle.steps.proofs.LineLaws.{noRows, tokens-refused, tokens-counted}

@@ -11,7 +11,7 @@ use native.Mathlib.Nat.{sub-zero}
 use lib.ListN.{length}
 use denote.Ref.{now}
 use Rattle.text.specs.Repeat.{manyAt, filled}
-use Rattle.text.proofs.Loops.{done-at}
+use Rattle.encoding.proofs.Loops.{done-at}
 use Rattle.model.specs.Held.{noNet}
 use Rattle.model.specs.declared.ObjectNet.{ObjectNet}
 use Rattle.model.proofs.TestLoops.{at-any}
