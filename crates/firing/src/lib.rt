@@ -1,6 +1,7 @@
 // The Runner level: a step's text is tried on a held marking of a held model, and a trace is run step by step.
 use marking::Marking;
 
+mod lent;
 pub mod running;
 pub mod stepping;
 

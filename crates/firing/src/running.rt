@@ -10,7 +10,7 @@ use super::Ran;
 use super::StepAnswer;
 use super::Stop;
 use super::Turn;
-use super::stepping::step_on;
+use super::lent::step_on;
 use marking::Marking;
 use model::Model;
 use reader::sizes::sizes;

@@ -1,102 +1,13 @@
-// One step: its lines are read, judged, and the marking is changed.
+// The step call.
 ghost use mathlib.Core.Path.{_≡_};
-ghost use mathlib.Core.Bool.{true};
-ghost use Prim.Native.Nat.{_≤_};
-ghost use lib.ListN.{length};
-ghost use Rattle.eos.specs.Causes.{first};
-ghost use Rattle.rows.specs.Rows.{rowsIn, Kept};
-ghost use Rattle.verdict.specs.Verdict.{causesIn, verdictOf};
-ghost use Rattle.verdict.specs.Held.{Sound, Placed};
-ghost use Rattle.reader.specs.Sizes.{sizesIn};
-ghost use Rattle.reader.specs.Answers.{longest, heldBoth};
-ghost use Rattle.firing.specs.Parts.{answered, ruled};
-ghost use Rattle.firing.specs.Answers.{heldStep, stepping};
+ghost use Rattle.firing.specs.Answers.{stepping};
 use super::StepAnswer;
-use super::StepEnd;
 use super::Stepped;
+use super::lent::step_on;
 use marking::Marking;
 use model::Model;
 use reader::sizes::sizes;
 use reader::test_marking;
-use scan::lines_before;
-use sides::Rule;
-use sides::rule_of;
-use steps::changing::change;
-use steps::reading::read_step;
-use text::Ended;
-use verdict::Verdict;
-use verdict::firing::verdict;
-
-// The answer for how the lines of a step ended: a fault is named by its line.
-fn answer_of(s: &[u8], ended: Ended) -> StepAnswer
-    requires { ⌜ length (now s) ≤ longest ⌝ }
-    ensures { λ r. ⌜ r ≡ answered (now (s .entry)) ended ⌝ }
-{
-    let Ended::Stopped { fault } = ended else {
-        return StepAnswer::Fired { bytes: 0 };
-    };
-    let line = lines_before(s, fault.at) + 1;
-    StepAnswer::Faulty {
-        why: fault.why,
-        line,
-    }
-}
-
-// A step whose lines were read, up to `next`: it is turned down, or the rows are changed.
-fn fire(
-    q: Rule,
-    rows: &mut [u16; 8448],
-    len: usize,
-    taken: &[u16],
-    take: usize,
-    given: &[u16],
-    give: usize,
-    next: usize,
-) -> StepEnd
-    requires { ⌜ Sound q × Placed take (now taken) × Placed give (now given) × Kept len (now rows) ⌝ }
-    ensures { λ r. ⌜ record { answer = r .answer; marking = record { len = r .len; rows = now (rows .exit) } }
-        ≡ ruled next (record { len = len; rows = now (rows .entry) }) (rowsIn take (now (taken .entry))) (rowsIn give (now (given .entry)))
-        (verdictOf (first (causesIn q (rowsIn take (now (taken .entry))) (rowsIn give (now (given .entry))) (rowsIn len (now (rows .entry)))))) ⌝ }
-{
-    let judged = verdict(q, taken, take, given, give, rows, len);
-    let Verdict::Turned { cause, beside } = judged else {
-        change(rows, len, taken, take, given, give);
-        return StepEnd {
-            answer: StepAnswer::Fired { bytes: next },
-            len: len - take + give,
-        };
-    };
-    StepEnd {
-        answer: StepAnswer::Turned { cause, beside },
-        len,
-    }
-}
-
-// A step on the lent rows of a held marking of a held model: for a run over many steps, the held test stands once in front of the run.
-// `taken` and `given` are room for the step's net-tokens.
-pub fn step_on(
-    m: Model,
-    sizes: [u8; 32],
-    rows: &mut [u16; 8448],
-    len: usize,
-    s: &[u8],
-    taken: &mut [u16; 8448],
-    given: &mut [u16; 8448],
-) -> StepEnd
-    requires { ⌜ (heldBoth m (record { len = len; rows = now rows }) ≡ true) × (sizes ≡ sizesIn m) × (length (now s) ≤ longest) × (length (now rows) ≡ 8448) ⌝ }
-    ensures { λ r. ⌜ record { answer = r .answer; marking = record { len = r .len; rows = now (rows .exit) } } ≡ heldStep m (record { len = len; rows = now (rows .entry) }) (now (s .entry)) ⌝ }
-{
-    let lines = read_step(s, 0, m.listed as u16, m.places as u16, sizes, taken, given);
-    let ended = lines.ended;
-    let Ended::Past { next } = ended else {
-        return StepEnd {
-            answer: answer_of(s, ended),
-            len,
-        };
-    };
-    let q = rule_of(m, lines.event);
-    fire(q, rows, len, taken, lines.take, given, lines.give, next)
-}
 
 // The step call: the step that the text begins with, tried on a marking of a model.
 pub fn step(m: Model, k: Marking, s: &[u8]) -> Stepped

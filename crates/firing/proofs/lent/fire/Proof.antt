@@ -1,8 +1,8 @@
 -- `fire` meets its contract: a step that meets no cause has its rows in the marking and room, so the rows are changed; one that meets a
 -- cause leaves them.
 use borrow.Author.Needs.{needs}
-use Rattle.firing.proofs.stepping.fire.Statement.{statement}
-use Rattle.firing.proofs.stepping.fire.Tie as tie
+use Rattle.firing.proofs.lent.fire.Statement.{statement}
+use Rattle.firing.proofs.lent.fire.Tie as tie
 use mathlib.Core.Path.{_≡_, sym, _∙_}
 use mathlib.Core.List.{List}
 use native.Mathlib.Omega.{arith}

@@ -1,7 +1,7 @@
 -- `step_on` meets its contract: what was read is a right step of the held model, so that the verdict and the change may be asked.
 use borrow.Author.Needs.{needs}
-use Rattle.firing.proofs.stepping.step_on.Statement.{statement}
-use Rattle.firing.proofs.stepping.step_on.Tie as tie
+use Rattle.firing.proofs.lent.step_on.Statement.{statement}
+use Rattle.firing.proofs.lent.step_on.Tie as tie
 use mathlib.Core.Path.{_≡_, ap, _∙_}
 use mathlib.Core.List.{List}
 use mathlib.Core.Bool.{true}

@@ -1,7 +1,7 @@
 -- `answer_of` meets its contract: a fault is named by its line, which is no greater than the length of the text and one.
 use borrow.Author.Needs.{needs}
-use Rattle.firing.proofs.stepping.answer_of.Statement.{statement}
-use Rattle.firing.proofs.stepping.answer_of.Tie as tie
+use Rattle.firing.proofs.lent.answer_of.Statement.{statement}
+use Rattle.firing.proofs.lent.answer_of.Tie as tie
 use native.Mathlib.Omega.{arith}
 use denote.Ref.{now}
 use Rattle.reader.proofs.ReadingLaws.{lines-few}
