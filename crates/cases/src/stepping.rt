@@ -5,9 +5,9 @@ use super::put_number;
 use super::put_pair;
 use super::write_case;
 use firing::StepAnswer;
-use firing::Stop;
 use marking::Marking;
 use model::Model;
+use running::Stop;
 
 // The pair of a step; a step that fired also says the bytes that it used.
 fn put_step(answer: StepAnswer) {
@@ -48,7 +48,7 @@ fn put_stop(stop: Stop) {
 fn run_case(name: &[u8], m: Model, k: Marking, text: &[u8]) {
     put(name);
     put(b": fired ");
-    let r = firing::running::run(m, k, text);
+    let r = running::run(m, k, text);
     put_number(r.fired);
     put(b", stop ");
     let stop = r.stop;

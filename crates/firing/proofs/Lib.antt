@@ -6,6 +6,3 @@ pub mod StepLaws
 pub mod KeepLaws
 pub mod FiresExactly
 pub mod RefusedLeaves
-pub mod RunLaws
-pub mod TraceLaws
-pub mod Cases

@@ -21,7 +21,7 @@ use Rattle.eos.proofs.OrderLaws.{sum-sort}
 use Rattle.eos.proofs.FiringLaws.{alike, tokenOrder, fires-yes}
 use Rattle.eos.proofs.CauseLaws.{no-cause-fires}
 use Rattle.rows.specs.Rows.{Row, rowsIn, laid}
-use Rattle.model.specs.Rules.{rightModel}
+use Rattle.rules.specs.Rules.{rightModel}
 use Rattle.model.specs.Held.{Sized, modelOf}
 use Rattle.model.specs.Test.{heldModel}
 use Rattle.model.specs.declared.Model.{Model}

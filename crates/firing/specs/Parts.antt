@@ -14,12 +14,7 @@ use Rattle.verdict.specs.declared.Verdict.the-variants as verdict
 use Rattle.firing.specs.declared.StepAnswer.{StepAnswer}
 use Rattle.firing.specs.declared.StepAnswer.the-variants.{Fired, TooLong, NotHeld, Faulty, Turned}
 use Rattle.firing.specs.declared.Stepped.{Stepped}
-use Rattle.firing.specs.declared.Stop.{Stop}
-use Rattle.firing.specs.declared.Stop.the-variants.{AtEnd}
-use Rattle.firing.specs.declared.Turn.{Turn}
-use Rattle.firing.specs.declared.Turn.the-variants.{On, Off}
 use Rattle.firing.specs.Answers.{stays}
-use Rattle.firing.specs.Running.{stopOf}
 
 -- how the reading of a step's lines ended; asked of a fault only
 abbrev pub answered : Text → Ended → StepAnswer
@@ -37,15 +32,3 @@ changed k taken given = record {
 unfoldable pub ruled : ℕ → Marking → List Row → List Row → Verdict → Stepped
 ruled next k taken given verdict.Fires = record { answer = Fired next; marking = changed k taken given }
 ruled next k taken given (verdict.Turned cause beside) = stays (Turned cause beside) k
-
--- a run after a step: on behind its bytes, or stopped
-abbrev pub turnOf : StepAnswer → Turn
-turnOf (Fired n) = On n
-turnOf TooLong = Off (stopOf TooLong)
-turnOf NotHeld = Off (stopOf NotHeld)
-turnOf (Faulty why line) = Off (stopOf (Faulty why line))
-turnOf (Turned cause beside) = Off (stopOf (Turned cause beside))
-
-abbrev pub stopIn : Turn → Stop
-stopIn (On n) = AtEnd
-stopIn (Off a) = a

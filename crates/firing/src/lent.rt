@@ -13,15 +13,15 @@ ghost use Rattle.firing.specs.Parts.{answered, ruled};
 ghost use Rattle.firing.specs.Answers.{heldStep};
 use super::StepAnswer;
 use super::StepEnd;
+use changing::change;
+use judging::verdict;
 use model::Model;
 use scan::lines_before;
 use sides::Rule;
 use sides::rule_of;
-use steps::changing::change;
-use steps::reading::read_step;
+use steplines::read_step;
 use text::Ended;
 use verdict::Verdict;
-use verdict::firing::verdict;
 
 // The answer for how the lines of a step ended: a fault is named by its line.
 fn answer_of(s: &[u8], ended: Ended) -> StepAnswer

@@ -1,8 +1,7 @@
-// The Runner level: a step's text is tried on a held marking of a held model, and a trace is run step by step.
+// The Runner level: a step's text is tried on a held marking of a held model.
 use marking::Marking;
 
-mod lent;
-pub mod running;
+pub mod lent;
 pub mod stepping;
 
 // How a step call ended: fired, with the bytes that its lines used, or why not.
@@ -24,26 +23,4 @@ pub struct Stepped {
 pub struct StepEnd {
     pub answer: StepAnswer,
     pub len: usize,
-}
-
-// What stopped a run over a trace.
-pub enum Stop {
-    AtEnd,
-    TooLong,
-    NotHeld,
-    Faulty { why: u8, line: usize },
-    Turned { cause: u8, beside: usize },
-}
-
-// How many steps a run fired, what stopped it, and the marking then.
-pub struct Ran {
-    pub fired: usize,
-    pub stop: Stop,
-    pub marking: Marking,
-}
-
-// A run goes on behind a step's bytes, or stops.
-pub enum Turn {
-    On { bytes: usize },
-    Off { stop: Stop },
 }

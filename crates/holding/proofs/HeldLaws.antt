@@ -3,7 +3,7 @@ use mathlib.Core.Path.{_≡_}
 use mathlib.Core.Bool.{true}
 use mathlib.Core.Logic.{_↔_}
 use Rattle.eos.specs.Model as eos
-use Rattle.model.specs.Rules.{rightModel}
+use Rattle.rules.specs.Rules.{rightModel}
 use Rattle.model.specs.Held.{Sized, holdModel, modelOf}
 use Rattle.model.specs.Test.{heldModel}
 use Rattle.model.specs.declared.Model.{Model}

@@ -12,15 +12,15 @@ use lib.Seq.{getD-take, getD-drop, length-take-le}
 use Rattle.text.specs.Lines.{within, every}
 use Rattle.encoding.proofs.TestLaws.{and-both, and-eqb, within-is, every-of, everyAt-of}
 use Rattle.eos.specs.Model as eos
-use Rattle.model.specs.Rules.{nth, byte, listOf, frameOf, monotonous, rightSides}
-use Rattle.model.specs.Rules.{keepsTypes, rightMove, ownNet, takesPart, rightNet, rightSync, rightEvent, rightModel}
+use Rattle.rules.specs.Rules.{nth, byte, listOf, frameOf, monotonous, rightSides}
+use Rattle.rules.specs.Rules.{keepsTypes, rightMove, ownNet, takesPart, rightNet, rightSync, rightEvent, rightModel}
 use Rattle.model.specs.Held.{noNet, noEvent}
 use Rattle.model.specs.Held.{Bytes, SizedNet, Sized, rowIn, listed, sidesIn, netOf, actOf, syncIn, eventOf, modelOf}
 use Rattle.model.specs.Test.{frameIn, heldAct, ownIn}
 use Rattle.model.specs.declared.ObjectNet.{ObjectNet}
 use Rattle.model.specs.declared.Event.{Event}
 use Rattle.model.specs.declared.Model.{Model}
-use Rattle.model.proofs.RuleLaws.{is-net, is-event, Right, is-right}
+use Rattle.rules.proofs.RuleLaws.{is-net, is-event, Right, is-right}
 use Rattle.model.proofs.PadLaws.{nth-taken}
 use Rattle.model.proofs.SlotLaws.{listed-at, length-listed}
 use Rattle.model.proofs.TableLaws.{length-row, nth-row, empty-row}

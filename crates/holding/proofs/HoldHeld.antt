@@ -11,14 +11,14 @@ use Rattle.text.specs.Lines.{within}
 use Rattle.text.specs.Repeat.{fill}
 use Rattle.encoding.proofs.TestLaws.{and-both, within-is, every-at}
 use Rattle.eos.specs.Model as eos
-use Rattle.model.specs.Rules.{nth, frameOf, rightSides, keepsTypes, ownNet, rightModel}
+use Rattle.rules.specs.Rules.{nth, frameOf, rightSides, keepsTypes, ownNet, rightModel}
 use Rattle.model.specs.Held.{preOf, postOf, row, tabled, holdNet, holdEvent, noNet, noEvent, holdEvents, holdModel, rowIn}
 use Rattle.model.specs.Test.{empty, emptyPast, usedOf, heldTypes, heldMoves, heldNet, heldNets, heldEvents, frameIn, heldEvent, emptyEvent, heldModel}
 use Rattle.model.specs.declared.ObjectNet.{ObjectNet}
 use Rattle.model.specs.declared.Event.{Event}
 use Rattle.model.specs.declared.Model.{Model}
-use Rattle.model.proofs.RuleLaws.{sides-long, RightNet, net-is, RightEvent, sync-at, Right, right-is}
-use Rattle.model.proofs.RuleLaws.{few-nets, few-places, few-moves, few-events, few-steps, right-type, right-move, right-net, right-event}
+use Rattle.rules.proofs.RuleLaws.{sides-long, RightNet, net-is, RightEvent, sync-at, Right, right-is}
+use Rattle.rules.proofs.RuleLaws.{few-nets, few-places, few-moves, few-events, few-steps, right-type, right-move, right-net, right-event}
 use Rattle.model.proofs.PadLaws.{empty-of, nth-zeros, nth-padded, nth-padded-all, empty-padded}
 use Rattle.model.proofs.SlotLaws.{cond-below, cond-from, by-index}
 use Rattle.model.proofs.TableLaws.{tabled-row, tabled-past}

@@ -8,14 +8,14 @@ use lib.ListN.{length, getD, replicate, length-replicate, List·getD-eq-default}
 use Rattle.text.specs.Lines.{every}
 use Rattle.encoding.proofs.TestLaws.{and-eqb, within-is, every-at}
 use Rattle.eos.specs.Model as eos
-use Rattle.model.specs.Rules.{byte, listOf, frameOf, rightSides, rightNet, rightModel}
+use Rattle.rules.specs.Rules.{byte, listOf, frameOf, rightSides, rightNet, rightModel}
 use Rattle.model.specs.Held.{preOf, postOf, row, tabled, holdNet, kindOf, indexOf, holdEvent, noNet, noEvent, holdNets, holdEvents, holdModel}
 use Rattle.model.specs.Held.{Bytes, SizedNet, Sized, listed, sidesIn, netOf, actOf, syncIn, eventOf, modelOf}
 use Rattle.model.specs.declared.ObjectNet.{ObjectNet}
 use Rattle.model.specs.declared.Event.{Event}
 use Rattle.model.specs.declared.Model.{Model}
-use Rattle.model.proofs.RuleLaws.{list-is, sides-are, sides-long, RightNet, net-is, RightEvent, sync-at, Right, right-is}
-use Rattle.model.proofs.RuleLaws.{few-nets, few-places, few-moves, few-events, few-steps, right-move, right-net, right-event}
+use Rattle.rules.proofs.RuleLaws.{list-is, sides-are, sides-long, RightNet, net-is, RightEvent, sync-at, Right, right-is}
+use Rattle.rules.proofs.RuleLaws.{few-nets, few-places, few-moves, few-events, few-steps, right-move, right-net, right-event}
 use Rattle.text.proofs.PaddedLaws.{take-padded, length-padded}
 use Rattle.model.proofs.PadLaws.{nth-zeros, small-at}
 use Rattle.model.proofs.SlotLaws.{by-index, listed-is, length-held, held-at, held-past}

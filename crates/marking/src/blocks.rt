@@ -9,13 +9,13 @@ ghost use Rattle.marking.specs.Answers.{blockOf};
 use super::Block;
 use super::Marking;
 use super::NetToken;
+use lines::ended_of;
+use lines::number_line;
+use lines::tokens::token_line;
 use model::Model;
-use rows::insert;
+use placing::insert;
 use text::Ended;
 use text::Line;
-use text::lines::ended_of;
-use text::lines::number_line;
-use text::tokens::token_line;
 
 // A net-token's row: the number of its place, and its counts.
 pub fn row_of(t: NetToken) -> [u16; 33]

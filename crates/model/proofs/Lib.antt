@@ -1,9 +1,7 @@
-pub mod RuleLaws
 pub mod PadLaws
 pub mod SlotLaws
 pub mod TableLaws
 pub mod TestLaws
 pub mod UsedLaws
 pub mod RoomLaws
-pub mod RuleLoops
 pub mod TestLoops

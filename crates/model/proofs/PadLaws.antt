@@ -16,7 +16,7 @@ use Rattle.text.proofs.PaddedLaws.{padded-is, at-padded, length-padded}
 use Rattle.eos.specs.Vector.{eqV}
 use Rattle.eos.proofs.Basics.{is-true}
 use Rattle.eos.proofs.VectorLaws.{eqV-refl}
-use Rattle.model.specs.Rules.{nth, byte}
+use Rattle.rules.specs.Rules.{nth, byte}
 use Rattle.model.specs.Test.{empty}
 
 -- ---- nothing but 0

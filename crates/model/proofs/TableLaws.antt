@@ -8,7 +8,7 @@ use lib.Dec.{ltb}
 use lib.ListN.{length, take, drop, getD, set, replicate, length-replicate, length-drop, List·getD-eq-default}
 use lib.Seq.{sets, length-sets, sets-eq, ext-getD, take-set-le, drop-set-lt, take-add, take-take, drop-at, take-at, length-take-le, getD-take, getD-drop}
 use Rattle.text.specs.Answers.{padded}
-use Rattle.model.specs.Rules.{nth}
+use Rattle.rules.specs.Rules.{nth}
 use Rattle.model.specs.Held.{putRow, tabled, rowIn, listed}
 use Rattle.model.specs.Test.{empty, emptyPast}
 use Rattle.text.proofs.PaddedLaws.{length-padded, take-padded}

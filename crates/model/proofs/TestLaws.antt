@@ -12,7 +12,7 @@ use Rattle.scan.proofs.Basics.{and-true}
 use Rattle.encoding.proofs.TestLaws.{within-is}
 use Rattle.eos.specs.Model as eos
 use Rattle.text.specs.Answers.{padded}
-use Rattle.model.specs.Rules.{nth, Frame, monotonous, ownNet, takesPart, rightAct}
+use Rattle.rules.specs.Rules.{nth, Frame, monotonous, ownNet, takesPart, rightAct}
 use Rattle.model.specs.Held.{kindOf, indexOf, noNet, noEvent, rowIn, actOf}
 use Rattle.model.specs.Test.{empty, emptyPast, usedOf, heldTypes, heldMoves, heldNet, heldNets, frameIn, heldAct, ownIn, heldEvent, emptyEvent, heldEvents}
 use Rattle.model.specs.Test.{heldModel}

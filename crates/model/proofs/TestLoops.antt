@@ -14,7 +14,7 @@ use Rattle.eos.specs.Firing.{allBelow}
 use Rattle.text.specs.Lines.{within}
 use Rattle.scan.proofs.Basics as T
 use Rattle.scan.proofs.Basics.{by-test}
-use Rattle.model.specs.Rules.{nth, Frame, takesPart}
+use Rattle.rules.specs.Rules.{nth, Frame, takesPart}
 use Rattle.model.specs.Held.{noNet}
 use Rattle.model.specs.Test.{empty, emptyPast, usedOf, heldTypes, heldMoves, heldNets, heldEvents, frameIn, heldAct, ownIn, heldModel, countsAre, emptyAt, usedIn, sizesAre, framed, partAt, eventAt}
 use Rattle.model.specs.declared.Model.{Model}

@@ -12,7 +12,7 @@ use Rattle.text.specs.Lines.{within}
 use Rattle.model.specs.declared.ObjectNet.{ObjectNet}
 use Rattle.model.specs.declared.Event.{Event}
 use Rattle.model.specs.declared.Model.{Model}
-use Rattle.model.specs.Rules.{nth}
+use Rattle.rules.specs.Rules.{nth}
 use Rattle.model.specs.Held.{noNet, noEvent}
 use Rattle.model.specs.Test.{empty, heldNet, heldEvent, emptyEvent, frameIn}
 use Rattle.model.proofs.PadLaws.{empty-of}

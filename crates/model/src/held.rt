@@ -7,14 +7,14 @@ ghost use lib.Dec.{eqb, leb, ltb};
 ghost use lib.ListN.{length, drop, getD};
 ghost use Rattle.text.specs.Lines.{within};
 ghost use Rattle.eos.specs.Firing.{allBelow};
-ghost use Rattle.model.specs.Rules.{nth};
+ghost use Rattle.rules.specs.Rules.{nth};
 ghost use Rattle.model.specs.Held.{noNet, rowIn};
 ghost use Rattle.model.specs.Test.{empty, emptyPast, usedOf, heldNet, heldAct, ownIn, heldEvent, emptyEvent, heldModel, usedIn, typeAt, moveAt, sizesAre, netIs, netAt, countsAre, framed, partAt, eventIs, eventAt};
 use super::Event;
 use super::Model;
 use super::ObjectNet;
-use super::rules::monotonous;
-use super::rules::takes_part;
+use rules::monotonous;
+use rules::takes_part;
 
 // Whether s is 0 from index `from` on.
 fn empty_from(s: &[u8], from: usize) -> bool

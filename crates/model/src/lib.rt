@@ -3,7 +3,6 @@ ghost use mathlib.Core.Path.{_≡_};
 ghost use Rattle.model.specs.Held.{noNet, noEvent, noModel};
 
 pub mod held;
-pub mod rules;
 
 // An object net; arcs at transition * 32 + place. Unused room is 0.
 pub struct ObjectNet {

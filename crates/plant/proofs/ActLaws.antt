@@ -19,7 +19,7 @@ use Rattle.text.specs.declared.Ended.the-variants.{Past, Stopped}
 use Rattle.text.specs.declared.Row.{Row}
 use Rattle.encoding.proofs.Exactly.{then-got, need-got, got-is}
 use Rattle.eos.specs.Model.{Act, move, idle}
-use Rattle.model.specs.Rules.{byte, Frame, ownNet, takesPart}
+use Rattle.rules.specs.Rules.{byte, Frame, ownNet, takesPart}
 use Rattle.model.specs.Held.{kindOf, indexOf}
 use Rattle.model.specs.Test.{ownIn}
 use Rattle.model.proofs.TestLaws.{part-padded}

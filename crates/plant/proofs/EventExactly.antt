@@ -17,7 +17,7 @@ use Rattle.encoding.proofs.ManyExactly.{manyAt-exactly}
 use Rattle.encoding.proofs.LinesExactly.{number-exactly, list-exactly}
 use Rattle.encoding.proofs.ChainExactly.{Makes, exactly-by, first-makes, last-makes}
 use Rattle.eos.specs.Model.{Act, move, idle, Event}
-use Rattle.model.specs.Rules.{byte, listOf, Frame, ownNet, takesPart, rightAct, rightSync, rightEvent}
+use Rattle.rules.specs.Rules.{byte, listOf, Frame, ownNet, takesPart, rightAct, rightSync, rightEvent}
 use Rattle.model.specs.Held.{indexOf}
 use Rattle.plant.specs.Reading.{readIdle, readMove, readAct, readSync, readEvent}
 use Rattle.plant.specs.Printed.{actText, eventText}

@@ -14,7 +14,7 @@ use Rattle.text.specs.declared.Ended.{Ended}
 use Rattle.text.specs.declared.Ended.the-variants.{Past, Stopped}
 use Rattle.encoding.proofs.Loops.{got-of, bad-of, turn-at, bad-at}
 use Rattle.eos.specs.Model.{Act, move, idle, Event}
-use Rattle.model.specs.Rules.{Frame, ownNet}
+use Rattle.rules.specs.Rules.{Frame, ownNet}
 use Rattle.model.specs.Held.{row, putRow, tabled, kindOf, indexOf, holdEvent, noEvent, putAt, holdEvents}
 use Rattle.model.specs.Test.{ownIn}
 use Rattle.model.specs.declared.Event as held

@@ -13,7 +13,7 @@ use Rattle.text.specs.Repeat.{fill}
 use Rattle.text.specs.Answers.{padded}
 use Rattle.scan.proofs.Basics.{and-true}
 use Rattle.eos.specs.Model as eos
-use Rattle.model.specs.Rules.{nth, Frame, frameOf, monotonous, keepsTypes}
+use Rattle.rules.specs.Rules.{nth, Frame, frameOf, monotonous, keepsTypes}
 use Rattle.model.specs.Held.{holdNet, noNet, putAt, holdNets}
 use Rattle.text.proofs.PaddedLaws.{map-sets, at-laid}
 use Rattle.model.proofs.PadLaws.{nth-padded}

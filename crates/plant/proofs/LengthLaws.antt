@@ -14,9 +14,9 @@ use Rattle.text.specs.Printed.{numberText, listText, texts}
 use Rattle.encoding.proofs.TestLaws.{within-is, every-at}
 use Rattle.encoding.proofs.LengthLaws.{texts-length, number-length, list-length}
 use Rattle.eos.specs.Model.{Transition, ObjectNet, Act, move, idle, Event, Model, places, noTransition, noNet, noEvent}
-use Rattle.model.specs.Rules.{byte, Frame, frameOf, rightSides, rightNet, rightAct, rightModel}
-use Rattle.model.proofs.RuleLaws.{list-is, sides-are, net-is, RightEvent, sync-at, Right, right-is}
-use Rattle.model.proofs.RuleLaws.{few-nets, few-places, few-moves, few-events, few-steps, right-type, right-move, right-net, right-event}
+use Rattle.rules.specs.Rules.{byte, Frame, frameOf, rightSides, rightNet, rightAct, rightModel}
+use Rattle.rules.proofs.RuleLaws.{list-is, sides-are, net-is, RightEvent, sync-at, Right, right-is}
+use Rattle.rules.proofs.RuleLaws.{few-nets, few-places, few-moves, few-events, few-steps, right-type, right-move, right-net, right-event}
 use Rattle.plant.specs.Printed.{sidesText, netText, actText, eventText, plantText}
 
 -- a line of a number of at most 3 digits

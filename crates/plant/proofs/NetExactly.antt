@@ -14,7 +14,7 @@ use Rattle.encoding.proofs.Exactly.{Exactly, many-exactly}
 use Rattle.encoding.proofs.LinesExactly.{number-exactly, list-exactly}
 use Rattle.encoding.proofs.ChainExactly.{exactly-by, first-makes, last-makes}
 use Rattle.eos.specs.Model.{Transition, ObjectNet}
-use Rattle.model.specs.Rules.{byte, listOf, rightSides, rightNet}
+use Rattle.rules.specs.Rules.{byte, listOf, rightSides, rightNet}
 use Rattle.plant.specs.Reading.{readSides, readNet}
 use Rattle.plant.specs.Printed.{sidesText, netText}
 

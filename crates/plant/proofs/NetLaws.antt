@@ -18,7 +18,7 @@ use Rattle.text.specs.declared.Ended.{Ended}
 use Rattle.text.specs.declared.Ended.the-variants.{Past, Stopped}
 use Rattle.encoding.proofs.Exactly.{then-got, got-is}
 use Rattle.eos.specs.Model.{Transition, ObjectNet}
-use Rattle.model.specs.Rules.{monotonous, nth}
+use Rattle.rules.specs.Rules.{monotonous, nth}
 use Rattle.model.specs.Held.{preOf, postOf, tabled, holdNet, noNet, putAt, holdNets}
 use Rattle.model.specs.declared.ObjectNet as held
 use Rattle.plant.specs.Reading.{readSides, readNet}

@@ -18,7 +18,7 @@ use Rattle.text.specs.declared.Row.{Row}
 use Rattle.encoding.proofs.Exactly.{then-got, got-is}
 use Rattle.encoding.proofs.Loops.{line-got, line-bad, Got, got-of, bad-of}
 use Rattle.eos.specs.Model.{Transition, ObjectNet, Event}
-use Rattle.model.specs.Rules.{Frame}
+use Rattle.rules.specs.Rules.{Frame}
 use Rattle.model.specs.Held.{preOf, postOf, tabled, noNet, holdNets, noEvent, holdEvents}
 use Rattle.model.specs.declared.ObjectNet as held
 use Rattle.model.specs.declared.Event as heldEvent

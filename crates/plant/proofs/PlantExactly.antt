@@ -11,8 +11,8 @@ use Rattle.encoding.proofs.Exactly.{Exactly, many-exactly}
 use Rattle.encoding.proofs.LinesExactly.{number-exactly, list-exactly, head-exactly}
 use Rattle.encoding.proofs.ChainExactly.{exactly-by, first-makes, last-makes}
 use Rattle.eos.specs.Model.{Model, places}
-use Rattle.model.specs.Rules.{frameOf, keepsTypes, rightMove, rightNet, rightModel}
-use Rattle.model.proofs.RuleLaws.{right-is, is-right}
+use Rattle.rules.specs.Rules.{frameOf, keepsTypes, rightMove, rightNet, rightModel}
+use Rattle.rules.proofs.RuleLaws.{right-is, is-right}
 use Rattle.plant.specs.Reading.{readNet, eventless, readPlant}
 use Rattle.plant.specs.Printed.{sidesText, netText, eventText, plantText}
 use Rattle.plant.proofs.NetExactly.{sides-exactly, net-exactly}

@@ -13,8 +13,8 @@ use Rattle.text.specs.declared.Ended.{Ended}
 use Rattle.text.specs.declared.Ended.the-variants.{Past, Stopped}
 use Rattle.encoding.proofs.Loops.{Got, got-of, bad-of}
 use Rattle.eos.specs.Model as eos
-use Rattle.model.specs.Rules as rules
-use Rattle.model.specs.Rules.{nth, frameOf, monotonous, keepsTypes}
+use Rattle.rules.specs.Rules as rules
+use Rattle.rules.specs.Rules.{nth, frameOf, monotonous, keepsTypes}
 use Rattle.model.specs.Held.{preOf, postOf, tabled, holdNets, holdEvents, holdModel, noModel}
 use Rattle.model.specs.declared.Model.{Model}
 use Rattle.plant.specs.Reading.{readPlant, eventless}

@@ -17,7 +17,7 @@ use Rattle.text.specs.declared.Ended.the-variants.{Past, Stopped}
 use Rattle.text.specs.declared.Row.{Row}
 use Rattle.encoding.proofs.Loops.{Got, got-of, bad-of}
 use Rattle.eos.specs.Model.{Transition}
-use Rattle.model.specs.Rules.{byte, nth, monotonous}
+use Rattle.rules.specs.Rules.{byte, nth, monotonous}
 use Rattle.model.specs.Held.{preOf, postOf, putRow, tabled}
 use Rattle.model.proofs.PadLaws.{nth-padded}
 use Rattle.plant.specs.Reading.{readSides}

@@ -8,7 +8,7 @@ use Rattle.text.specs.declared.Line.{Line}
 use Rattle.text.specs.declared.Line.the-variants as line
 use Rattle.eos.specs.Model as eos
 use Rattle.model.specs.Held.{preOf, postOf, row, tabled, holdNet, noNet, holdNets, kindOf, indexOf, holdEvent, noEvent, holdEvents, holdModel, noModel}
-use Rattle.model.specs.Rules as rules
+use Rattle.rules.specs.Rules as rules
 use Rattle.model.specs.declared.ObjectNet.{ObjectNet}
 use Rattle.model.specs.declared.Model.{Model}
 use Rattle.plant.specs.Parts as parts

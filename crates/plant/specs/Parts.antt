@@ -6,7 +6,7 @@ use lib.Dec.{leb}
 use Rattle.scan.specs.Bytes.{Text, bytes}
 use Rattle.text.specs.Lines.{Outcome, got, then, many, within, readNumber, readList, readHead}
 use Rattle.eos.specs.Model.{Transition, ObjectNet, Event}
-use Rattle.model.specs.Rules.{Frame}
+use Rattle.rules.specs.Rules.{Frame}
 use Rattle.plant.specs.Reading.{readSides, readNet, readEvent}
 
 pub record Outline : Type 0 where

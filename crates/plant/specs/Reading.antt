@@ -8,7 +8,7 @@ use Rattle.scan.specs.Bytes.{Text, bytes, starts}
 use Rattle.text.specs.Lines.{Outcome, got, then, need, many, within, readNumber, readList, readHead}
 use Rattle.text.specs.Repeat.{manyAt}
 use Rattle.eos.specs.Model.{Transition, ObjectNet, Act, move, idle, Event, Model}
-use Rattle.model.specs.Rules.{byte, Frame, frameOf, keepsTypes, ownNet, takesPart}
+use Rattle.rules.specs.Rules.{byte, Frame, frameOf, keepsTypes, ownNet, takesPart}
 
 -- the lines `pre` and `post` of a transition between `size` places; what is not fine is 4 at its `post` line
 unfoldable pub readSides : ℕ → (Transition → Bool) → Text → ℕ → Outcome Transition

@@ -5,11 +5,6 @@ use model::ObjectNet;
 use text::Ended;
 use text::Fault;
 
-mod acts;
-mod arcs;
-mod objects;
-pub mod reader;
-
 // What the readers of this crate answer: how the reading ended, beside what was read; a refusal holds nothing.
 pub struct Sides {
     pub ended: Ended,

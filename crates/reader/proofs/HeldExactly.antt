@@ -18,14 +18,14 @@ use Rattle.eos.specs.Model as eos
 use Rattle.eos.proofs.MultisetLaws.{Monoid, sumOf, ℕ+}
 use Rattle.eos.proofs.OrderLaws.{sort-again, sum-sort}
 use Rattle.eos.proofs.FiringLaws.{tokenOrder}
-use Rattle.model.specs.Rules.{rightModel}
+use Rattle.rules.specs.Rules.{rightModel}
 use Rattle.model.specs.Held.{holdModel}
 use Rattle.model.specs.Held as model
 use Rattle.model.specs.Test.{heldModel}
 use Rattle.model.specs.declared.Model.{Model}
 use Rattle.holding.proofs.HoldHeld.{hold-held}
 use Rattle.holding.proofs.HeldLaws as laws
-use Rattle.model.proofs.RuleLaws.{right-is, few-places}
+use Rattle.rules.proofs.RuleLaws.{right-is, few-places}
 use Rattle.model.proofs.TestLaws.{held-is, most-places}
 use Rattle.plant.specs.Printed.{plantText}
 use Rattle.plant.proofs.LengthLaws.{plant-length}

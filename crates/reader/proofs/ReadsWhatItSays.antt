@@ -16,7 +16,7 @@ use Rattle.encoding.proofs.Exactly.{Exactly, got-is, need-got, then-got}
 use Rattle.encoding.proofs.ChainExactly.{exactly-by, first-makes, last-makes}
 use Rattle.encoding.proofs.Unique.{reads-back, was-printed}
 use Rattle.eos.specs.Model as eos
-use Rattle.model.specs.Rules.{rightModel}
+use Rattle.rules.specs.Rules.{rightModel}
 use Rattle.plant.proofs.PlantExactly.{plant-exactly}
 use Rattle.marking.specs.Held.{Sizes, sizesOf}
 use Rattle.marking.specs.Reading.{readBlock, rightBlock}

@@ -14,13 +14,13 @@ use Rattle.text.specs.Answers.{padded}
 use Rattle.scan.proofs.Basics.{and-true}
 use Rattle.encoding.proofs.TestLaws.{within-is, eqb-and}
 use Rattle.eos.specs.Model as eos
-use Rattle.model.specs.Rules.{nth, rightModel}
+use Rattle.rules.specs.Rules.{nth, rightModel}
 use Rattle.model.specs.Held.{noNet, holdNet, holdNets, holdModel, listed}
 use Rattle.model.specs.Test.{heldModel, heldNet}
 use Rattle.model.specs.declared.Model.{Model}
 use Rattle.model.specs.declared.ObjectNet.{ObjectNet}
 use Rattle.model.proofs.PadLaws.{nth-zeros, nth-padded}
-use Rattle.model.proofs.RuleLaws.{right-is, few-nets, few-places}
+use Rattle.rules.proofs.RuleLaws.{right-is, few-nets, few-places}
 use Rattle.model.proofs.SlotLaws.{cond-below, cond-from, by-index, length-listed, listed-at, listed-past}
 use Rattle.model.proofs.TestLoops.{at-any}
 use Rattle.holding.proofs.HoldLaws.{net-at, net-past}

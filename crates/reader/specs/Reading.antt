@@ -6,7 +6,7 @@ use lib.ListN.{length}
 use Rattle.scan.specs.Bytes.{Text, bytes}
 use Rattle.text.specs.Lines.{Outcome, got, then, need}
 use Rattle.eos.specs.Model as eos
-use Rattle.model.specs.Rules.{rightModel}
+use Rattle.rules.specs.Rules.{rightModel}
 use Rattle.plant.specs.Reading.{readPlant}
 use Rattle.marking.specs.Held.{Sizes, sizesOf}
 use Rattle.marking.specs.Reading.{Limits, limits, readBlock, rightBlock}

@@ -14,7 +14,7 @@ use marking::Wrote;
 use marking::blocks::block_at;
 use marking::writing::write;
 use model::Model;
-use plant::reader::read_plant;
+use plantreader::read_plant;
 use scan::lines_before;
 use sizes::sizes;
 use text::Ended;

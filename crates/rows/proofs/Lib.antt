@@ -3,5 +3,4 @@ pub mod Shift
 pub mod Place
 pub mod RowLaws
 pub mod Walk
-pub mod Change
 pub mod KeptLaws

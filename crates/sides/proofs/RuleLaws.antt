@@ -17,7 +17,7 @@ use Rattle.eos.specs.Model as eos
 use Rattle.eos.specs.Firing.{ofAct, outerOf, innerOf, summed, pre, post}
 use Rattle.eos.proofs.VectorLaws.{getD-⊕}
 use Rattle.eos.proofs.VectorSums.{length-times, length-unit, length-zeros, long-left, nth-times, nth-zero}
-use Rattle.model.specs.Rules.{nth}
+use Rattle.rules.specs.Rules.{nth}
 use Rattle.model.specs.Held.{row, rowIn, tabled, listed, noNet, noEvent, sidesIn, netOf, eventOf, syncIn, actOf, modelOf}
 use Rattle.model.specs.Test.{heldNet, heldAct, emptyPast, usedOf, frameIn}
 use Rattle.model.specs.declared.ObjectNet.{ObjectNet}

@@ -11,7 +11,7 @@ use Rattle.model.proofs.TestLoops.{less-one, at-any}
 use Rattle.eos.specs.Vector.{_⊕_, times}
 use Rattle.eos.proofs.VectorLaws.{getD-⊕}
 use Rattle.eos.proofs.VectorSums.{length-times, nth-times}
-use Rattle.model.specs.Rules.{nth}
+use Rattle.rules.specs.Rules.{nth}
 use Rattle.text.specs.Repeat.{fill}
 use Rattle.text.specs.Answers.{padded}
 use Rattle.text.proofs.PaddedLaws.{padded-is}

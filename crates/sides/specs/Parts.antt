@@ -5,7 +5,7 @@ use mathlib.Core.List.{List}
 use lib.Dec.{eqb}
 use lib.ListN.{getD, set, replicate}
 use Rattle.eos.specs.Vector.{_⊕_, times, zeros}
-use Rattle.model.specs.Rules.{nth}
+use Rattle.rules.specs.Rules.{nth}
 use Rattle.model.specs.Held.{row, rowIn, tabled, listed, noNet}
 use Rattle.model.specs.declared.ObjectNet.{ObjectNet}
 use Rattle.sides.specs.declared.NetSides.{NetSides}

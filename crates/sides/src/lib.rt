@@ -6,7 +6,7 @@ ghost use lib.ListN.{length, getD};
 ghost use lib.Seq.{sets};
 ghost use Rattle.eos.specs.Vector.{_⊕_, times, zeros};
 ghost use Rattle.model.specs.Held.{rowIn, modelOf, noNet};
-ghost use Rattle.model.specs.Rules.{nth};
+ghost use Rattle.rules.specs.Rules.{nth};
 ghost use Rattle.model.specs.Test.{heldModel};
 ghost use Rattle.sides.specs.Held.{holdRule};
 ghost use Rattle.sides.specs.Parts.{outerIn, sumRows, netSides, innersOf};

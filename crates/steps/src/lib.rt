@@ -1,9 +1,6 @@
 // A step: its lines are read, and a marking is changed by it.
 use text::Ended;
 
-pub mod changing;
-pub mod reading;
-
 // How the reading of net-tokens ended, and how many were read; a refusal has none.
 pub struct TokenLines {
     pub ended: Ended,

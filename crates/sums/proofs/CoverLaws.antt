@@ -9,7 +9,7 @@ use lib.Seq.{length-take-le, getD-take}
 use borrow.Author.Tests.{ltb-true, lt-leb, le-leb}
 use Rattle.eos.specs.Firing.{allBelow}
 use Rattle.eos.specs.Weights.{least}
-use Rattle.model.specs.Rules.{nth}
+use Rattle.rules.specs.Rules.{nth}
 use Rattle.model.specs.declared.ObjectNet.{ObjectNet}
 use Rattle.model.proofs.SlotLaws.{below-at}
 use Rattle.sums.specs.Sums.{lowest, someAt, netCovered, covered}

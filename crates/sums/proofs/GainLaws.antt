@@ -9,7 +9,7 @@ use lib.Dec.{eqb}
 use borrow.Author.Tests.{eq-eqb, ne-eqb}
 use lib.ListN.{length, getD, set, replicate, length-set, length-replicate}
 use lib.Seq.{sets, getD-set-same, getD-set-other, set-out, length-sets}
-use Rattle.model.specs.Rules.{nth}
+use Rattle.rules.specs.Rules.{nth}
 use Rattle.model.specs.Held.{noNet, noEvent}
 use Rattle.model.specs.declared.ObjectNet.{ObjectNet}
 use Rattle.model.specs.declared.Event.{Event}

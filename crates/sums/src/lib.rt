@@ -1,5 +1,2 @@
 // Sums over a held model and a held marking, by weights as they are held: what each event gains, what net-tokens weigh, and whether the
 // weights cover.
-pub mod cover;
-pub mod gains;
-pub mod tokens;

@@ -1,4 +1,3 @@
 pub mod ListLaws
 pub mod LineLaws
-pub mod TokenLaws
 pub mod PaddedLaws

@@ -1,8 +1,6 @@
 // Reads the lines of the file formats: numbers, lists, `key=number`, `key=list`, `token=place:counts`. Every reader goes
 // from a position of a text, and its answer says the position after what it read or the one fault that ends the reading.
-pub mod lines;
-mod lists;
-pub mod tokens;
+pub mod lists;
 
 // A fault: the number of its cause, and the position at which the line at fault begins.
 pub struct Fault {

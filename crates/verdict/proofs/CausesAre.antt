@@ -17,8 +17,8 @@ use Rattle.eos.proofs.Basics.{some-not}
 use Rattle.eos.proofs.MultisetLaws.{length-less}
 use Rattle.eos.proofs.FiringLaws.{alike, fires-yes}
 use Rattle.eos.proofs.CauseLaws.{no-cause-fires}
-use Rattle.model.specs.Rules.{rightModel}
-use Rattle.model.proofs.RuleLaws.{right-is, few-places}
+use Rattle.rules.specs.Rules.{rightModel}
+use Rattle.rules.proofs.RuleLaws.{right-is, few-places}
 use Rattle.model.proofs.PadLaws.{eq-padded}
 use Rattle.marking.specs.Held.{rowOf}
 use Rattle.sides.specs.Held.{holdSides, holdRule}

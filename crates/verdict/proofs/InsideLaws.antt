@@ -12,7 +12,7 @@ use Rattle.scan.proofs.Basics.{by-test}
 use Rattle.eos.specs.Vector.{_⊕_, zeros}
 use Rattle.eos.proofs.VectorSums.{length-zeros, nth-zero}
 use Rattle.rows.specs.Rows.{Row, rowsIn}
-use Rattle.model.specs.Rules.{nth}
+use Rattle.rules.specs.Rules.{nth}
 use Rattle.model.specs.Held.{rowIn}
 use Rattle.model.proofs.PadLaws.{nth-zeros}
 use Rattle.model.proofs.SlotLaws.{by-index}

@@ -11,8 +11,8 @@ use Rattle.eos.specs.Multiset as M
 use Rattle.eos.specs.Model.{NetToken, Marking, like, Model, typeOf, sizeOf, proper}
 use Rattle.eos.specs.Causes.{lacking}
 use Rattle.eos.proofs.Basics.{and-l, and-r, and-i}
-use Rattle.model.specs.Rules.{rightModel}
-use Rattle.model.proofs.RuleLaws.{right-is, right-type}
+use Rattle.rules.specs.Rules.{rightModel}
+use Rattle.rules.proofs.RuleLaws.{right-is, right-type}
 use Rattle.marking.specs.Held.{rowOf, sizesOf}
 use Rattle.marking.proofs.OrderLaws.{Fitting, All, none, more}
 use Rattle.marking.proofs.LikeLaws.{count-rows}

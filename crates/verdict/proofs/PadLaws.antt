@@ -13,7 +13,7 @@ use Rattle.eos.proofs.VectorLaws.{leV-le, le-leV, getD-⊕}
 use Rattle.eos.proofs.VectorSums.{long-left}
 use Rattle.text.specs.Answers.{padded}
 use Rattle.text.proofs.PaddedLaws.{length-padded, at-padded}
-use Rattle.model.specs.Rules.{nth}
+use Rattle.rules.specs.Rules.{nth}
 use Rattle.verdict.proofs.SumLaws.{length-less, nth-less}
 
 -- two tests that hold where the other does

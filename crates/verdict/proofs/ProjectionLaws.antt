@@ -15,8 +15,8 @@ use Rattle.eos.proofs.VectorLaws.{getD-⊕}
 use Rattle.eos.proofs.VectorSums.{length-unit, length-zeros, long-right, nth-zero}
 use Rattle.text.specs.Answers.{padded}
 use Rattle.text.proofs.PaddedLaws.{at-padded, length-padded}
-use Rattle.model.specs.Rules.{nth, rightModel}
-use Rattle.model.proofs.RuleLaws.{right-is, few-places}
+use Rattle.rules.specs.Rules.{nth, rightModel}
+use Rattle.rules.proofs.RuleLaws.{right-is, few-places}
 use Rattle.marking.specs.Held.{rowOf}
 use Rattle.verdict.specs.Verdict.{outerRows, insideIn, innerRows}
 use Rattle.verdict.proofs.RowLaws.{outer-none, outer-more, inner-none, inner-more}

@@ -15,9 +15,9 @@ use Rattle.scan.proofs.Basics.{and-true}
 use Rattle.text.specs.Lines.{every}
 use Rattle.text.specs.Answers.{padded}
 use Rattle.encoding.proofs.TestLaws.{within-is}
-use Rattle.model.specs.Rules.{rightSides, rightAct, frameOf, rightModel}
+use Rattle.rules.specs.Rules.{rightSides, rightAct, frameOf, rightModel}
 use Rattle.model.specs.Held.{row, rowIn, listed}
-use Rattle.model.proofs.RuleLaws.{sides-long, net-is, right-is, few-nets, right-move, right-net, right-event}
+use Rattle.rules.proofs.RuleLaws.{sides-long, net-is, right-is, few-nets, right-move, right-net, right-event}
 use Rattle.model.proofs.SlotLaws.{length-listed, listed-at}
 use Rattle.model.proofs.TableLaws.{tabled-row}
 use Rattle.sides.specs.Held.{holdSides}

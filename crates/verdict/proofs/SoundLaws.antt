@@ -21,10 +21,10 @@ use Rattle.text.specs.Answers.{padded}
 use Rattle.text.proofs.PaddedLaws.{at-padded}
 use Rattle.encoding.proofs.TestLaws.{within-is}
 use Rattle.rows.specs.Rows.{rowsIn}
-use Rattle.model.specs.Rules.{nth, byte, rightSides, rightModel, frameOf}
+use Rattle.rules.specs.Rules.{nth, byte, rightSides, rightModel, frameOf}
 use Rattle.model.specs.Held.{row, tabled, listed}
 use Rattle.model.proofs.PadLaws.{small-at, nth-zeros, padded-none}
-use Rattle.model.proofs.RuleLaws.{list-is, sides-are, net-is, right-is, few-nets, few-places, right-type, right-net, right-event, sync-at}
+use Rattle.rules.proofs.RuleLaws.{list-is, sides-are, net-is, right-is, few-nets, few-places, right-type, right-net, right-event, sync-at}
 use Rattle.model.proofs.SlotLaws.{by-index, length-listed, listed-at, listed-past}
 use Rattle.model.proofs.TableLaws.{row-at, length-tabled, tabled-row}
 use Rattle.marking.specs.Held.{sizesOf, rowOf}

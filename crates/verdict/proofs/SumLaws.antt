@@ -9,7 +9,7 @@ use lib.Seq.{ext-getD, getD-append-add, getD-drop, take-suc, length-take-le}
 use Rattle.eos.specs.Vector.{_⊕_, _⊖_, zeros, unit}
 use Rattle.eos.proofs.VectorLaws.{getD-⊕}
 use Rattle.eos.proofs.VectorSums.{length-zeros, long-left, nth-zero}
-use Rattle.model.specs.Rules.{nth}
+use Rattle.rules.specs.Rules.{nth}
 use Rattle.model.specs.Held.{rowIn}
 use Rattle.model.proofs.SlotLaws.{by-index}
 use Rattle.model.proofs.TableLaws.{row-at, length-row}

@@ -14,7 +14,7 @@ use Rattle.eos.specs.Causes.{failing}
 use Rattle.eos.proofs.VectorLaws.{getD-⊕}
 use Rattle.eos.proofs.VectorSums.{long-left}
 use Rattle.rows.proofs.Compare.{eq-on, eq-end}
-use Rattle.model.specs.Rules.{nth}
+use Rattle.rules.specs.Rules.{nth}
 use Rattle.model.specs.Held.{rowIn}
 use Rattle.model.proofs.TableLaws.{row-at, length-row}
 use Rattle.verdict.proofs.SumLaws.{length-less, nth-less}

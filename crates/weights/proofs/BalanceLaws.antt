@@ -17,7 +17,7 @@ use Rattle.eos.specs.Model as eos
 use Rattle.eos.specs.Firing.{pre, post, outerOf, innerOf}
 use Rattle.eos.specs.Causes.{failing, numbered}
 use Rattle.eos.specs.Weights.{Weights, isZero, effect}
-use Rattle.model.specs.Rules.{nth, Frame}
+use Rattle.rules.specs.Rules.{nth, Frame}
 use Rattle.model.specs.Held.{noNet, noEvent, tabled, actOf, eventOf, modelOf}
 use Rattle.model.specs.Test.{heldAct, frameIn, heldModel}
 use Rattle.model.specs.declared.Event.{Event}

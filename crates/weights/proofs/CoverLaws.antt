@@ -14,7 +14,7 @@ use Rattle.numbers.specs.Answers.{above}
 use Rattle.eos.specs.Firing.{allBelow}
 use Rattle.eos.specs.Multiset.{every}
 use Rattle.eos.specs.Weights.{Weights, positive, least, covers}
-use Rattle.model.specs.Rules.{nth}
+use Rattle.rules.specs.Rules.{nth}
 use Rattle.model.specs.Held.{noNet, tabled}
 use Rattle.model.specs.declared.Model.{Model}
 use Rattle.model.proofs.TableLaws.{length-tabled}

@@ -8,7 +8,7 @@ use lib.Seq.{getD-take, getD-drop}
 use Rattle.eos.specs.Vector.{_⊕_, times, zeros, unit}
 use Rattle.eos.specs.Model.{Transition, noTransition, Model, net, Event}
 use Rattle.eos.specs.Firing.{summed, innerOf}
-use Rattle.model.specs.Rules.{nth}
+use Rattle.rules.specs.Rules.{nth}
 use Rattle.model.specs.Held.{rowIn}
 use Rattle.model.proofs.SlotLaws.{by-index}
 use Rattle.sums.specs.Sums.{total, product}

@@ -15,7 +15,7 @@ use Rattle.eos.specs.Vector.{zeros, unit}
 use Rattle.eos.specs.Model as eos
 use Rattle.eos.specs.Firing.{pre, post, outerOf, innerOf}
 use Rattle.eos.specs.Weights.{Weights}
-use Rattle.model.specs.Rules.{nth}
+use Rattle.rules.specs.Rules.{nth}
 use Rattle.model.specs.Held.{noNet, noEvent, rowIn, sidesIn, tabled, syncIn, netOf, eventOf, modelOf}
 use Rattle.model.specs.Test.{frameIn}
 use Rattle.model.specs.declared.ObjectNet.{ObjectNet}

@@ -8,7 +8,7 @@ use lib.IntN.{ℤ}
 use lib.ListN.{length, getD, length-map}
 use Rattle.eos.specs.Model as eos
 use Rattle.eos.specs.Weights.{Weights, Shaped}
-use Rattle.model.specs.Rules.{nth}
+use Rattle.rules.specs.Rules.{nth}
 use Rattle.model.specs.Held.{noNet, noEvent, tabled, netOf, modelOf}
 use Rattle.model.specs.Test.{heldEvent, emptyEvent, frameIn, heldModel}
 use Rattle.model.specs.declared.ObjectNet.{ObjectNet}

@@ -16,7 +16,7 @@ use Rattle.eos.specs.Vector.{_⊕_, zeros, unit}
 use Rattle.eos.specs.Model as eos
 use Rattle.eos.specs.Firing.{outer, inner, insideOf}
 use Rattle.eos.specs.Weights.{Weights}
-use Rattle.model.specs.Rules.{nth}
+use Rattle.rules.specs.Rules.{nth}
 use Rattle.model.specs.Test.{empty}
 use Rattle.model.specs.declared.Model.{Model}
 use Rattle.model.proofs.PadLaws.{empty-at}

@@ -14,7 +14,7 @@ use Rattle.numbers.specs.Answers.{above, below}
 use Rattle.eos.specs.Model as eos
 use Rattle.eos.specs.Firing.{insideOf, outer, inner}
 use Rattle.eos.specs.Weights.{Weights, weigh}
-use Rattle.model.specs.Rules.{nth}
+use Rattle.rules.specs.Rules.{nth}
 use Rattle.model.specs.Held.{noNet, tabled, modelOf}
 use Rattle.model.specs.declared.Model.{Model}
 use Rattle.model.proofs.SlotLaws.{cond-below, listed-at}

@@ -12,7 +12,7 @@ use Rattle.numbers.specs.Answers.{above, below}
 use Rattle.encoding.proofs.TestLaws.{every-at, every-of}
 use Rattle.eos.specs.Multiset.{every}
 use Rattle.eos.specs.Weights.{Weights, isZero, allZero}
-use Rattle.model.specs.Rules.{nth}
+use Rattle.rules.specs.Rules.{nth}
 use Rattle.model.specs.Held.{tabled}
 use Rattle.model.specs.Test.{empty}
 use Rattle.model.specs.declared.Model.{Model}

@@ -8,9 +8,9 @@ ghost use Rattle.model.specs.Held.{modelOf};
 ghost use Rattle.model.specs.Test.{heldModel};
 ghost use Rattle.weights.specs.Parts.{Holds};
 use super::HeldWeights;
+use gains::first_unbalanced;
+use gains::gains;
 use model::Model;
-use sums::gains::first_unbalanced;
-use sums::gains::gains;
 
 // The number of the least event whose effect is not 0, from 1; 0 where each event's is.
 pub fn unbalanced(m: Model, h: HeldWeights) -> usize

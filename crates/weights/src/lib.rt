@@ -11,20 +11,20 @@ ghost use Rattle.reader.specs.Answers.{longest, heldBoth};
 ghost use Rattle.reader.specs.Sizes.{sizesFor};
 ghost use Rattle.weights.specs.Answers.{refusedWeights, passedWeights, faulty, judgedWeights, weightChecking};
 ghost use Rattle.weights.specs.Parts.{Holds};
+use cover::covers;
 use effects::unbalanced;
-use lines::weight_lines;
+use file::weight_lines;
 use marking::Marking;
 use model::Model;
 use reader::test_marking;
 use rows::empty_from;
 use scan::lines_before;
-use sums::cover::covers;
-use sums::tokens::marking_weight;
 use text::Ended;
 use text::Fault;
+use weighing::marking_weight;
 
 mod effects;
-mod lines;
+mod file;
 
 // The weights of a model's places, each as its part above 0 and its part below 0: nine rows of 32, the outer weights and then those of
 // each net. Unused room is 0.

@@ -7,7 +7,7 @@ use native.Mathlib.Omega.{arith}
 use lib.ListN.{length, getD}
 use lib.Seq.{ext-getD}
 use Rattle.eos.specs.Vector.{_⊕_, times}
-use Rattle.model.specs.Rules.{nth}
+use Rattle.rules.specs.Rules.{nth}
 use Rattle.model.specs.Held.{rowIn}
 use Rattle.model.proofs.PadLaws.{nth-zeros}
 use Rattle.model.proofs.TestLoops.{filled-turn}

@@ -8,7 +8,7 @@ use mathlib.Core.Bool.{_&&_, and-true}
 use native.Mathlib.Omega.{arith}
 use lib.ListN.{take, drop}
 use Rattle.eos.specs.Firing.{allBelow}
-use Rattle.model.specs.Rules.{nth}
+use Rattle.rules.specs.Rules.{nth}
 use Rattle.model.specs.Test.{empty, emptyAt}
 use Rattle.model.proofs.TestLoops.{turn, past-rows}
 

@@ -7,7 +7,7 @@ use mathlib.Core.Path.{_≡_, refl, ap}
 use mathlib.Core.List.{[]}
 use native.Mathlib.Omega.{arith}
 use lib.ListN.{length, length-set}
-use Rattle.model.specs.Rules.{nth}
+use Rattle.rules.specs.Rules.{nth}
 use Rattle.model.specs.Held.{noNet}
 use Rattle.model.specs.declared.ObjectNet.{ObjectNet}
 use Rattle.model.proofs.TestLoops.{at-any, filled-turn}

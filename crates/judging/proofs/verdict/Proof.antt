@@ -1,0 +1,212 @@
+-- `verdict` asks the tests in their order: what each says, that it is passed, and what the first that fails answers.
+use Rattle.judging.proofs.verdict.Statement.{statement}
+use Rattle.judging.proofs.verdict.Tie as tie
+use Prim.Native.Nat.{ℕ}
+use mathlib.Core.Path.{_≡_, sym, ap, _∙_}
+use mathlib.Core.Bool.{true}
+use mathlib.Core.List.{List}
+use borrow.Author.Needs.{needs}
+use borrow.Author.Tests.{not-true, not-false}
+use Rattle.eos.specs.Vector.{eqV}
+use Rattle.eos.specs.Causes.{failing, numbered}
+use Rattle.rows.specs.Rows.{Row, rowsIn}
+use Rattle.rows.proofs.RowLaws.{length-rows}
+use Rattle.sides.specs.declared.Rule.{Rule}
+use Rattle.verdict.specs.Verdict.{outerRows, innerTakenIn, innerGivenIn}
+use Rattle.verdict.proofs.VerdictLaws.{taken-same, given-same, stop-8, stop-8-given, stop-9, stop-10, go-on}
+
+-- the entry, from the places that follow
+abbrev start : tie.After-left → tie.Start
+start c = c .before .before .before .before .before .before .before
+
+abbrev rule : tie.Start → Rule
+rule s = s .args .q
+
+abbrev taken : tie.Start → List Row
+taken s = rowsIn (s .args .take) (s .args .taken .now)
+
+abbrev given : tie.Start → List Row
+given s = rowsIn (s .args .give) (s .args .given .now)
+
+abbrev marked : tie.Start → List Row
+marked s = rowsIn (s .args .len) (s .args .rows .now)
+
+abbrev from-same : tie.After-same → tie.Start
+from-same c = start (c .before .before)
+
+abbrev from-same2 : tie.After-same2 → tie.Start
+from-same2 c = from-same (c .before .before .before)
+
+abbrev from-short : tie.After-short-net → tie.After-inner-of
+from-short c = c .before .before .before .before .before
+
+abbrev from-unbalanced : tie.After-unbalanced-net → tie.After-inner-of2
+from-unbalanced c = c .before .before .before .before .before .before .before .before .before
+
+-- what each test says, and that it is passed
+outer-taken : (c : tie.After-same) → c .same .result ≡ eqV (outerRows (taken (from-same c))) (rule (from-same c) .pre .outer)
+outer-taken c = c .same .ensures ∙ ap (λ (v : List ℕ). eqV v (rule (from-same c) .pre .outer)) (c .before .outer-of .ensures)
+
+passed : (c : tie.Else1) → eqV (outerRows (taken (from-same (c .before)))) (rule (from-same (c .before)) .pre .outer) ≡ true
+passed c = sym (outer-taken (c .before)) ∙ not-false (c .before .same .result) (c .if1 .left)
+
+outer-given : (c : tie.After-same2) → c .same2 .result ≡ eqV (outerRows (given (from-same2 c))) (rule (from-same2 c) .post .outer)
+outer-given c = c .same2 .ensures ∙ ap (λ (v : List ℕ). eqV v (rule (from-same2 c) .post .outer)) (c .before .outer-of2 .ensures)
+
+passed2 : (c : tie.Else2) → eqV (outerRows (given (from-same2 (c .before)))) (rule (from-same2 (c .before)) .post .outer) ≡ true
+passed2 c = sym (outer-given (c .before)) ∙ not-false (c .before .same2 .result) (c .if2 .left)
+
+abbrev from-nets : tie.After-inner-of → tie.Start
+from-nets c = from-same2 (c .before .before .before)
+
+inner-taken : (c : tie.After-short-net)
+    → c .short-net .result ≡ numbered (failing (rule (from-nets (from-short c)) .nets) 0 (innerTakenIn (rule (from-nets (from-short c))) (taken (from-nets (from-short c)))))
+inner-taken c =
+    let i = from-short c in
+    let s = from-nets i in
+    c .short-net .ensures ∙ ap numbered (taken-same (rule s) (taken s) (i .inner-of .result) (s .pre .0 .nets) (i .inner-of .ensures))
+
+passed3 : (c : tie.Else3)
+    → numbered (failing (rule (from-nets (from-short (c .before))) .nets) 0 (innerTakenIn (rule (from-nets (from-short (c .before)))) (taken (from-nets (from-short (c .before)))))) ≡ 0
+passed3 c = sym (inner-taken (c .before)) ∙ c .if3 .left
+
+abbrev from-all : tie.After-unbalanced-net → tie.Start
+from-all c = from-nets (from-short (from-unbalanced c .before .before))
+
+inner-given : (c : tie.After-unbalanced-net)
+    → c .unbalanced-net .result ≡ numbered (failing (rule (from-all c) .nets) 0 (innerGivenIn (rule (from-all c)) (taken (from-all c)) (given (from-all c))))
+inner-given c =
+    let m = from-unbalanced c in
+    let i = from-short (m .before .before) in
+    let s = from-nets i in
+    c .unbalanced-net .ensures
+    ∙ ap numbered
+    (given-same (rule s) (taken s) (i .inner-of .result) (s .pre .0 .nets) (i .inner-of .ensures) (given s) (m .inner-of2 .result) (m .inner-of2 .ensures))
+
+outer-of-requires : tie.Need-outer-of-requires
+outer-of-requires c κs = search needs
+
+same-requires : tie.Need-same-requires
+same-requires c κs = search needs
+
+turned-requires : tie.Need-turned-requires
+turned-requires c κs = search needs
+
+returns : tie.Need-returns
+returns c =
+    let b = c .before .before in
+    let s = from-same b in
+    c .turned .ensures ∙ sym (stop-8 (rule s) (taken s) (given s) (marked s) (sym (outer-taken b) ∙ not-true (b .same .result) (c .before .if1 .taken)))
+
+outer-of-requires-2 : tie.Need-outer-of-requires-2
+outer-of-requires-2 c κs = search needs
+
+same-requires-2 : tie.Need-same-requires-2
+same-requires-2 c κs = search needs
+
+add-turned : tie.Need-add-turned
+add-turned c = search needs
+
+turned-requires-2 : tie.Need-turned-requires-2
+turned-requires-2 c κs = search needs
+
+returns-2 : tie.Need-returns-2
+returns-2 c =
+    let b = c .before .before in
+    let s = from-same2 b in
+    c .turned2 .ensures
+    ∙ sym (stop-8-given (rule s) (taken s) (given s) (marked s) (passed (b .before .before)) (s .args .take) (length-rows (s .args .take) (s .args .taken .now))
+    (sym (outer-given b) ∙ not-true (b .same2 .result) (c .before .if2 .taken)))
+
+inner-of-requires : tie.Need-inner-of-requires
+inner-of-requires c κs = search needs
+
+slice-aggregate-short-net : tie.Need-slice-aggregate-short-net
+slice-aggregate-short-net c = search needs
+
+short-net-requires : tie.Need-short-net-requires
+short-net-requires c κs = search needs
+
+turned-requires-3 : tie.Need-turned-requires-3
+turned-requires-3 c κs = search needs
+
+returns-3 : tie.Need-returns-3
+returns-3 c =
+    let b = c .before .before in
+    let e = from-short b .before .before in
+    let s = from-same2 (e .before) in
+    c .turned3 .ensures
+    ∙ sym (stop-9 (rule s) (taken s) (given s) (marked s) (passed (e .before .before .before)) (passed2 e) (b .short-net .result) (inner-taken b) (c .before .if3 .taken))
+
+inner-of-requires-2 : tie.Need-inner-of-requires-2
+inner-of-requires-2 c κs = search needs
+
+slice-aggregate-unbalanced-net : tie.Need-slice-aggregate-unbalanced-net
+slice-aggregate-unbalanced-net c = search needs
+
+slice-aggregate-unbalanced-net-2 : tie.Need-slice-aggregate-unbalanced-net-2
+slice-aggregate-unbalanced-net-2 c = search needs
+
+unbalanced-net-requires : tie.Need-unbalanced-net-requires
+unbalanced-net-requires c κs =
+    let m = c .before .before .before .before .before .before .before .before in
+    let i = from-short (m .before .before) in
+    let s = from-nets i in
+    (s .pre .0 .nets, m .inner-of2 .ensures .long, i .inner-of .ensures .long, search needs, search needs, i .inner-of .ensures .small, s .pre .0 .post)
+
+turned-requires-4 : tie.Need-turned-requires-4
+turned-requires-4 c κs = search needs
+
+returns-4 : tie.Need-returns-4
+returns-4 c =
+    let b = c .before .before in
+    let f = from-unbalanced b .before in
+    let e = from-short (f .before) .before .before in
+    let s = from-same2 (e .before) in
+    c .turned4 .ensures
+    ∙ sym (stop-10 (rule s) (taken s) (given s) (marked s) (passed (e .before .before .before)) (passed2 e) (passed3 f) (b .unbalanced-net .result) (inner-given b)
+    (c .before .if4 .taken))
+
+on-marking-requires : tie.Need-on-marking-requires
+on-marking-requires c κs =
+    let s = from-nets (from-short (from-unbalanced (c .before) .before .before)) in
+    (s .pre .1 .few, s .pre .1 .long, s .pre .2 .few, s .pre .3)
+
+returns-5 : tie.Need-returns-5
+returns-5 c =
+    let b = c .before .before in
+    let f = from-unbalanced b .before in
+    let e = from-short (f .before) .before .before in
+    let s = from-same2 (e .before) in
+    let a = s .args in
+    c .on-marking .ensures
+    ∙ sym (go-on (rule s) (taken s) (given s) (marked s) (passed (e .before .before .before)) (passed2 e) (passed3 f) (a .take) (a .give) (a .len)
+    (length-rows (a .take) (a .taken .now)) (length-rows (a .give) (a .given .now)) (length-rows (a .len) (a .rows .now))
+    (sym (inner-given b) ∙ c .before .if4 .left))
+
+pub verdict-spec : {M : Type 1} → statement M
+verdict-spec =
+    tie.close
+    (tie.spec
+    outer-of-requires
+    same-requires
+    turned-requires
+    returns
+    outer-of-requires-2
+    same-requires-2
+    add-turned
+    turned-requires-2
+    returns-2
+    inner-of-requires
+    slice-aggregate-short-net
+    short-net-requires
+    turned-requires-3
+    returns-3
+    inner-of-requires-2
+    slice-aggregate-unbalanced-net
+    slice-aggregate-unbalanced-net-2
+    unbalanced-net-requires
+    turned-requires-4
+    returns-4
+    on-marking-requires
+    returns-5)

@@ -1,0 +1,85 @@
+-- `run` meets its contract: 1, then 14, then the header, then the steps.
+use borrow.Author.Needs.{needs}
+use Rattle.running.proofs.run.Statement.{statement}
+use Rattle.running.proofs.run.Tie as tie
+use mathlib.Core.Path.{_≡_, sym, _∙_}
+use mathlib.Core.Bool.{true}
+use borrow.Author.Tests.{not-true, not-false}
+use Rattle.encoding.proofs.Loops.{line-got, line-bad}
+use Rattle.reader.specs.Answers.{heldBoth}
+use Rattle.running.proofs.TraceLaws.{trace-long, trace-unheld, trace-unheaded, trace-headed}
+
+-- the two passed the held test
+passed : (c : tie.Else2) → heldBoth (c .before .before .before .before .args .m) (c .before .before .before .before .args .k) ≡ true
+passed c = sym (c .before .test-marking .ensures) ∙ not-false _ (c .if2 .left)
+
+refused-requires : tie.Need-refused-requires
+refused-requires c κs = search needs
+
+returns : tie.Need-returns
+returns c = c .refused .ensures ∙ trace-long _ _ _ (c .before .if1 .taken)
+
+test-marking-requires : tie.Need-test-marking-requires
+test-marking-requires c κs = search needs
+
+refused-requires-2 : tie.Need-refused-requires-2
+refused-requires-2 c κs = search needs
+
+returns-2 : tie.Need-returns-2
+returns-2 c =
+    let t = c .before in
+    c .refused2 .ensures ∙ trace-unheld _ _ _ (t .before .before .if1 .left) (sym (t .before .test-marking .ensures) ∙ not-true _ (t .if2 .taken))
+
+slice-aggregate-head-line : tie.Need-slice-aggregate-head-line
+slice-aggregate-head-line c = search needs
+
+head-line-requires : tie.Need-head-line-requires
+head-line-requires c κs = search needs
+
+enum-known-head : tie.Need-enum-known-head
+enum-known-head c = search needs
+
+enum-told : tie.Need-enum-told
+enum-told c = search needs
+
+refused-requires-3 : tie.Need-refused-requires-3
+refused-requires-3 c κs = search needs
+
+returns-3 : tie.Need-returns-3
+returns-3 c =
+    let t = c .before in
+    let h = t .before .before in
+    let p = h .before .before in
+    c .refused3 .ensures
+    ∙ trace-unheaded _ _ _ (p .before .before .if1 .left) (passed p) _ (line-bad _ _ (sym (t .enum-told .given .1) ∙ h .head-line .ensures))
+
+run-from-requires : tie.Need-run-from-requires
+run-from-requires c κs =
+    let p = c .before .before .before .before .before in
+    (passed p, p .before .before .if1 .left)
+
+returns-4 : tie.Need-returns-4
+returns-4 c =
+    let d = c .before .before in
+    let h = d .before .before in
+    let p = h .before .before in
+    c .run-from .ensures
+    ∙ trace-headed _ _ _ (p .before .before .if1 .left) (passed p) _ _ (line-got _ _ _ (sym (d .head .given .1) ∙ h .head-line .ensures))
+
+pub run-spec : {M : Type 1} → statement M
+run-spec =
+    tie.close
+    (tie.spec
+    refused-requires
+    returns
+    test-marking-requires
+    refused-requires-2
+    returns-2
+    slice-aggregate-head-line
+    head-line-requires
+    enum-known-head
+    enum-told
+    refused-requires-3
+    returns-3
+    run-from-requires
+    returns-4)
