@@ -119,7 +119,8 @@ length-sum (t ∷ μ) = omega (arith, length-sum μ)
 length-canonical : (μ : eos.Marking) → length (eos.canonical μ) ≡ length μ
 length-canonical μ = length-sum (eos.canonical μ) ∙ sum-sort eos.before tokenOrder _+_ 0 ℕ+ (λ t. 1) μ ∙ sym (length-sum μ)
 
-canonical-held : (z : Sizes) (μ : eos.Marking) → rightBlock bounds z μ ≡ true → hold.Held z (eos.canonical μ)
+-- right net-tokens, put in canonical order, can be held
+pub canonical-held : (z : Sizes) (μ : eos.Marking) → rightBlock bounds z μ ≡ true → hold.Held z (eos.canonical μ)
 unfolding rightBlock
 canonical-held z μ h = record {
   right = rw (length-canonical μ, every-canonical (rightNetToken bounds z) μ) h;
@@ -128,7 +129,7 @@ canonical-held z μ h = record {
 
 -- ---- the tests pass exactly for what some accepted reading gives
 
-right-parts : (l : Loaded) → rightLoaded l ≡ true → (rightModel (l .model) ≡ true) × (rightBlock bounds (sizesOf (l .model)) (l .start) ≡ true)
+pub right-parts : (l : Loaded) → rightLoaded l ≡ true → (rightModel (l .model) ≡ true) × (rightBlock bounds (sizesOf (l .model)) (l .start) ≡ true)
 unfolding rightLoaded
 right-parts l h = and-true (rightModel (l .model)) _ h
 

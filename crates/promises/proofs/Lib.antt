@@ -1,0 +1,4 @@
+pub mod BringLaws
+pub mod AgreeLaws
+pub mod PremiseLaws
+pub mod WholeRunLaws
