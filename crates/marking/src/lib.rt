@@ -38,8 +38,8 @@ pub struct Block {
     pub marking: Marking,
 }
 
-// How writing a marking ended: the whole text, so many bytes, or not at all, and so many bytes are needed.
+// How writing net-tokens into a lent buffer ended: the whole text, up to this position, or not at all, and so many bytes are needed.
 pub enum Wrote {
-    Whole { bytes: usize },
+    Whole { end: usize },
     Short { needed: usize },
 }

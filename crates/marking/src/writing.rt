@@ -4,22 +4,19 @@ ghost use mathlib.Core.Bool.{true};
 ghost use Prim.Native.Nat.{ℕ, _+_, _-_, _*_, _≤_, _<_};
 ghost use lib.ListN.{length, take, drop, getD};
 ghost use lib.Seq.{sets};
-ghost use Rattle.scan.specs.Bytes.{bytes};
-ghost use Rattle.text.specs.Printed.{decimal, endText, texts, numberText};
-ghost use Rattle.print.specs.declared.Written.{Written};
-ghost use Rattle.print.specs.declared.Written.the-variants.{Upto};
+ghost use Rattle.text.specs.Printed.{decimal, endText, texts};
 ghost use Rattle.rows.specs.Rows.{rowsIn};
 ghost use Rattle.marking.specs.Held.{sizesAt, Roomy, tokensOf, heldMarking};
-ghost use Rattle.marking.specs.Printed.{rowText, markingText};
+ghost use Rattle.marking.specs.Printed.{rowText, blockText};
 ghost use Rattle.marking.specs.Writing.{lay};
 use super::Marking;
 use super::Wrote;
 use super::held::size_at;
-use print::Written;
+use print::put_list;
+use print::put_number;
+use print::put_number_line;
+use print::put_text;
 use print::width;
-use print::write_list;
-use print::write_number;
-use print::write_text;
 
 // How many bytes a list has, to the end of its line.
 fn list_length(values: &[u16]) -> usize
@@ -72,41 +69,6 @@ fn rows_length(rows: &[u16], n: usize, sizes: [u8; 32]) -> usize
     bytes
 }
 
-// The position that a writer answers; 0 where it did not write.
-fn end_of(w: Written) -> usize
-    ensures { λ r. ⌜ ((next : ℕ) → w ≡ Upto next → r ≡ next) ⌝ }
-{
-    match w {
-        Written::Upto { next } => next,
-        Written::Full => 0,
-    }
-}
-
-// Lays a text that fits, from `at` on. The answer is the position after it.
-fn put_text(out: &mut [u8], at: usize, text: &[u8]) -> usize
-    requires { ⌜ at + length (now text) ≤ length (now out) ⌝ }
-    ensures { λ r. ⌜ (r ≡ at + length (now (text .entry))) × (now (out .exit) ≡ sets (now (out .entry)) at (now (text .entry))) ⌝ }
-{
-    end_of(write_text(out, at, text))
-}
-
-// The same for a number.
-fn put_number(out: &mut [u8], at: usize, n: u64) -> usize
-    requires { ⌜ at + length (decimal n) ≤ length (now out) ⌝ }
-    ensures { λ r. ⌜ (r ≡ at + length (decimal n)) × (now (out .exit) ≡ sets (now (out .entry)) at (decimal n)) ⌝ }
-{
-    end_of(write_number(out, at, n))
-}
-
-// The same for a list to the end of its line.
-fn put_list(out: &mut [u8], at: usize, values: &[u16]) -> usize
-    requires { ⌜ at + length (endText decimal (now values)) ≤ length (now out) ⌝ }
-    ensures { λ r. ⌜ (r ≡ at + length (endText decimal (now (values .entry))))
-        × (now (out .exit) ≡ sets (now (out .entry)) at (endText decimal (now (values .entry)))) ⌝ }
-{
-    end_of(write_list(out, at, values))
-}
-
 // Lays the line of the row that stands at `from`. The answer is the position after it.
 fn put_row(out: &mut [u8], at: usize, rows: &[u16], from: usize, sizes: [u8; 32]) -> usize
     requires { ⌜ (from + 33 ≤ length (now rows)) × (1 ≤ getD (now rows) from 0) × Roomy (sizesAt 32 sizes)
@@ -137,28 +99,27 @@ fn put_rows(out: &mut [u8], at: usize, rows: &[u16], n: usize, sizes: [u8; 32])
     }
 }
 
-// Lays the line of the number of net-tokens. The answer is the position after it.
-fn put_start(out: &mut [u8], n: usize) -> usize
-    requires { ⌜ length (numberText (bytes "start=") n) ≤ length (now out) ⌝ }
-    ensures { λ r. ⌜ (r ≡ length (numberText (bytes "start=") n)) × (now (out .exit) ≡ sets (now (out .entry)) 0 (numberText (bytes "start=") n)) ⌝ }
-{
-    let at = put_text(out, 0, b"start=");
-    let end = put_number(out, at, n as u64);
-    put_text(out, end, b"\n")
-}
-
-// The text of a held marking: whole, or no byte and how many are needed.
-pub fn write(k: Marking, places: u16, sizes: [u8; 32], out: &mut [u8]) -> Wrote
-    requires { ⌜ (heldMarking (sizesAt places sizes) k ≡ true) × Roomy (sizesAt places sizes) ⌝ }
-    ensures { λ r. ⌜ record { answer = r; bytes = now (out .exit) } ≡ lay (markingText (tokensOf (sizesAt places sizes) k)) (now (out .entry)) ⌝ }
+// The line of a key and the number of net-tokens of a held marking, and a line for each, from `at` on: whole, or no byte. The answer is
+// where the text ends, or would end.
+pub fn write(
+    k: Marking,
+    places: u16,
+    sizes: [u8; 32],
+    key: &[u8],
+    out: &mut [u8],
+    at: usize,
+) -> Wrote
+    requires { ⌜ (heldMarking (sizesAt places sizes) k ≡ true) × Roomy (sizesAt places sizes) × (length (now key) ≤ 32) × (at ≤ 1048576) ⌝ }
+    ensures { λ r. ⌜ record { answer = r; bytes = now (out .exit) }
+        ≡ lay (blockText (now (key .entry)) (tokensOf (sizesAt places sizes) k)) (now (out .entry)) at ⌝ }
 {
     let n = k.len;
     let rows = k.rows;
-    let bytes = 7 + width(n as u64) + rows_length(&rows, n, sizes);
-    if out.len() < bytes {
-        return Wrote::Short { needed: bytes };
+    let end = at + key.len() + width(n as u64) + 1 + rows_length(&rows, n, sizes);
+    if out.len() < end {
+        return Wrote::Short { needed: end };
     }
-    let at = put_start(out, n);
-    put_rows(out, at, &rows, n, sizes);
-    Wrote::Whole { bytes }
+    let next = put_number_line(out, at, key, n as u64);
+    put_rows(out, next, &rows, n, sizes);
+    Wrote::Whole { end }
 }

@@ -1,1 +1,2 @@
 pub mod WritingLaws
+pub mod LaidLaws

@@ -1,7 +1,7 @@
 -- `end_of` meets its contract: the position of a text that was written.
 use borrow.Author.Needs.{needs}
-use Rattle.marking.proofs.writing.end_of.Statement.{statement}
-use Rattle.marking.proofs.writing.end_of.Tie as tie
+use Rattle.print.proofs.end_of.Statement.{statement}
+use Rattle.print.proofs.end_of.Tie as tie
 use mathlib.Core.Path.{_≡_}
 use Prim.Native.Nat.{ℕ}
 use native.Mathlib.Omega.{arith}

@@ -1,8 +1,8 @@
 -- `put_text` meets its contract: a text that fits is written.
 use borrow.Author.Needs.{needs}
-use Rattle.marking.proofs.writing.put_text.Statement.{statement}
-use Rattle.marking.proofs.writing.put_text.Tie as tie
-use Rattle.marking.proofs.LayLaws.{laid-fits}
+use Rattle.print.proofs.put_text.Statement.{statement}
+use Rattle.print.proofs.put_text.Tie as tie
+use Rattle.print.proofs.LaidLaws.{laid-fits}
 
 write-text-requires : tie.Need-write-text-requires
 write-text-requires c κs = search needs

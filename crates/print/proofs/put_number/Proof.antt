@@ -1,8 +1,8 @@
 -- `put_number` meets its contract: a number that fits is written.
 use borrow.Author.Needs.{needs}
-use Rattle.marking.proofs.writing.put_number.Statement.{statement}
-use Rattle.marking.proofs.writing.put_number.Tie as tie
-use Rattle.marking.proofs.LayLaws.{laid-fits}
+use Rattle.print.proofs.put_number.Statement.{statement}
+use Rattle.print.proofs.put_number.Tie as tie
+use Rattle.print.proofs.LaidLaws.{laid-fits}
 
 write-number-requires : tie.Need-write-number-requires
 write-number-requires c κs = search needs

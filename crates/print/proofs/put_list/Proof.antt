@@ -1,8 +1,8 @@
 -- `put_list` meets its contract: a list that fits is written.
 use borrow.Author.Needs.{needs}
-use Rattle.marking.proofs.writing.put_list.Statement.{statement}
-use Rattle.marking.proofs.writing.put_list.Tie as tie
-use Rattle.marking.proofs.LayLaws.{laid-fits}
+use Rattle.print.proofs.put_list.Statement.{statement}
+use Rattle.print.proofs.put_list.Tie as tie
+use Rattle.print.proofs.LaidLaws.{laid-fits}
 
 write-list-requires : tie.Need-write-list-requires
 write-list-requires c κs = search needs
