@@ -1,10 +1,10 @@
 // Runs the cases of 01 that are not in the proved table, and prints what each call answers: the number of the cause and what stands
 // beside it.
+use engine::Marking;
+use engine::Model;
+use engine::ReadAnswer;
+use engine::WriteAnswer;
 use libc::STDOUT_FILENO;
-use marking::Marking;
-use model::Model;
-use reader::ReadAnswer;
-use reader::WriteAnswer;
 
 mod reading;
 mod sharing;
@@ -47,7 +47,7 @@ fn put_write(answer: WriteAnswer) {
 fn model_case(name: &[u8], text: &[u8]) {
     put(name);
     put(b": ");
-    let r = reader::read_model(text);
+    let r = engine::read_model(text);
     let answer = r.answer;
     put_read(answer);
 }
@@ -56,7 +56,7 @@ fn model_case(name: &[u8], text: &[u8]) {
 fn write_case(name: &[u8], m: Model, k: Marking, out: &mut [u8]) {
     put(name);
     put(b": ");
-    let answer = reader::write_marking(m, k, out);
+    let answer = engine::write_marking(m, k, out);
     put_write(answer);
     put(out);
     put(b"\n");

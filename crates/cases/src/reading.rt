@@ -3,8 +3,8 @@ use super::model_case;
 use super::put;
 use super::put_read;
 use super::write_case;
-use marking::Marking;
-use model::Model;
+use engine::Marking;
+use engine::Model;
 
 // Key, syntax and list length.
 fn syntax() {
@@ -173,7 +173,7 @@ fn tokens() {
 
 // Twenty-five stages, of which only 17 to 25 are marked, and the order of what is written.
 fn stages() {
-    let r = reader::read_model(
+    let r = engine::read_model(
         b"eos=1\nnets=1\nplaces=1\ntype=1\nmoves=0\ninner=25\nsteps=0\nevents=0\nstart=2\ntoken=1:0,0,0,0,0,0,0,0,0,0,0,0,0,0,0,0,17,18,19,20,21,22,23,24,25\ntoken=1:0,0,0,0,0,0,0,0,0,0,0,0,0,0,0,0,0,0,0,0,0,0,0,0,0\n",
     );
     let m = r.model;
@@ -186,14 +186,14 @@ fn stages() {
 fn marking_case(name: &[u8], m: Model, text: &[u8]) {
     put(name);
     put(b": ");
-    let r = reader::read_marking(m, text);
+    let r = engine::read_marking(m, text);
     let answer = r.answer;
     put_read(answer);
 }
 
 // Markings for the listing's model, and for held models that no reading gives.
 fn markings() {
-    let r = reader::read_model(
+    let r = engine::read_model(
         b"eos=1\nnets=1\nplaces=2\ntype=1,1\nmoves=1\npre=1,0\npost=0,1\ninner=2\nsteps=1\npre=1,0\npost=0,1\nevents=2\nevent=1\nsync=1\nidle=2\nsync=1\nstart=2\ntoken=1:1,0\ntoken=1:0,0\n",
     );
     let mut m = r.model;
@@ -216,7 +216,7 @@ fn markings() {
 
 // The listing's start, written; and held markings that no reading gives.
 fn writing() {
-    let r = reader::read_model(
+    let r = engine::read_model(
         b"eos=1\nnets=1\nplaces=2\ntype=1,1\nmoves=1\npre=1,0\npost=0,1\ninner=2\nsteps=1\npre=1,0\npost=0,1\nevents=2\nevent=1\nsync=1\nidle=2\nsync=1\nstart=2\ntoken=1:1,0\ntoken=1:0,0\n",
     );
     let m = r.model;

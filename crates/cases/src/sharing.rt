@@ -2,7 +2,7 @@
 use super::put;
 use super::put_number;
 use super::put_pair;
-use spread::Spread;
+use engine::Spread;
 
 fn case(n: usize, k: usize) {
     put(b"spread ");
@@ -10,7 +10,7 @@ fn case(n: usize, k: usize) {
     put(b" among ");
     put_number(k);
     put(b": ");
-    let answer = spread::ways(n, k);
+    let answer = engine::ways(n, k);
     match answer {
         Spread::Ways { value } => {
             put_number(value as usize);

@@ -4,10 +4,10 @@ use super::put;
 use super::put_number;
 use super::put_pair;
 use super::write_case;
-use firing::StepAnswer;
-use marking::Marking;
-use model::Model;
-use running::Stop;
+use engine::Marking;
+use engine::Model;
+use engine::StepAnswer;
+use engine::Stop;
 
 // The pair of a step; a step that fired also says the bytes that it used.
 fn put_step(answer: StepAnswer) {
@@ -28,7 +28,7 @@ fn put_step(answer: StepAnswer) {
 fn step_case(name: &[u8], m: Model, k: Marking, text: &[u8]) -> Marking {
     put(name);
     put(b": ");
-    let r = firing::stepping::step(m, k, text);
+    let r = engine::step(m, k, text);
     let answer = r.answer;
     put_step(answer);
     r.marking
@@ -48,7 +48,7 @@ fn put_stop(stop: Stop) {
 fn run_case(name: &[u8], m: Model, k: Marking, text: &[u8]) {
     put(name);
     put(b": fired ");
-    let r = running::run(m, k, text);
+    let r = engine::run(m, k, text);
     put_number(r.fired);
     put(b", stop ");
     let stop = r.stop;
@@ -152,7 +152,7 @@ fn causes(m: Model, k: Marking) {
 
 // Racks of two nets: the inner projections are asked net by net, and two equal racks are two.
 fn two_nets() {
-    let r = reader::read_model(
+    let r = engine::read_model(
         b"eos=1\nnets=2\nplaces=3\ntype=1,2,0\nmoves=2\npre=2,0,0\npost=2,1,0\npre=2,0,0\npost=1,0,1\ninner=1\nsteps=1\npre=2\npost=1\ninner=1\nsteps=0\nevents=2\nevent=1\nsync=1\nsync=\nevent=2\nsync=0\nsync=\nstart=2\ntoken=1:1\ntoken=1:1\n",
     );
     let m = r.model;
@@ -187,7 +187,7 @@ fn two_nets() {
 
 // From 256 net-tokens, a move of 1 to 2 and a move of 1 to 1.
 fn at_the_limit() {
-    let r = reader::read_model(
+    let r = engine::read_model(
         b"eos=1\nnets=1\nplaces=2\ntype=1,1\nmoves=2\npre=1,0\npost=0,2\npre=1,0\npost=0,1\ninner=2\nsteps=0\nevents=2\nevent=1\nsync=\nevent=2\nsync=\nstart=0\n",
     );
     let m = r.model;
@@ -243,7 +243,7 @@ fn traces(m: Model, k: Marking) {
 }
 
 pub fn run() {
-    let r = reader::read_model(
+    let r = engine::read_model(
         b"eos=1\nnets=1\nplaces=2\ntype=1,1\nmoves=1\npre=1,0\npost=0,1\ninner=2\nsteps=1\npre=1,0\npost=0,1\nevents=2\nevent=1\nsync=1\nidle=2\nsync=1\nstart=2\ntoken=1:1,0\ntoken=1:0,0\n",
     );
     let m = r.model;

@@ -3,9 +3,9 @@ use super::full;
 use super::put;
 use super::put_number;
 use super::put_pair;
-use marking::Marking;
-use model::Model;
-use weights::WeightAnswer;
+use engine::Marking;
+use engine::Model;
+use engine::WeightAnswer;
 
 fn put_weighed(answer: WeightAnswer) {
     match answer {
@@ -21,7 +21,7 @@ fn put_weighed(answer: WeightAnswer) {
 fn weight_case(name: &[u8], m: Model, k: Marking, text: &[u8]) {
     put(name);
     put(b": ");
-    let r = weights::check_weights(m, k, text);
+    let r = engine::check_weights(m, k, text);
     let answer = r.answer;
     put_weighed(answer);
     let sum = r.sum;
@@ -117,7 +117,7 @@ fn listing(m: Model, k: Marking) {
 
 // The least of several events that do not balance.
 fn least_event() {
-    let r = reader::read_model(
+    let r = engine::read_model(
         b"eos=1\nnets=1\nplaces=2\ntype=1,1\nmoves=2\npre=1,0\npost=1,0\npre=1,0\npost=0,1\ninner=1\nsteps=1\npre=1\npost=0\nevents=3\nevent=1\nsync=0\nevent=2\nsync=0\nidle=1\nsync=1\nstart=0\n",
     );
     let m = r.model;
@@ -171,7 +171,7 @@ fn at_the_limit(m: Model) {
 
 // The greatest and the least sum: 256 racks with 32 counts of 65,535, and weights of 1,000 either side of 0.
 fn extremes() {
-    let r = reader::read_model(
+    let r = engine::read_model(
         b"eos=1\nnets=1\nplaces=1\ntype=1\nmoves=0\ninner=32\nsteps=0\nevents=0\nstart=0\n",
     );
     let m = r.model;
@@ -191,7 +191,7 @@ fn extremes() {
 }
 
 pub fn run() {
-    let r = reader::read_model(
+    let r = engine::read_model(
         b"eos=1\nnets=1\nplaces=2\ntype=1,1\nmoves=1\npre=1,0\npost=0,1\ninner=2\nsteps=1\npre=1,0\npost=0,1\nevents=2\nevent=1\nsync=1\nidle=2\nsync=1\nstart=2\ntoken=1:1,0\ntoken=1:0,0\n",
     );
     let m = r.model;

@@ -1,19 +1,15 @@
--- Laws of rows as the code counts and lays their lines: a text after another, a row's line in parts, and line after line.
+-- Laws of rows as the code counts and lays their lines: a row's line in parts, and line after line.
 use Prim.Native.Nat.{ℕ, _+_, _-_, _*_, _≤_, _<_}
-use mathlib.Core.Path.{_≡_, refl, ap, sym, _∙_}
+use mathlib.Core.Path.{_≡_, refl, ap, _∙_}
 use mathlib.Core.List.{List, [], _∷_, _++_}
 use native.Mathlib.Omega.{arith}
-use native.Mathlib.Nat.{zero-add}
 use lib.ListN.{length, take, drop, getD, length-append}
 use lib.Seq.{sets, take-take, drop-drop}
-use Rattle.scan.specs.Bytes.{Text, bytes, lf, colon}
-use Rattle.text.specs.Printed.{decimal, endText, texts, numberText, tokenText}
+use Rattle.scan.specs.Bytes.{Text, bytes, colon}
+use Rattle.text.specs.Printed.{decimal, endText, texts, tokenText}
 use Rattle.encoding.proofs.DecimalLaws.{length-below}
-use Rattle.encoding.proofs.Standing.{ends-join}
-use Rattle.print.specs.Writing.{write}
-use Rattle.print.specs.declared.Written.{Written}
-use Rattle.print.specs.declared.Written.the-variants.{Upto}
-use Rattle.print.proofs.WritingLaws.{sets-append, fits-is}
+use Rattle.print.proofs.WritingLaws.{sets-append}
+use Rattle.laying.proofs.LaidLaws.{Laid, laid-then}
 use Rattle.rows.specs.Rows.{Row}
 use Rattle.marking.specs.Held.{sizesAt, Roomy}
 use Rattle.marking.specs.Printed.{rowText}
@@ -22,19 +18,6 @@ use Rattle.marking.proofs.TestLaws.{row-front, rowsFrom, from-next, fro
 -- a number of 16 bits has at most five digits
 pub few-digits : (v : ℕ) → v < 65536 → length (decimal v) ≤ 5
 few-digits v h = length-below 4 v (omega arith)
-
--- a text laid from `at` on, and the position after it
-abbrev pub Laid : Text → List ℕ → ℕ → ℕ → List ℕ → Type 0
-Laid text out at next after = (next ≡ at + length text) × (after ≡ sets out at text)
-
--- a writer's text that fits
-pub laid-fits : (text out : List ℕ) (at : ℕ) {w : Written} {after : List ℕ} {next : ℕ} → record { answer = w; bytes = after } ≡ write text out at
-    → ((n : ℕ) → w ≡ Upto n → next ≡ n) → at + length text ≤ length out → Laid text out at next after
-laid-fits text out at e end h = let f = fits-is text out at e h in (end (at + length text) (f .0), f .1)
-
--- one text after another
-pub laid-then : (a b out : List ℕ) (at : ℕ) {mid next : ℕ} {m l : List ℕ} → Laid a out at mid m → Laid b m mid next l → Laid (a ++ b) out at next l
-laid-then a b out at p q = (q .0 ∙ rw (p .0) (ends-join at a b), q .1 ∙ rw (p .0, p .1) (sym (sets-append a b out at)))
 
 -- ---- the lines
 
@@ -68,24 +51,12 @@ module _ (sizes rows : List ℕ) (at size : ℕ) (roomy : Roomy (sizesAt 32 size
   pub row-length : length (rowText sizes (take 33 (drop at rows))) ≡ 7 + length (decimal (getD rows at 0)) + length (endText decimal (countsAt rows at size))
   row-length = ap length row-line ∙ line-length (getD rows at 0) (countsAt rows at size)
 
--- the line of the number of net-tokens
-pub start-length : (n : ℕ) → length (numberText (bytes "start=") n) ≡ 7 + length (decimal n)
-unfolding numberText
-start-length n = omega (arith, length-append (decimal n) (lf ∷ []))
-
 -- a line laid part by part
 pub lay-line : (p : ℕ) (counts out : List ℕ) (at : ℕ) {a b c d : ℕ} {k l m n : List ℕ} → Laid (bytes "token=") out at a k → Laid (decimal p) k a b l
     → Laid (colon ∷ []) l b c m → Laid (endText decimal counts) m c d n → Laid (lineOf p counts) out at d n
 lay-line p counts out at {a} {b} {c} {d} {k} f g h e =
     laid-then (bytes "token=") ((decimal p ++ (colon ∷ [])) ++ endText decimal counts) out at f
     (laid-then (decimal p ++ (colon ∷ [])) (endText decimal counts) k a (laid-then (decimal p) (colon ∷ []) k a g h) e)
-
-pub lay-start : (n : ℕ) (out : List ℕ) {a b c : ℕ} {k l m : List ℕ} → Laid (bytes "start=") out 0 a k → Laid (decimal n) k a b l → Laid (lf ∷ []) l b c m
-    → (c ≡ length (numberText (bytes "start=") n)) × (m ≡ sets out 0 (numberText (bytes "start=") n))
-unfolding numberText
-lay-start n out {a} {b} {c} {k} f g h =
-    let p = laid-then (bytes "start=") (decimal n ++ (lf ∷ [])) out 0 f (laid-then (decimal n) (lf ∷ []) k a g h) in
-    (p .0 ∙ zero-add (length (numberText (bytes "start=") n)), p .1)
 
 -- ---- line after line: the texts of the first n rows, from row i on
 

@@ -19,6 +19,7 @@ use Rattle.encoding.proofs.TestLaws.{within-is, every-at}
 use Rattle.encoding.proofs.LengthLaws.{texts-length, end-length}
 use Rattle.encoding.proofs.Standing.{Stands}
 use Rattle.print.proofs.WritingLaws.{sets-append}
+use Rattle.laying.proofs.LaidLaws.{Laid, number-line-length}
 use Rattle.eos.specs.Model as eos
 use Rattle.rows.specs.Rows.{Row, rowsIn, ascending}
 use Rattle.rows.proofs.RowLaws.{length-rows, row-at}
@@ -32,7 +33,7 @@ use Rattle.marking.specs.declared.Wrote.the-variants.{Whole, Short}
 use Rattle.marking.proofs.BlockExactly.{block-exactly}
 use Rattle.marking.proofs.HoldLaws.{Right, right-is, Held, held-tokens}
 use Rattle.marking.proofs.TestLaws.{row-front}
-use Rattle.marking.proofs.LayLaws.{few-digits, line-length, start-length}
+use Rattle.marking.proofs.LayLaws.{few-digits, line-length}
 
 -- ---- how long it is at most
 
@@ -57,7 +58,7 @@ module _ (z : Sizes) (roomy : Roomy z) (places : z .places ≤ 65535) where
       omega (
         arith,
         length-append (numberText (bytes "start=") (length μ)) (texts netTokenText μ),
-        start-length (length μ),
+        number-line-length (bytes "start=") (length μ),
         few-digits (length μ) (omega arith),
         lines,
       )
@@ -102,34 +103,35 @@ module _ (places : ℕ) (sizes : List ℕ) where
         let r = right-front (getD rs i []) (every-at (rightRow (sizesAt places sizes)) rs i [] held-right (rw (length-rows (k .len) (k .rows)) p)) in
         rw (row-at (k .len) (k .rows) i p, row-front (k .rows) (i * 33)) at r
 
-    pub held-text : markingText (tokensOf (sizesAt places sizes) k)
-        ≡ numberText (bytes "start=") (k .len) ++ texts (rowText sizes) (rowsIn (k .len) (k .rows))
-    unfolding markingText blockText tokensOf
-    held-text =
-        let rs = rowsIn (k .len) (k .rows) in
-        rw (rows-text rs held-right, length-map rs (tokenOf (sizesAt places sizes)), length-rows (k .len) (k .rows))
+    module _ (key : Text) where
+      pub held-text : blockText key (tokensOf (sizesAt places sizes) k) ≡ numberText key (k .len) ++ texts (rowText sizes) (rowsIn (k .len) (k .rows))
+      unfolding blockText tokensOf
+      held-text =
+          let rs = rowsIn (k .len) (k .rows) in
+          rw (rows-text rs held-right, length-map rs (tokenOf (sizesAt places sizes)), length-rows (k .len) (k .rows))
 
-    -- its bytes, as the code counts them
-    pub text-length : length (markingText (tokensOf (sizesAt places sizes) k))
-        ≡ 7 + length (decimal (k .len)) + length (texts (rowText sizes) (rowsIn (k .len) (k .rows)))
-    text-length = rw (held-text, length-append, start-length (k .len))
+      -- its bytes, as the code counts them
+      pub text-length : length (blockText key (tokensOf (sizesAt places sizes) k))
+          ≡ length key + length (decimal (k .len)) + 1 + length (texts (rowText sizes) (rowsIn (k .len) (k .rows)))
+      text-length = rw (held-text, length-append, number-line-length key (k .len))
 
-    -- and laid in two parts
-    pub text-laid : (out : List ℕ) {at : ℕ} {m l : List ℕ} → at ≡ length (numberText (bytes "start=") (k .len))
-        → m ≡ sets out 0 (numberText (bytes "start=") (k .len)) → l ≡ sets m at (texts (rowText sizes) (rowsIn (k .len) (k .rows)))
-        → l ≡ sets out 0 (markingText (tokensOf (sizesAt places sizes) k))
-    text-laid out p q e = e ∙ rw (p, q, held-text, sets-append, zero-add)
+      -- and laid in two parts
+      pub text-laid : (out : List ℕ) (at : ℕ) {next : ℕ} {m l : List ℕ} → Laid (numberText key (k .len)) out at next m
+          → l ≡ sets m next (texts (rowText sizes) (rowsIn (k .len) (k .rows)))
+          → l ≡ sets out at (blockText key (tokensOf (sizesAt places sizes) k))
+      text-laid out at p e = e ∙ rw (p .0, p .1, held-text, sets-append)
 
 -- ---- what the writer answers and leaves
 
-pub lay-whole : (text out : List ℕ) {n : ℕ} {m : List ℕ} → length text ≤ length out → n ≡ length text → m ≡ sets out 0 text
-    → record { answer = Whole n; bytes = m } ≡ lay text out
+pub lay-whole : (text out : List ℕ) (at : ℕ) {n : ℕ} {m : List ℕ} → at + length text ≤ length out → n ≡ at + length text → m ≡ sets out at text
+    → record { answer = Whole n; bytes = m } ≡ lay text out at
 unfolding lay
-lay-whole text out h p q = rw (p, q, le-leb (length text) (length out) h, lay)
+lay-whole text out at h p q = rw (p, q, le-leb (at + length text) (length out) h, lay)
 
-pub lay-short : (text out : List ℕ) {n : ℕ} → length out < length text → n ≡ length text → record { answer = Short n; bytes = out } ≡ lay text out
+pub lay-short : (text out : List ℕ) (at : ℕ) {n : ℕ} → length out < at + length text → n ≡ at + length text
+    → record { answer = Short n; bytes = out } ≡ lay text out at
 unfolding lay
-lay-short text out h p = rw (p, lt-leb (length text) (length out) h, lay)
+lay-short text out at h p = rw (p, lt-leb (at + length text) (length out) h, lay)
 
 -- ---- it reads back
 

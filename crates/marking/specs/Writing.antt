@@ -1,7 +1,7 @@
--- Writing a marking's text into a lent buffer (01's cause 13): whole, or no byte and the number of bytes needed.
+-- Writing a text into a lent buffer (01's cause 13): whole, or no byte and the number of bytes needed.
 use mathlib.Core.Bool.{true, false}
 use mathlib.Core.List.{List}
-use Prim.Native.Nat.{ℕ}
+use Prim.Native.Nat.{ℕ, _+_}
 use lib.Dec.{leb}
 use lib.ListN.{length}
 use lib.Seq.{sets}
@@ -14,9 +14,10 @@ pub record Lent : Type 0 where
   pub answer : Wrote
   pub bytes : List ℕ
 
-unfoldable pub lay : Text → List ℕ → Lent
-lay text out =
-    elim (leb (length text) (length out)) [
-      | true ↦ record { answer = Whole (length text); bytes = sets out 0 text }
-      | false ↦ record { answer = Short (length text); bytes = out }
+-- the text laid over the bytes from `at` on, and where it ends; where it does not fit, no byte is touched
+unfoldable pub lay : Text → List ℕ → ℕ → Lent
+lay text out at =
+    elim (leb (at + length text) (length out)) [
+      | true ↦ record { answer = Whole (at + length text); bytes = sets out at text }
+      | false ↦ record { answer = Short (at + length text); bytes = out }
     ]

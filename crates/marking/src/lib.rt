@@ -3,9 +3,7 @@ ghost use mathlib.Core.Path.{_≡_};
 ghost use Rattle.marking.specs.Held.{noMarking};
 use text::Ended;
 
-pub mod blocks;
 pub mod held;
-pub mod writing;
 
 // One net-token: its place's number, from 1, and its counts. Unused room is 0.
 pub struct NetToken {
@@ -38,8 +36,8 @@ pub struct Block {
     pub marking: Marking,
 }
 
-// How writing a marking ended: the whole text, so many bytes, or not at all, and so many bytes are needed.
+// How writing net-tokens into a lent buffer ended: the whole text, up to this position, or not at all, and so many bytes are needed.
 pub enum Wrote {
-    Whole { bytes: usize },
+    Whole { end: usize },
     Short { needed: usize },
 }

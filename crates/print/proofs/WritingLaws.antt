@@ -34,6 +34,11 @@ sets-set [] l i j x h = refl
 sets-set (y ∷ a) l i j x h =
     rw (set-comm l j i x y (λ e. omega arith)) (sets-set a (set l i y) (suc i) j x (omega arith))
 
+-- two texts that lie apart are laid in either order
+pub sets-apart : (a b l : List ℕ) (i j : ℕ) → i + length a ≤ j → sets (sets l j b) i a ≡ sets (sets l i a) j b
+sets-apart a [] l i j h = refl
+sets-apart a (x ∷ b) l i j h = sets-apart a b (set l j x) i (suc j) (omega arith) ∙ rw (sets-set a l i j x h)
+
 -- bytes beside the text are untouched
 pub sets-past : (a l : List ℕ) (i j : ℕ) → (j < i) ⊎ (i + length a ≤ j) → getD (sets l i a) j 0 ≡ getD l j 0
 sets-past [] l i j h = refl

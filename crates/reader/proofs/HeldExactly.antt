@@ -152,6 +152,18 @@ module _ (d : eos.Model) (right : rightModel d ≡ true) where
         ap holdMarking (sym (h .ordered)),
       )
 
+-- what an accepted reading gives passes the tests
+pub accepted-held : (s : Text) (m : Model) (k : Marking) → Accepts s m k → heldBoth m k ≡ true
+unfolding heldBoth
+accepted-held s m k e =
+    let p = accepted-printed s m k e in
+    let r = right-parts (p .0) (p .2) in
+    let d = p .0 .model in
+    let z : sizesFor m ≡ sizesOf d = ap sizesFor (p .4) ∙ sizes-same d (r .0) in
+    and-both (heldModel m) _ (rw (p .4) (hold-held d (r .0)))
+    (ap₂ heldMarking z (p .5)
+    ∙ hold.hold-held (sizesOf d) (roomy d (r .0)) (eos.canonical (p .0 .start)) (canonical-held (sizesOf d) (p .0 .start) (r .1)))
+
 module _ (m : Model) (sized : model.Sized m) where
   -- the test of a model passes exactly for what some accepted reading gives
   pub held-model-exactly : (heldModel m ≡ true) ↔ ((s : Text) × (k : Marking) × Accepts s m k)
@@ -183,14 +195,7 @@ module _ (m : Model) (sized : model.Sized m) where
         let b = hold.held-tokens (sizesOf d) (roomy d (e .1)) k small t in
         let μ = tokensOf (sizesOf d) k in
         (modelText (record { model = d; start = μ }), accepts-as _ m (holdModel d) k (holdMarking μ) (e .2) (b .1) (said-accepted d (e .1) μ (b .0))),
-    λ (s, e).
-        let p = accepted-printed s m k e in
-        let r = right-parts (p .0) (p .2) in
-        let d = p .0 .model in
-        let z : sizesFor m ≡ sizesOf d = ap sizesFor (p .4) ∙ sizes-same d (r .0) in
-        and-both (heldModel m) _ (rw (p .4) (hold-held d (r .0)))
-        (ap₂ heldMarking z (p .5)
-        ∙ hold.hold-held (sizesOf d) (roomy d (r .0)) (eos.canonical (p .0 .start)) (canonical-held (sizesOf d) (p .0 .start) (r .1))),
+    λ (s, e). accepted-held s m k e,
   )
 
 -- ---- written reads back

@@ -11,7 +11,7 @@ use lib.ListN.{length, getD}
 use Rattle.scan.specs.Bytes.{Text}
 use Rattle.scan.proofs.Basics.{by-test}
 use Rattle.text.specs.Lines.{Outcome, got, bad}
-use Rattle.print.proofs.WritingLaws.{sets-past}
+use Rattle.print.proofs.WritingLaws.{by-le, sets-past}
 use Rattle.eos.specs.Model as eos
 use Rattle.model.specs.Held.{noModel}
 use Rattle.model.specs.Test.{heldModel}
@@ -23,6 +23,7 @@ use Rattle.reader.specs.Sizes.{sizesFor}
 use Rattle.reader.specs.Answers.{longest, loaded, modelReading, restored, forHeld, markingReading, heldBoth, layWhole, markingWriting}
 use Rattle.reader.specs.declared.ReadAnswer.the-variants.{Accepted}
 use Rattle.reader.specs.declared.WriteAnswer.the-variants.{Written}
+use Rattle.reader.proofs.WritingLaws.{whole-fits, whole-short}
 
 loaded-refused : (s : Text) (o : Outcome Loaded) → (loaded s o .answer ≡ Accepted → ⊥) → (loaded s o .model ≡ noModel) × (loaded s o .start ≡ noMarking)
 unfolding loaded
@@ -55,11 +56,10 @@ refused-marking m s n =
     (λ h. rw (h, markingReading))
 
 laid-refused : (text : Text) (out : List ℕ) → ((n : ℕ) → layWhole text out .answer ≡ Written n → ⊥) → layWhole text out .bytes ≡ out
-unfolding layWhole
 laid-refused text out n =
-    by-test (leb (length text) (length out))
-    (λ h. absurd (n (length text) (rw (h, layWhole))))
-    (λ h. rw (h, layWhole))
+    by-le (length text) (length out)
+    (λ h. absurd (n (length text) (rw (← whole-fits text out h))))
+    (λ h. rw (← whole-short text out h))
 
 -- a refused writing leaves every lent byte
 pub refused-writing : (m : Model) (k : Marking) (out : List ℕ) → ((n : ℕ) → markingWriting m k out .answer ≡ Written n → ⊥) →
@@ -71,13 +71,12 @@ refused-writing m k out n =
     (λ h. rw (h, markingWriting))
 
 laid-past : (text : Text) (out : List ℕ) (n j : ℕ) → layWhole text out .answer ≡ Written n → n ≤ j → getD (layWhole text out .bytes) j 0 ≡ getD out j 0
-unfolding layWhole
 laid-past text out n j e b =
-    by-test (leb (length text) (length out))
-    (λ h. let w : Written (length text) ≡ Written n = rw (h, layWhole) at e in
+    by-le (length text) (length out)
+    (λ h. let w : Written (length text) ≡ Written n = rw (← whole-fits text out h) at e in
     let z : length text ≡ n = cc in
-    rw (h, layWhole) (sets-past text out 0 j (inr (omega arith))))
-    (λ h. rw (h, layWhole))
+    rw (← whole-fits text out h) (sets-past text out 0 j (inr (omega arith))))
+    (λ h. rw (← whole-short text out h))
 
 -- a writing leaves the bytes past its text
 pub written-past : (m : Model) (k : Marking) (out : List ℕ) (n j : ℕ) → markingWriting m k out .answer ≡ Written n → n ≤ j →

@@ -1,12 +1,14 @@
--- What writing a marking answers, by how its parts ended.
-use Prim.Native.Nat.{ℕ}
-use mathlib.Core.Path.{_≡_, ap, ap₂, _∙_}
+-- What writing a text and writing a marking answer, by how their parts ended.
+use Prim.Native.Nat.{ℕ, _≤_, _<_}
+use mathlib.Core.Path.{_≡_, refl, ap, sym, _∙_}
 use mathlib.Core.List.{List}
 use mathlib.Core.Bool.{true, false}
-use lib.Dec.{leb}
+use native.Mathlib.Omega.{arith}
+use native.Mathlib.Nat.{zero-add}
 use lib.ListN.{length}
+use lib.Seq.{sets}
 use Rattle.scan.specs.Bytes.{Text}
-use Rattle.scan.proofs.Basics.{by-test, and-true}
+use Rattle.scan.proofs.Basics.{and-true}
 use Rattle.model.specs.Test.{heldModel}
 use Rattle.model.specs.declared.Model.{Model}
 use Rattle.marking.specs.Held.{sizesAt, Roomy, tokensOf, heldMarking}
@@ -15,17 +17,34 @@ use Rattle.marking.specs.Writing as marking
 use Rattle.marking.specs.Writing.{lay}
 use Rattle.marking.specs.declared.Marking.{Marking}
 use Rattle.marking.specs.declared.Wrote.{Wrote}
+use Rattle.marking.proofs.WriteLaws.{lay-whole, lay-short}
 use Rattle.reader.specs.Sizes.{sizesIn}
-use Rattle.reader.specs.Parts.{writtenAs}
-use Rattle.reader.specs.Answers.{heldBoth, Lent, layWhole, markingWriting}
+use Rattle.reader.specs.Answers.{heldBoth, writtenAs, Lent, layWhole, markingWriting}
 use Rattle.reader.specs.declared.WriteAnswer.{WriteAnswer}
-use Rattle.reader.specs.declared.WriteAnswer.the-variants.{Unheld}
+use Rattle.reader.specs.declared.WriteAnswer.the-variants.{Written, Unheld, TooSmall}
 use Rattle.reader.proofs.ReadingLaws.{roomy-of}
 
--- a text is laid alike
-lay-same : (text : Text) (out : List ℕ) → record { answer = writtenAs (lay text out .answer); bytes = lay text out .bytes } ≡ layWhole text out
-unfolding lay layWhole
-lay-same text out = by-test (leb (length text) (length out)) (λ h. rw (h, lay, layWhole)) (λ h. rw (h, lay, layWhole))
+-- ---- a text laid from the first byte on
+
+abbrev asWritten : marking.Lent → Lent
+asWritten l = record { answer = writtenAs (l .answer); bytes = l .bytes }
+
+module _ (text : Text) (out : List ℕ) where
+  pub whole-fits : length text ≤ length out → record { answer = Written (length text); bytes = sets out 0 text } ≡ layWhole text out
+  unfolding layWhole
+  whole-fits h =
+      let n = zero-add (length text) in
+      ap asWritten (lay-whole text out 0 {n = length text} {m = sets out 0 text} (omega (arith, n)) (sym n) refl)
+
+  pub whole-short : length out < length text → record { answer = TooSmall (length text); bytes = out } ≡ layWhole text out
+  unfolding layWhole
+  whole-short h = let n = zero-add (length text) in ap asWritten (lay-short text out 0 {n = length text} (omega (arith, n)) (sym n))
+
+  -- what the writer of a text answers
+  pub whole-as : (w : Wrote) (a : WriteAnswer) (after : List ℕ) → a ≡ writtenAs w → record { answer = w; bytes = after } ≡ lay text out 0
+      → record { answer = a; bytes = after } ≡ layWhole text out
+  unfolding layWhole
+  whole-as w a after f l = rw f (ap asWritten l)
 
 module _ (m : Model) (k : Marking) where
   -- what the writer of a marking asks
@@ -41,12 +60,10 @@ module _ (m : Model) (k : Marking) where
 
     -- the writer of a marking was called
     pub write-laid : heldBoth m k ≡ true → (z : List ℕ) → z ≡ sizesIn m → (w : Wrote) (a : WriteAnswer) (after : List ℕ) → a ≡ writtenAs w
-        → record { answer = w; bytes = after } ≡ lay (markingText (tokensOf (sizesAt (m .places) z) k)) out
+        → record { answer = w; bytes = after } ≡ lay (markingText (tokensOf (sizesAt (m .places) z) k)) out 0
         → record { answer = a; bytes = after } ≡ markingWriting m k out
     unfolding markingWriting
     write-laid h z e w a after f l =
-        let p = ap (λ (r : marking.Lent). r .answer) l in
-        let q = ap (λ (r : marking.Lent). r .bytes) l in
         let text = markingText (tokensOf (sizesAt (m .places) z) k) in
         let s : layWhole text out ≡ markingWriting m k out = rw (h, markingWriting, e) in
-        ap₂ {C = Lent} (λ a b. record { answer = a; bytes = b }) (f ∙ ap writtenAs p) q ∙ lay-same text out ∙ s
+        whole-as text out w a after f l ∙ s

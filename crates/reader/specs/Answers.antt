@@ -4,7 +4,6 @@ use mathlib.Core.Bool.{Bool, true, false, _&&_}
 use mathlib.Core.List.{List}
 use lib.Dec.{leb}
 use lib.ListN.{length, take}
-use lib.Seq.{sets}
 use Rattle.scan.specs.Bytes.{Text, newlines}
 use Rattle.text.specs.Lines.{Outcome, got, bad}
 use Rattle.text.specs.declared.Fault.{Fault}
@@ -15,7 +14,10 @@ use Rattle.model.specs.Test.{heldModel}
 use Rattle.model.specs.declared.Model.{Model}
 use Rattle.marking.specs.Held.{holdMarking, noMarking, tokensOf, heldMarking}
 use Rattle.marking.specs.Printed.{markingText}
+use Rattle.marking.specs.Writing.{lay}
 use Rattle.marking.specs.declared.Marking.{Marking}
+use Rattle.marking.specs.declared.Wrote.{Wrote}
+use Rattle.marking.specs.declared.Wrote.the-variants.{Whole, Short}
 use Rattle.reader.specs.Reading.{Loaded, readModel, readMarking}
 use Rattle.reader.specs.Sizes.{sizesFor}
 use Rattle.reader.specs.declared.ReadAnswer.{ReadAnswer}
@@ -89,12 +91,14 @@ pub record Lent : Type 0 where
   pub answer : WriteAnswer
   pub bytes : List ℕ
 
+-- how the writing of a text ended
+abbrev pub writtenAs : Wrote → WriteAnswer
+writtenAs (Whole n) = Written n
+writtenAs (Short n) = TooSmall n
+
+-- a text laid over the lent bytes from the first on: whole, or no byte of it
 unfoldable pub layWhole : Text → List ℕ → Lent
-layWhole text out =
-    elim (leb (length text) (length out)) [
-      | true ↦ record { answer = Written (length text); bytes = sets out 0 text }
-      | false ↦ record { answer = TooSmall (length text); bytes = out }
-    ]
+layWhole text out = record { answer = writtenAs (lay text out 0 .answer); bytes = lay text out 0 .bytes }
 
 -- writing a marking: 14, then 13
 unfoldable pub markingWriting : Model → Marking → List ℕ → Lent

@@ -6,19 +6,19 @@ ghost use Rattle.model.specs.Test.{heldModel};
 ghost use Rattle.marking.specs.Held.{sizesAt, Roomy};
 ghost use Rattle.marking.specs.Answers.{blockOf};
 ghost use Rattle.reader.specs.Reading.{readTokens};
-ghost use Rattle.reader.specs.Parts.{answerOf, writtenAs};
-ghost use Rattle.reader.specs.Answers.{longest, noReading, modelReading, noTokens, markingReading, heldBoth, markingWriting};
+ghost use Rattle.reader.specs.Parts.{answerOf};
+ghost use Rattle.reader.specs.Answers.{longest, noReading, modelReading, noTokens, markingReading, heldBoth, writtenAs, markingWriting};
+use blocks::block_at;
 use marking::Block;
 use marking::Marking;
 use marking::Wrote;
-use marking::blocks::block_at;
-use marking::writing::write;
 use model::Model;
 use plantreader::read_plant;
 use scan::lines_before;
 use sizes::sizes;
 use text::Ended;
 use text::Fault;
+use writing::write;
 
 pub mod sizes;
 
@@ -43,7 +43,7 @@ pub struct MarkingReading {
     pub marking: Marking,
 }
 
-// How writing a marking ended.
+// How writing a text into lent bytes ended.
 pub enum WriteAnswer {
     Written { bytes: usize },
     Unheld,
@@ -87,7 +87,7 @@ fn tokens_from(s: &[u8], at: usize, places: u16, sizes: [u8; 32]) -> Block
 }
 
 // No model, and why.
-fn no_reading(answer: ReadAnswer) -> ModelReading
+pub fn no_reading(answer: ReadAnswer) -> ModelReading
     ensures { λ r. ⌜ r ≡ noReading answer ⌝ }
 {
     let model = Model::empty();
@@ -172,12 +172,12 @@ pub fn test_marking(m: Model, k: Marking) -> bool
     marking::held::test(k, m.places as u16, sizes(m))
 }
 
-// The answer for how the writing of a held marking ended.
+// The answer for how the writing of a text ended.
 fn written_as(w: Wrote) -> WriteAnswer
     ensures { λ r. ⌜ r ≡ writtenAs w ⌝ }
 {
     match w {
-        Wrote::Whole { bytes } => WriteAnswer::Written { bytes },
+        Wrote::Whole { end } => WriteAnswer::Written { bytes: end },
         Wrote::Short { needed } => WriteAnswer::TooSmall { needed },
     }
 }
@@ -189,5 +189,5 @@ pub fn write_marking(m: Model, k: Marking, out: &mut [u8]) -> WriteAnswer
     if !test_marking(m, k) {
         return WriteAnswer::Unheld;
     }
-    written_as(write(k, m.places as u16, sizes(m), out))
+    written_as(write(k, m.places as u16, sizes(m), b"start=", out, 0))
 }

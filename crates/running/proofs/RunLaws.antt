@@ -5,9 +5,12 @@ use mathlib.Core.Path.{_≡_, refl, ap, ap₂, sym, subst, _∙_}
 use mathlib.Core.List.{List, [], _∷_}
 use native.Mathlib.Omega.{arith}
 use native.Mathlib.Nat.{sub-zero}
+use lib.Dec.{leb}
 use lib.ListN.{length, take, drop, length-append, length-drop}
 use lib.Seq.{take-all, drop-drop}
-use Rattle.scan.specs.Bytes.{Text}
+use Rattle.scan.specs.Bytes.{Text, bytes}
+use Rattle.scan.proofs.Basics.{by-test}
+use Rattle.text.specs.Lines.{Outcome, got, bad, readHead}
 use Rattle.text.specs.Printed.{numberText}
 use Rattle.eos.specs.Model as eos
 use Rattle.model.specs.Held.{modelOf}
@@ -17,6 +20,7 @@ use Rattle.marking.specs.Held.{holdMarking, tokensOf}
 use Rattle.marking.specs.declared.Marking.{Marking}
 use Rattle.reader.specs.Reading.{bounds}
 use Rattle.reader.specs.Sizes.{sizesFor}
+use Rattle.reader.specs.Answers.{longest}
 use Rattle.steps.specs.Printed.{stepText}
 use Rattle.steps.proofs.StepExactly.{step-exactly}
 use Rattle.firing.specs.declared.StepAnswer.{StepAnswer}
@@ -28,7 +32,7 @@ use Rattle.running.specs.declared.Turn.the-variants.{On, Off}
 use Rattle.running.specs.declared.Ran.{Ran}
 use Rattle.firing.specs.Answers.{Tried, fires, stops, tried, stepped, heldStep}
 use Rattle.running.specs.Parts.{turnOf}
-use Rattle.running.specs.Running.{stopOf, ran, onward, runFrom}
+use Rattle.running.specs.Running.{stopOf, ran, onward, runFrom, headed, whereHeld, running}
 use Rattle.firing.proofs.KeepLaws.{Keeps, step-keeps}
 use Rattle.firing.proofs.FiresExactly.{held-brings, brings-tried, brings-fires}
 
@@ -126,6 +130,30 @@ module _ (fuel : ℕ) (m : Model) (k : Marking) (n : ℕ) where
         let p = tried-stops k t h in
         onward-stops (λ u μ. runFrom fuel m (holdMarking μ) (drop u s) (n + 1)) s t _ more (p .0)
         ∙ ap (ran n (stopOf (stepped k t .answer))) (sym (p .1))
+
+-- a run keeps a held marking held
+from-keeps : (fuel : ℕ) (m : Model) (k : Marking) (s : Text) (n : ℕ) → Keeps m k → Keeps m (runFrom fuel m k s n .marking)
+from-keeps zero m k s n h = unfold runFrom in h
+from-keeps (suc f) m k s n h =
+    by-index (length s) 0
+    (λ p. by-turn (heldStep m k s .answer)
+    (λ used e.
+    subst (λ (r : Ran). Keeps m (r .marking)) (sym (run-fires f m k n s p used e))
+    (from-keeps f m (heldStep m k s .marking) (drop used s) (n + 1) (step-keeps m k h s)))
+    (λ e. subst (λ (r : Ran). Keeps m (r .marking)) (sym (run-stops f m k n s p e)) (step-keeps m k h s)))
+    (λ p. subst (λ (r : Ran). Keeps m (r .marking)) (sym (run-end (suc f) m k n s (omega arith))) h)
+
+headed-keeps : (m : Model) (k : Marking) (s : Text) (o : Outcome ℕ) → Keeps m k → Keeps m (headed m k s o .marking)
+unfolding headed
+headed-keeps m k s (got v next) h = from-keeps (length s) m k (drop next s) 0 h
+headed-keeps m k s (bad e) h = h
+
+pub run-keeps : (m : Model) (k : Marking) (s : Text) → Keeps m k → Keeps m (running m k s .marking)
+unfolding running whereHeld
+run-keeps m k s h =
+    by-test (leb (length s) longest)
+    (λ t. rw (t, running, h .held) (headed-keeps m k s (readHead (bytes "run=") s 0) h))
+    (λ t. rw (t, running) h)
 
 -- the length of the text is fuel enough: with more, a run is the same
 pub run-fuel : (f g : ℕ) (m : Model) (k : Marking) (s : Text) (n : ℕ) → length s ≤ f → length s ≤ g → runFrom f m k s n ≡ runFrom g m k s n

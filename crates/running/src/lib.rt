@@ -103,7 +103,7 @@ fn run_from(m: Model, k: Marking, s: &[u8], from: usize) -> Ran
 }
 
 // A run refused before its first step.
-fn refused(stop: Stop, k: Marking) -> Ran
+pub fn refused(stop: Stop, k: Marking) -> Ran
     ensures { λ r. ⌜ r ≡ ran 0 stop k ⌝ }
 {
     Ran {

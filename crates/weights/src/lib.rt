@@ -67,7 +67,7 @@ pub struct WeightCheck {
 }
 
 // Refused weights: sum 0, cover 0.
-fn refused(answer: WeightAnswer) -> WeightCheck
+pub fn refused(answer: WeightAnswer) -> WeightCheck
     ensures { λ r. ⌜ r ≡ refusedWeights answer ⌝ }
 {
     WeightCheck {

@@ -7,6 +7,7 @@ use mathlib.Core.Bool.{true}
 use native.Mathlib.Omega.{arith}
 use borrow.Author.Tests.{not-true, not-false}
 use Rattle.model.proofs.TestLaws.{held-is, most-places}
+use Rattle.marking.specs.Printed.{markingText}
 use Rattle.reader.specs.Answers.{heldBoth}
 use Rattle.reader.proofs.ReadingLaws.{both-model}
 use Rattle.reader.proofs.WritingLaws.{write-asks, write-unheld, write-laid}
@@ -27,8 +28,14 @@ cast-write c = omega (arith, most-places _ (held-is _ (both-model _ _ (passed (c
 sizes-requires : tie.Need-sizes-requires
 sizes-requires c κs = both-model _ _ (passed (c .before))
 
+slice-aggregate-write : tie.Need-slice-aggregate-write
+slice-aggregate-write c = search needs
+
 write-requires : tie.Need-write-requires
-write-requires c κs = write-asks _ _ (passed (c .before .before .before)) _ (c .before .sizes .ensures)
+write-requires c κs =
+    let z = c .before .before in
+    let a = write-asks _ _ (passed (z .before .before)) _ (z .sizes .ensures) in
+    (a .0, a .1, omega arith, omega arith)
 
 written-as-requires : tie.Need-written-as-requires
 written-as-requires c κs = search needs
@@ -37,9 +44,10 @@ same-length : tie.Need-same-length
 same-length c = search needs
 
 returns-2 : tie.Need-returns-2
+unfolding markingText
 returns-2 c =
     let w = c .before .before .before in
-    let z = w .before .before in
+    let z = w .before .before .before in
     write-laid _ _ _ (passed (z .before .before)) _ (z .sizes .ensures) _ _ _ (c .written-as .ensures) (w .write .ensures)
 
 pub write-marking-spec : {M : Type 1} → statement M
@@ -50,6 +58,7 @@ write-marking-spec =
     returns
     cast-write
     sizes-requires
+    slice-aggregate-write
     write-requires
     written-as-requires
     same-length

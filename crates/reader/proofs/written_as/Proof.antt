@@ -3,7 +3,7 @@ use borrow.Author.Needs.{needs}
 use Rattle.reader.proofs.written_as.Statement.{statement}
 use Rattle.reader.proofs.written_as.Tie as tie
 use mathlib.Core.Path.{ap, sym}
-use Rattle.reader.specs.Parts.{writtenAs}
+use Rattle.reader.specs.Answers.{writtenAs}
 
 enum-known-w : tie.Need-enum-known-w
 enum-known-w c = search needs

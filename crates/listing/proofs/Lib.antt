@@ -1,0 +1,5 @@
+pub mod Cases
+pub mod FileLaws
+pub mod LineLaws
+pub mod LayLaws
+pub mod StageLaws
