@@ -13,6 +13,7 @@ pub struct NetToken {
 
 // Up to 256 net-tokens in canonical order. A net-token is a row of 33 numbers: its place's number, from 1, and its counts. Unused room
 // is 0.
+#[repr(C)]
 pub struct Marking {
     pub len: usize,
     pub rows: [u16; 8448],

@@ -5,6 +5,7 @@ ghost use Rattle.model.specs.Held.{noNet, noEvent, noModel};
 pub mod held;
 
 // An object net; arcs at transition * 32 + place. Unused room is 0.
+#[repr(C)]
 pub struct ObjectNet {
     pub places: usize,
     pub transitions: usize,
@@ -27,6 +28,7 @@ impl ObjectNet {
 
 // An event: of kind 1 a move, of kind 2 idling at a place; the index is the move's or the place's number, from 1. The count of a
 // transition stands at net * 32 + transition. Unused room is 0.
+#[repr(C)]
 pub struct Event {
     pub kind: u8,
     pub index: u8,
@@ -46,6 +48,7 @@ impl Event {
 }
 
 // The held model; arcs at move * 32 + place. Unused room is 0.
+#[repr(C)]
 pub struct Model {
     pub nets: usize,
     pub places: usize,
