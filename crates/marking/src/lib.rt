@@ -1,4 +1,4 @@
-// The held marking: net-tokens in canonical order, read from their lines, tested and written.
+// The held marking: net-tokens in canonical order, how they are read and written, and their test.
 ghost use mathlib.Core.Path.{_≡_};
 ghost use Rattle.marking.specs.Held.{noMarking};
 use text::Ended;

@@ -1,4 +1,4 @@
-// The held model: a plant's places, moves, object nets and events in arrays of fixed room. Its rules, and the test of a held model.
+// The held model: a plant's places, moves, object nets and events in arrays of fixed room. The test of a held model.
 ghost use mathlib.Core.Path.{_≡_};
 ghost use Rattle.model.specs.Held.{noNet, noEvent, noModel};
 

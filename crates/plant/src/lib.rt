@@ -1,4 +1,4 @@
-// Reads the lines of a model, from `eos` to its last event, into a held model.
+// How the lines of a model, from `eos` to its last event, are read into a held model; what the readers of the crates above answer.
 use model::Event;
 use model::Model;
 use model::ObjectNet;

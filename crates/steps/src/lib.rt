@@ -1,4 +1,4 @@
-// A step: its lines are read, and a marking is changed by it.
+// What the lines of a step say, and how a marking is changed by it; what the reader of a step answers.
 use text::Ended;
 
 // How the reading of net-tokens ended, and how many were read; a refusal has none.

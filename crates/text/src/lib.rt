@@ -1,5 +1,5 @@
-// Reads the lines of the file formats: numbers, lists, `key=number`, `key=list`, `token=place:counts`. Every reader goes
-// from a position of a text, and its answer says the position after what it read or the one fault that ends the reading.
+// What the lines of the file formats say, and how they are read and printed; the lists in them. Every reader goes from a position of a
+// text, and its answer says the position after what it read or the one fault that ends the reading.
 pub mod lists;
 
 // A fault: the number of its cause, and the position at which the line at fault begins.
