@@ -36,8 +36,7 @@ use Rattle.marking.proofs.HoldLaws.{all-right}
 use Rattle.reader.specs.Reading.{bounds}
 use Rattle.reader.specs.Sizes.{sizesFor}
 use Rattle.reader.proofs.SizeLaws.{held-roomy, sizes-same}
-use Rattle.sides.specs.declared.Rule.{Rule}
-use Rattle.sides.specs.Held.{holdRule}
+use Rattle.sides.specs.Held.{Rule, holdRule}
 use Rattle.steps.specs.Reading.{readStep, rightStep}
 use Rattle.steps.proofs.StepExactly.{step-exactly}
 use Rattle.steps.proofs.ChangeLaws.{change-is}

@@ -28,8 +28,7 @@ use Rattle.reader.specs.Reading.{bounds}
 use Rattle.reader.specs.Sizes.{sizesIn, sizesFor}
 use Rattle.reader.specs.Answers.{longest, heldBoth}
 use Rattle.reader.proofs.SizeLaws.{held-roomy}
-use Rattle.sides.specs.declared.Rule.{Rule}
-use Rattle.sides.specs.Held.{holdRule}
+use Rattle.sides.specs.Held.{Rule, holdRule}
 use Rattle.steps.specs.Reading.{readStep}
 use Rattle.steps.specs.declared.StepLines.{StepLines}
 use Rattle.verdict.specs.declared.Verdict.{Verdict}

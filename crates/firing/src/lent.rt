@@ -6,7 +6,10 @@ ghost use lib.ListN.{length};
 ghost use Rattle.eos.specs.Causes.{first};
 ghost use Rattle.rows.specs.Rows.{rowsIn, Kept};
 ghost use Rattle.verdict.specs.Verdict.{causesIn, verdictOf};
-ghost use Rattle.verdict.specs.Held.{Sound, Placed};
+ghost use Rattle.model.specs.Held.{Sized};
+ghost use Rattle.flat.specs.Flat.{modelIn};
+ghost use Rattle.sides.specs.Held.{ruleIn};
+ghost use Rattle.verdict.specs.Held.{Lent, Placed};
 ghost use Rattle.reader.specs.Sizes.{sizesIn};
 ghost use Rattle.reader.specs.Answers.{longest, heldBoth};
 ghost use Rattle.firing.specs.Parts.{answered, ruled};
@@ -15,9 +18,7 @@ use super::StepAnswer;
 use super::StepEnd;
 use changing::change;
 use judging::verdict;
-use model::Model;
 use scan::lines_before;
-use sides::Rule;
 use sides::rule_of;
 use steplines::read_step;
 use text::Ended;
@@ -39,8 +40,10 @@ fn answer_of(s: &[u8], ended: Ended) -> StepAnswer
 }
 
 // A step whose lines were read, up to `next`: it is turned down, or the rows are changed.
-fn fire(
-    q: Rule,
+fn fire<'a>(
+    plan: &[u8],
+    pre: &'a [u64],
+    post: &'a [u64],
     rows: &mut [u16; 8448],
     len: usize,
     taken: &[u16],
@@ -49,12 +52,12 @@ fn fire(
     give: usize,
     next: usize,
 ) -> StepEnd
-    requires { ⌜ Sound q × Placed take (now taken) × Placed give (now given) × Kept len (now rows) ⌝ }
+    requires { ⌜ Lent (now plan) (now pre) (now post) × Placed take (now taken) × Placed give (now given) × Kept len (now rows) ⌝ }
     ensures { λ r. ⌜ record { answer = r .answer; marking = record { len = r .len; rows = now (rows .exit) } }
         ≡ ruled next (record { len = len; rows = now (rows .entry) }) (rowsIn take (now (taken .entry))) (rowsIn give (now (given .entry)))
-        (verdictOf (first (causesIn q (rowsIn take (now (taken .entry))) (rowsIn give (now (given .entry))) (rowsIn len (now (rows .entry)))))) ⌝ }
+        (verdictOf (first (causesIn (ruleIn (now (plan .entry)) (now (pre .entry)) (now (post .entry))) (rowsIn take (now (taken .entry))) (rowsIn give (now (given .entry))) (rowsIn len (now (rows .entry)))))) ⌝ }
 {
-    let judged = verdict(q, taken, take, given, give, rows, len);
+    let judged = verdict(plan, pre, post, taken, take, given, give, rows, len);
     let Verdict::Turned { cause, beside } = judged else {
         change(rows, len, taken, take, given, give);
         return StepEnd {
@@ -68,10 +71,10 @@ fn fire(
     }
 }
 
-// A step on the lent rows of a held marking of a held model: for a run over many steps, the held test stands once in front of the run.
-// `taken` and `given` are room for the step's net-tokens.
+// A step on the lent rows of a held marking of a held model that is laid flat: for a run over many steps, the held test and the laying stand
+// once in front of the run. `taken` and `given` are room for the step's net-tokens.
 pub fn step_on(
-    m: Model,
+    plan: &[u8],
     sizes: [u8; 32],
     rows: &mut [u16; 8448],
     len: usize,
@@ -79,10 +82,11 @@ pub fn step_on(
     taken: &mut [u16; 8448],
     given: &mut [u16; 8448],
 ) -> StepEnd
-    requires { ⌜ (heldBoth m (record { len = len; rows = now rows }) ≡ true) × (sizes ≡ sizesIn m) × (length (now s) ≤ longest) × (length (now rows) ≡ 8448) ⌝ }
-    ensures { λ r. ⌜ record { answer = r .answer; marking = record { len = r .len; rows = now (rows .exit) } } ≡ heldStep m (record { len = len; rows = now (rows .entry) }) (now (s .entry)) ⌝ }
+    requires { ⌜ (length (now plan) ≡ 34996) × Sized (modelIn (now plan)) × (heldBoth (modelIn (now plan)) (record { len = len; rows = now rows }) ≡ true)
+        × (sizes ≡ sizesIn (modelIn (now plan))) × (length (now s) ≤ longest) × (length (now rows) ≡ 8448) ⌝ }
+    ensures { λ r. ⌜ record { answer = r .answer; marking = record { len = r .len; rows = now (rows .exit) } } ≡ heldStep (modelIn (now (plan .entry))) (record { len = len; rows = now (rows .entry) }) (now (s .entry)) ⌝ }
 {
-    let lines = read_step(s, 0, m.listed as u16, m.places as u16, sizes, taken, given);
+    let lines = read_step(s, 0, plan[3] as u16, plan[1] as u16, sizes, taken, given);
     let ended = lines.ended;
     let Ended::Past { next } = ended else {
         return StepEnd {
@@ -90,6 +94,19 @@ pub fn step_on(
             len,
         };
     };
-    let q = rule_of(m, lines.event);
-    fire(q, rows, len, taken, lines.take, given, lines.give, next)
+    let mut pre = [0u64; 288];
+    let mut post = [0u64; 288];
+    rule_of(plan, lines.event, &mut pre, &mut post);
+    fire(
+        plan,
+        &pre,
+        &post,
+        rows,
+        len,
+        taken,
+        lines.take,
+        given,
+        lines.give,
+        next,
+    )
 }

@@ -4,6 +4,7 @@ ghost use Rattle.firing.specs.Answers.{stepping};
 use super::StepAnswer;
 use super::Stepped;
 use super::lent::step_on;
+use flat::flatten;
 use marking::Marking;
 use model::Model;
 use reader::sizes::sizes;
@@ -28,7 +29,9 @@ pub fn step(m: Model, k: Marking, s: &[u8]) -> Stepped
     let mut rows = k.rows;
     let mut taken = [0u16; 8448];
     let mut given = [0u16; 8448];
-    let end = step_on(m, sizes(m), &mut rows, k.len, s, &mut taken, &mut given);
+    let mut plan = [0u8; 34996];
+    flatten(m, &mut plan);
+    let end = step_on(&plan, sizes(m), &mut rows, k.len, s, &mut taken, &mut given);
     let answer = end.answer;
     Stepped {
         answer,

@@ -8,9 +8,8 @@ ghost use lib.Seq.{sets};
 ghost use Rattle.eos.specs.Causes.{failing, numbered};
 ghost use Rattle.rules.specs.Rules.{nth};
 ghost use Rattle.model.specs.Held.{noEvent};
-ghost use Rattle.sums.specs.Sums.{total, product, GainRow, NetGains, Gains, Small, eventGain, balancedAt, ActIn};
+ghost use Rattle.sums.specs.Sums.{total, product, GainRow, NetGains, TableGains, Small, eventGain, balancedAt, ActIn};
 use model::Event;
-use model::Model;
 use model::ObjectNet;
 
 // A weight times an arc.
@@ -98,13 +97,19 @@ fn gain_table(
 }
 
 // What each move and each transition of a model gains; with the two kinds of weights exchanged, what each loses.
-pub fn gains(m: Model, up: [u16; 288], down: [u16; 288]) -> [u64; 288]
-    requires { ⌜ m .nets ≤ 8 ⌝ }
-    ensures { λ r. ⌜ Gains m up down r ⌝ }
+pub fn gains<'a>(
+    nets: usize,
+    pre: &'a [u8],
+    post: &'a [u8],
+    objects: [ObjectNet; 8],
+    up: [u16; 288],
+    down: [u16; 288],
+) -> [u64; 288]
+    requires { ⌜ (nets ≤ 8) × (length (now pre) ≡ 1024) × (length (now post) ≡ 1024) ⌝ }
+    ensures { λ r. ⌜ TableGains (now (pre .entry)) (now (post .entry)) nets objects up down r ⌝ }
 {
-    let moves = gain_row(&up, &down, 0, &m.pre, &m.post);
-    let objects = m.objects;
-    gain_table(moves, m.nets, objects, up, down)
+    let moves = gain_row(&up, &down, 0, pre, post);
+    gain_table(moves, nets, objects, up, down)
 }
 
 // What an event's move gains; idling gains nothing outside.

@@ -8,14 +8,16 @@ ghost use Rattle.eos.specs.Causes.{first, unless, at};
 ghost use Rattle.rows.specs.Rows.{rowsIn, Kept};
 ghost use Rattle.verdict.specs.declared.Verdict.the-variants.{Turned};
 ghost use Rattle.verdict.specs.Verdict.{lackingRows, causesIn, verdictOf};
-ghost use Rattle.verdict.specs.Held.{Sound, Placed};
+ghost use Rattle.sides.specs.Held.{ruleIn};
+ghost use Rattle.verdict.specs.Held.{Lent, Placed};
+use flat::PRE;
+use flat::TYPES;
 use projections::containment::lacking;
 use projections::inner_of;
 use projections::nets::short_net;
 use projections::nets::unbalanced_net;
 use projections::outer_of;
 use projections::same;
-use sides::Rule;
 use verdict::Verdict;
 
 fn turned(cause: u8, beside: usize) -> Verdict
@@ -43,9 +45,12 @@ fn on_marking(taken: &[u16], take: usize, give: usize, rows: &[u16], len: usize)
     Verdict::Fires
 }
 
-// Why a step is turned down, or that it fires: `take` rows of `taken` and `give` rows of `given`, on a marking of `len` rows.
-pub fn verdict(
-    q: Rule,
+// Why a step is turned down, or that it fires: an event with the sides `pre` and `post`, of a model that is laid flat; `take` rows of `taken`
+// and `give` rows of `given`, on a marking of `len` rows.
+pub fn verdict<'a>(
+    plan: &[u8],
+    pre: &'a [u64],
+    post: &'a [u64],
     taken: &[u16],
     take: usize,
     given: &[u16],
@@ -53,28 +58,25 @@ pub fn verdict(
     rows: &[u16],
     len: usize,
 ) -> Verdict
-    requires { ⌜ Sound q × Placed take (now taken) × Placed give (now given) × Kept len (now rows) ⌝ }
-    ensures { λ r. ⌜ r ≡ verdictOf (first (causesIn q (rowsIn take (now (taken .entry))) (rowsIn give (now (given .entry))) (rowsIn len (now (rows .entry))))) ⌝ }
+    requires { ⌜ Lent (now plan) (now pre) (now post) × Placed take (now taken) × Placed give (now given) × Kept len (now rows) ⌝ }
+    ensures { λ r. ⌜ r ≡ verdictOf (first (causesIn (ruleIn (now (plan .entry)) (now (pre .entry)) (now (post .entry))) (rowsIn take (now (taken .entry))) (rowsIn give (now (given .entry))) (rowsIn len (now (rows .entry))))) ⌝ }
 {
-    let pre = q.pre;
-    let post = q.post;
-    let asked = pre.outer;
-    let left = post.outer;
-    if !same(outer_of(taken, take), asked) {
+    if !same(outer_of(taken, take), &pre[0..32]) {
         return turned(8, 2);
     }
-    if !same(outer_of(given, give), left) {
+    if !same(outer_of(given, give), &post[0..32]) {
         return turned(8, take + 3);
     }
-    let types = q.types;
-    let nets = q.nets;
-    let held = inner_of(taken, take, types);
-    let short = short_net(nets, &pre.inner, &held);
+    let nets = plan[0] as usize;
+    let mut held = [0u64; 256];
+    inner_of(taken, take, &plan[TYPES..PRE], &mut held);
+    let short = short_net(nets, &pre[32..288], &held);
     if short != 0 {
         return turned(9, short);
     }
-    let made = inner_of(given, give, types);
-    let unbalanced = unbalanced_net(nets, &made, &held, &pre.inner, &post.inner);
+    let mut made = [0u64; 256];
+    inner_of(given, give, &plan[TYPES..PRE], &mut made);
+    let unbalanced = unbalanced_net(nets, &made, &held, &pre[32..288], &post[32..288]);
     if unbalanced != 0 {
         return turned(10, unbalanced);
     }

@@ -2,7 +2,7 @@
 ghost use mathlib.Core.Path.{_≡_};
 ghost use mathlib.Core.List.{_++_};
 ghost use Prim.Native.Nat.{ℕ, _+_, _*_, _^_, _≤_, _<_};
-ghost use lib.ListN.{length, take, drop, getD};
+ghost use lib.ListN.{length, take, drop, getD, replicate};
 ghost use Rattle.eos.specs.Vector.{_⊕_, zeros, eqV};
 ghost use Rattle.rows.specs.Rows.{rowsIn};
 ghost use Rattle.verdict.specs.Verdict.{outerRows};
@@ -12,8 +12,9 @@ pub mod containment;
 pub mod nets;
 
 // Whether two vectors of places are the same.
-pub fn same(a: [u64; 32], b: [u64; 32]) -> bool
-    ensures { λ r. ⌜ r ≡ eqV a b ⌝ }
+pub fn same(a: [u64; 32], b: &[u64]) -> bool
+    requires { ⌜ length (now b) ≡ 32 ⌝ }
+    ensures { λ r. ⌜ r ≡ eqV a (now (b .entry)) ⌝ }
 {
     let mut equal = true;
     let mut k = 0;
@@ -53,10 +54,10 @@ fn add_row(sums: &mut [u64; 256], at: usize, rows: &[u16], from: usize)
 }
 
 // The counts of the row at `at` added to the sums of its net; a black token has none.
-fn add_inside(sums: &mut [u64; 256], types: [u8; 32], rows: &[u16], at: usize)
+fn add_inside(sums: &mut [u64; 256], types: &[u8], rows: &[u16], at: usize)
     requires { ⌜ (length (now sums) ≡ 256) × (at + 33 ≤ length (now rows)) × (1 ≤ getD (now rows) at 0) × (getD (now rows) at 0 ≤ 32)
-        × ((p : ℕ) → getD types p 0 ≤ 8) × ((k : ℕ) → getD (now sums) k 0 < 2 ^ 32) ⌝ }
-    ensures { λ _. ⌜ Added types (take 33 (drop at (now (rows .entry)))) (now (sums .entry)) (now (sums .exit)) ⌝ }
+        × (length (now types) ≡ 32) × ((p : ℕ) → getD (now types) p 0 ≤ 8) × ((k : ℕ) → getD (now sums) k 0 < 2 ^ 32) ⌝ }
+    ensures { λ _. ⌜ Added (now (types .entry)) (take 33 (drop at (now (rows .entry)))) (now (sums .entry)) (now (sums .exit)) ⌝ }
 {
     let p = rows[at] as usize - 1;
     let d = types[p] as usize;
@@ -66,16 +67,14 @@ fn add_inside(sums: &mut [u64; 256], types: [u8; 32], rows: &[u16], at: usize)
     add_row(sums, (d - 1) * 32, rows, at + 1);
 }
 
-// The insides of the first n rows added up, net by net: place i of net n at n * 32 + i.
-pub fn inner_of(rows: &[u16], n: usize, types: [u8; 32]) -> [u64; 256]
-    requires { ⌜ Placed n (now rows) × ((p : ℕ) → getD types p 0 ≤ 8) ⌝ }
-    ensures { λ r. ⌜ Inner types (rowsIn n (now (rows .entry))) r ⌝ }
+// The insides of the first n rows added up, net by net, into sums that are all 0: place i of net n at n * 32 + i.
+pub fn inner_of(rows: &[u16], n: usize, types: &[u8], sums: &mut [u64; 256])
+    requires { ⌜ Placed n (now rows) × (length (now types) ≡ 32) × ((p : ℕ) → getD (now types) p 0 ≤ 8) × (now sums ≡ replicate 256 0) ⌝ }
+    ensures { λ _. ⌜ Inner (now (types .entry)) (rowsIn n (now (rows .entry))) (now (sums .exit)) ⌝ }
 {
-    let mut sums = [0u64; 256];
     let mut i = 0;
     while i < n {
-        add_inside(&mut sums, types, rows, i * 33);
+        add_inside(sums, types, rows, i * 33);
         i += 1;
     }
-    sums
 }

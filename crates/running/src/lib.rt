@@ -3,11 +3,15 @@ ghost use mathlib.Core.Path.{_≡_};
 ghost use mathlib.Core.Bool.{true};
 ghost use Prim.Native.Nat.{_≤_};
 ghost use lib.ListN.{length, drop};
+ghost use Rattle.model.specs.Held.{Sized};
+ghost use Rattle.flat.specs.Flat.{modelIn};
+ghost use Rattle.reader.specs.Sizes.{sizesIn};
 ghost use Rattle.reader.specs.Answers.{longest, heldBoth};
 ghost use Rattle.running.specs.Parts.{turnOf, stopIn};
 ghost use Rattle.running.specs.Running.{ran, runFrom, running};
 use firing::StepAnswer;
 use firing::lent::step_on;
+use flat::flatten;
 use lines::head_line;
 use marking::Marking;
 use model::Model;
@@ -68,12 +72,12 @@ fn stop_of(turn: Turn) -> Stop
     }
 }
 
-// The steps from `from` to the end of the text or the first stop, on a held marking of a held model.
-fn run_from(m: Model, k: Marking, s: &[u8], from: usize) -> Ran
-    requires { ⌜ (heldBoth m k ≡ true) × (length (now s) ≤ longest) ⌝ }
-    ensures { λ r. ⌜ r ≡ runFrom (length (now (s .entry))) m k (drop from (now (s .entry))) 0 ⌝ }
+// The steps from `from` to the end of the text or the first stop, on a held marking of a held model that is laid flat.
+fn run_from(plan: &[u8], sizes: [u8; 32], k: Marking, s: &[u8], from: usize) -> Ran
+    requires { ⌜ (length (now plan) ≡ 34996) × Sized (modelIn (now plan)) × (heldBoth (modelIn (now plan)) k ≡ true)
+        × (sizes ≡ sizesIn (modelIn (now plan))) × (length (now s) ≤ longest) ⌝ }
+    ensures { λ r. ⌜ r ≡ runFrom (length (now (s .entry))) (modelIn (now (plan .entry))) k (drop from (now (s .entry))) 0 ⌝ }
 {
-    let widths = sizes(m);
     let mut rows = k.rows;
     let mut taken = [0u16; 8448];
     let mut given = [0u16; 8448];
@@ -81,7 +85,15 @@ fn run_from(m: Model, k: Marking, s: &[u8], from: usize) -> Ran
     let mut at = from;
     let mut fired = 0;
     while at < s.len() {
-        let end = step_on(m, widths, &mut rows, len, &s[at..], &mut taken, &mut given);
+        let end = step_on(
+            plan,
+            sizes,
+            &mut rows,
+            len,
+            &s[at..],
+            &mut taken,
+            &mut given,
+        );
         let answer = end.answer;
         let turn = turn_of(answer);
         len = end.len;
@@ -127,5 +139,7 @@ pub fn run(m: Model, k: Marking, s: &[u8]) -> Ran
     let Line::Value { value: _, next } = head else {
         return refused(Stop::Faulty { why: 2, line: 1 }, k);
     };
-    run_from(m, k, s, next)
+    let mut plan = [0u8; 34996];
+    flatten(m, &mut plan);
+    run_from(&plan, sizes(m), k, s, next)
 }

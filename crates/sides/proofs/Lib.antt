@@ -1,2 +1,3 @@
 pub mod SumLaws
 pub mod RuleLaws
+pub mod PlanLaws

@@ -26,11 +26,11 @@ use Rattle.model.specs.declared.Model.{Model}
 use Rattle.model.proofs.PadLaws.{nth-zeros, nth-padded, padded-take}
 use Rattle.model.proofs.SlotLaws.{by-index, length-listed, listed-at, listed-past}
 use Rattle.model.proofs.TableLaws.{length-row, rows-ext, length-tabled, tabled-row, nth-row}
-use Rattle.model.proofs.TestLaws.{Held, moves-are, most-nets, most-places, most-moves, most-events}
-use Rattle.model.proofs.TestLoops.{at-any, few-steps, act-range}
+use Rattle.model.proofs.TestLaws.{Held, moves-are, most-nets, most-places, most-moves}
+use Rattle.model.proofs.TestLoops.{few-steps, act-range}
 use Rattle.model.proofs.UsedLaws.{types-empty, count-is, net-used, net-held, event-used}
-use Rattle.sides.specs.Held.{holdSides, holdRule}
-use Rattle.sides.specs.Parts.{outerIn, sumRows, netSum, innersOf}
+use Rattle.sides.specs.Held.{Sides, holdSides, holdRule}
+use Rattle.sides.specs.Parts.{outerIn, sumRows, netSum}
 
 -- ---- sums, number by number
 
@@ -265,14 +265,21 @@ module _ (m : Model) (held : Held m) (e : ℕ) (known : e < m .listed) where
   unfolding outerOf eventOf
   outer-of {side} s = rw event-is (sym (outer-is s (event .kind) (event .index) act-held))
 
+  -- a side from its parts
+  abbrev pub sidesWith : (ObjectNet → List ℕ) → List ℕ → Sides
+  sidesWith pick table = record {
+    outer = outerIn (event .kind) (event .index) table;
+    inner = tabled row 256 (listed (netSum pick (m .objects) (event .sync)) 0 (m .nets));
+  }
+
   pub rule-is : length (m .types) ≡ 32 → length (m .pre) ≡ 1024 → length (m .post) ≡ 1024
       → record {
         nets = m .nets;
         types = m .types;
-        pre = record { outer = outerIn (event .kind) (event .index) (m .pre); inner = innersOf (m .objects) (m .nets) (event .sync) .pre };
-        post = record { outer = outerIn (event .kind) (event .index) (m .post); inner = innersOf (m .objects) (m .nets) (event .sync) .post };
+        pre = sidesWith (λ o. o .pre) (m .pre);
+        post = sidesWith (λ o. o .post) (m .post);
       } ≡ holdRule (modelOf m) e
-  unfolding holdRule holdSides innersOf
+  unfolding holdRule holdSides
   rule-is a b c =
       let o = outer-of (pre-moving b) in
       let q = outer-of (post-moving c) in
@@ -293,10 +300,3 @@ pub index-few : (m : Model) → Held m → (e : ℕ) → e < m .listed → (1 �
 index-few m held e known =
     let v = getD (m .events) e noEvent in
     act-range (frameIn m) (v .index) (v .kind) (act-held m held e known) (most-moves m held) (most-places m held)
-
--- what the code reads past the last event
-abbrev pub outside : Event
-outside = record { kind = 0; index = 0; sync = [] }
-
-pub event-read : (m : Model) → Held m → length (m .events) ≡ 64 → (e : ℕ) → e < m .listed → getD (m .events) e outside ≡ getD (m .events) e noEvent
-event-read m held long e known = at-any (m .events) e outside noEvent (omega (arith, most-events m held))

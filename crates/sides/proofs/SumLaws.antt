@@ -5,9 +5,11 @@ use mathlib.Core.List.{List, [], _∷_, append-nil}
 use native.Mathlib.Omega.{arith}
 use native.Mathlib.Nat.{mul-le-mul}
 use native.Mathlib.Numerals.{add-one}
-use borrow.Author.Tests.{eq-eqb, ne-eqb}
-use lib.ListN.{length, getD, set, replicate}
-use Rattle.model.proofs.TestLoops.{less-one, at-any}
+use borrow.Author.Tests.{eq-eqb, ne-eqb, eqb-true, eqb-false}
+use Rattle.scan.proofs.Basics.{by-test}
+use lib.Dec.{eqb}
+use lib.ListN.{length, set, replicate, length-set, length-replicate}
+use Rattle.model.proofs.TestLoops.{less-one}
 use Rattle.eos.specs.Vector.{_⊕_, times}
 use Rattle.eos.proofs.VectorLaws.{getD-⊕}
 use Rattle.eos.proofs.VectorSums.{length-times, nth-times}
@@ -15,12 +17,10 @@ use Rattle.rules.specs.Rules.{nth}
 use Rattle.text.specs.Repeat.{fill}
 use Rattle.text.specs.Answers.{padded}
 use Rattle.text.proofs.PaddedLaws.{padded-is}
-use lib.Seq.{sets}
-use Rattle.model.specs.Held.{row, rowIn, putRow, listed, noNet}
-use Rattle.model.specs.declared.ObjectNet.{ObjectNet}
-use Rattle.sides.specs.declared.NetSides.{NetSides}
+use lib.Seq.{sets, ext-getD}
+use Rattle.model.specs.Held.{row, rowIn, putRow, listed}
 use Rattle.model.proofs.TableLaws.{row-at, length-row}
-use Rattle.sides.specs.Parts.{outerIn, sumRows, netSides, netSum}
+use Rattle.sides.specs.Parts.{outerIn, sumRows}
 
 -- of two vectors of the same length
 pub length-⊕ : (x y : List ℕ) → length x ≡ length y → length (x ⊕ y) ≡ length x
@@ -37,6 +37,13 @@ pub length-plus : (v table : List ℕ) (count t : ℕ) → length v ≡ 32 → t
 length-plus v table count t e h =
     let k : length (times count (rowIn 32 table t)) ≡ 32 = length-times count (rowIn 32 table t) ∙ length-row table t 32 h in
     length-⊕ v (times count (rowIn 32 table t)) (e ∙ sym k) ∙ e
+
+-- a count of 0 adds nothing
+pub plus-none : (v table : List ℕ) (count t : ℕ) → length v ≡ 32 → t * 32 + 32 ≤ length table → count ≡ 0 → v ≡ v ⊕ times count (rowIn 32 table t)
+plus-none v table count t e h z =
+    ext-getD 0 v (v ⊕ times count (rowIn 32 table t)) (e ∙ sym (length-plus v table count t e h)) (λ k p.
+    let n : nth v k ≡ nth v k + count * nth table (t * 32 + k) = rw z (omega arith) in
+    n ∙ plus-at v table count t k (omega arith))
 
 -- a product of two bytes
 pub bytes-product : (a b : ℕ) → a ≤ 255 → b ≤ 255 → a * b ≤ 65025
@@ -60,6 +67,12 @@ module _ (kind index : ℕ) (table : List ℕ) where
   pub outer-idle : (kind ≡ 1 → ⊥) → set (replicate 32 0) (index - 1) 1 ≡ outerIn kind index table
   unfolding outerIn
   outer-idle n = rw (less-one index, ne-eqb kind 1 n, outerIn)
+
+  pub outer-wide : length table ≡ 1024 → 1 ≤ index → index ≤ 32 → length (outerIn kind index table) ≡ 32
+  outer-wide long some few =
+      by-test (eqb kind 1)
+      (λ t. ap length (sym (outer-move (eqb-true kind 1 t))) ∙ length-row table (index - 1) 32 (omega arith))
+      (λ t. ap length (sym (outer-idle (eqb-false kind 1 t))) ∙ length-set {A = ℕ} (replicate 32 0) (index - 1) 1 ∙ length-replicate {A = ℕ} 32 0)
 
 -- ---- rows added up
 
@@ -86,38 +99,28 @@ length-sum count table t (suc n) v e h =
     let k : suc t + n ≡ t + suc n = omega arith in
     length-sum count table (suc t) n (v ⊕ times (count t) (rowIn 32 table t)) (length-plus v table (count t) t e (omega arith)) (rw k h)
 
-whole-row : (v : List ℕ) → length v ≡ 32 → padded v ≡ v
+pub whole-row : (v : List ℕ) → length v ≡ 32 → padded v ≡ v
 whole-row v e =
     let z : 32 - length v ≡ 0 = omega arith in
     padded-is v (omega arith) ∙ rw z (append-nil v)
 
 module _ (f : ℕ → List ℕ) where
-  pub nets-next : (n nets : ℕ) (table next : List ℕ) → n < nets → length (f n) ≡ 32 → next ≡ sets table (n * 32) (f n)
-      → fill (putRow row) (n + 1) (listed f (n + 1) (nets - (n + 1))) next ≡ fill (putRow row) n (listed f n (nets - n)) table
+  pub nets-next : (n nets : ℕ) (table next : List ℕ) → n < nets → length (f n) ≡ 32 → next ≡ sets table ((n + 1) * 32) (f n)
+      → fill (putRow row) (n + 1 + 1) (listed f (n + 1) (nets - (n + 1))) next ≡ fill (putRow row) (n + 1) (listed f n (nets - n)) table
   unfolding fill
   nets-next n nets table next h w e =
       let rest : ℕ = nets - (n + 1) in
       let k : nets - n ≡ suc rest = omega arith in
-      let laid : fill (putRow row) (suc n) (listed f (suc n) rest) (sets table (n * 32) (f n)) ≡ fill (putRow row) n (listed f n (suc rest)) table =
-      ap (λ (v : List ℕ). fill (putRow row) (suc n) (listed f (suc n) rest) (sets table (n * 32) v)) (sym (whole-row (f n) w)) in
-      ap (λ (t : List ℕ). fill (putRow row) (n + 1) (listed f (n + 1) rest) t) e
-      ∙ ap (λ (i : ℕ). fill (putRow row) i (listed f i rest) (sets table (n * 32) (f n))) (add-one n)
-      ∙ laid ∙ ap (λ (r : ℕ). fill (putRow row) n (listed f n r) table) (sym k)
+      let laid : fill (putRow row) (suc (suc n)) (listed f (suc n) rest) (sets table (suc n * 32) (f n)) ≡ fill (putRow row) (suc n) (listed f n (suc rest)) table =
+      ap (λ (v : List ℕ). fill (putRow row) (suc (suc n)) (listed f (suc n) rest) (sets table (suc n * 32) v)) (sym (whole-row (f n) w)) in
+      ap (λ (t : List ℕ). fill (putRow row) (n + 1 + 1) (listed f (n + 1) rest) t) e
+      ∙ ap (λ (i : ℕ). fill (putRow row) (i + 1) (listed f i rest) (sets table (i * 32) (f n))) (add-one n)
+      ∙ ap (λ (i : ℕ). fill (putRow row) i (listed f (suc n) rest) (sets table (suc n * 32) (f n))) (add-one (suc n))
+      ∙ laid ∙ ap (λ (r : ℕ). fill (putRow row) (suc n) (listed f n r) table) (sym k)
+      ∙ ap (λ (i : ℕ). fill (putRow row) i (listed f n (nets - n)) table) (sym (add-one n))
 
-  pub nets-done : (n nets : ℕ) (table : List ℕ) → nets ≤ n → fill (putRow row) n (listed f n (nets - n)) table ≡ table
+  pub nets-done : (n nets : ℕ) (table : List ℕ) → nets ≤ n → fill (putRow row) (n + 1) (listed f n (nets - n)) table ≡ table
   unfolding fill
   nets-done n nets table h =
       let k : nets - n ≡ 0 = omega arith in
       rw k
-
--- what the code reads past the last net
-abbrev pub outside : ObjectNet
-outside = record { places = 0; transitions = 0; pre = []; post = [] }
-
--- the two sides of net n
-pub sides-are : (objects : List ObjectNet) (sync : List ℕ) (n : ℕ) (r : NetSides) → n < length objects → r ≡ netSides (getD objects n outside) sync (n * 32)
-    → (r .pre ≡ netSum (λ o. o .pre) objects sync n) × (r .post ≡ netSum (λ o. o .post) objects sync n)
-unfolding netSides
-sides-are objects sync n r h e =
-    let k = e ∙ ap (λ (o : ObjectNet). netSides o sync (n * 32)) (at-any objects n outside noNet h) in
-    (ap (λ (s : NetSides). s .pre) k, ap (λ (s : NetSides). s .post) k)

@@ -1,15 +1,14 @@
 -- What the parts of this crate's code answer.
-use Prim.Native.Nat.{ℕ, zero, suc, _+_, _*_, pred}
+use Prim.Native.Nat.{ℕ, zero, suc, _+_, _*_, pred, _≤_, _<_}
+use mathlib.Core.Path.{_≡_}
 use mathlib.Core.Bool.{true, false}
-use mathlib.Core.List.{List}
+use mathlib.Core.List.{List, _∷_}
 use lib.Dec.{eqb}
-use lib.ListN.{getD, set, replicate}
+use lib.ListN.{length, getD, set, replicate, take, drop}
 use Rattle.eos.specs.Vector.{_⊕_, times, zeros}
 use Rattle.rules.specs.Rules.{nth}
 use Rattle.model.specs.Held.{row, rowIn, tabled, listed, noNet}
 use Rattle.model.specs.declared.ObjectNet.{ObjectNet}
-use Rattle.sides.specs.declared.NetSides.{NetSides}
-use Rattle.sides.specs.declared.Inners.{Inners}
 
 -- a move's row of the table, or one net-token on the place
 unfoldable pub outerIn : ℕ → ℕ → List ℕ → List ℕ
@@ -24,15 +23,29 @@ sumRows count rows i (suc n) v = sumRows count rows (suc i) n (v ⊕ times (coun
 abbrev pub sumOf : (ObjectNet → List ℕ) → ObjectNet → List ℕ → ℕ → List ℕ
 sumOf side net sync from = sumRows (λ t. nth sync (from + t)) (rowIn 32 (side net)) 0 (net .transitions) (zeros 32)
 
-unfoldable pub netSides : ObjectNet → List ℕ → ℕ → NetSides
-netSides net sync from = record { pre = sumOf (λ o. o .pre) net sync from; post = sumOf (λ o. o .post) net sync from }
-
 -- the same of net n
 abbrev pub netSum : (ObjectNet → List ℕ) → List ObjectNet → List ℕ → ℕ → List ℕ
 netSum side objects sync n = sumOf side (getD objects n noNet) sync (n * 32)
 
-unfoldable pub innersOf : List ObjectNet → ℕ → List ℕ → Inners
-innersOf objects nets sync = record {
-  pre = tabled row 256 (listed (netSum (λ o. o .pre) objects sync) 0 nets);
-  post = tabled row 256 (listed (netSum (λ o. o .post) objects sync) 0 nets);
-}
+-- ---- on a model that is laid flat
+
+-- what is asked of the numbers there, for event e
+pub record Flat (plan : List ℕ) (e : ℕ) : Type 0 where
+  pub long : length plan ≡ 34996
+  pub nets : nth plan 0 ≤ 8
+  pub steps : (n : ℕ) → n < 8 → nth plan (2084 + n * 2050 + 1) ≤ 32
+  pub event : e < 64
+  pub index-some : 1 ≤ nth plan (18484 + e * 258 + 1)
+  pub index-few : nth plan (18484 + e * 258 + 1) ≤ 32
+
+-- what event e sums up of net n, whose arcs begin at `arcs`
+abbrev pub netSumIn : List ℕ → ℕ → ℕ → ℕ → List ℕ
+netSumIn plan e arcs n =
+    sumRows (λ t. nth (take 256 (drop (18484 + e * 258 + 2) plan)) (n * 32 + t)) (rowIn 32 (take 1024 (drop (2084 + n * 2050 + arcs) plan))) 0
+    (nth plan (2084 + n * 2050 + 1)) (zeros 32)
+
+-- a side of event e, in nine rows; the moves' arcs begin at `moves`
+unfoldable pub sideIn : List ℕ → ℕ → ℕ → ℕ → List ℕ
+sideIn plan e moves arcs =
+    tabled row 288
+    (outerIn (nth plan (18484 + e * 258)) (nth plan (18484 + e * 258 + 1)) (take 1024 (drop moves plan)) ∷ listed (netSumIn plan e arcs) 0 (nth plan 0))

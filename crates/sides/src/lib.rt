@@ -1,44 +1,27 @@
-// What an event asks and gives, added up: the sides of its move or of idling, and those of its object nets' transitions.
+// What an event asks and gives, added up: the sides of its move or of idling, and those of its object nets' transitions. The model is laid
+// flat (crate flat). A side is nine rows of 32: the net-tokens on each place, and then for each object net the tokens on its places; unused
+// room is 0.
 ghost use mathlib.Core.Path.{_≡_};
 ghost use mathlib.Core.Bool.{true};
 ghost use Prim.Native.Nat.{ℕ, _+_, _*_, _≤_, _<_};
-ghost use lib.ListN.{length, getD};
+ghost use lib.ListN.{length, replicate};
 ghost use lib.Seq.{sets};
 ghost use Rattle.eos.specs.Vector.{_⊕_, times, zeros};
-ghost use Rattle.model.specs.Held.{rowIn, modelOf, noNet};
+ghost use Rattle.text.specs.Repeat.{fill};
+ghost use Rattle.model.specs.Held.{row, rowIn, putRow, listed, modelOf};
 ghost use Rattle.rules.specs.Rules.{nth};
 ghost use Rattle.model.specs.Test.{heldModel};
-ghost use Rattle.sides.specs.Held.{holdRule};
-ghost use Rattle.sides.specs.Parts.{outerIn, sumRows, netSides, innersOf};
-use model::Model;
-use model::ObjectNet;
-
-// One side of an event: how many net-tokens it has on each place, and how many tokens on each place of each object net. The number of
-// place i of net n stands at n * 32 + i. Unused room is 0.
-pub struct Sides {
-    pub outer: [u64; 32],
-    pub inner: [u64; 256],
-}
-
-// What the firing rule asks of a step of one event: the types of the places, and the event's two sides.
-pub struct Rule {
-    pub nets: usize,
-    pub types: [u8; 32],
-    pub pre: Sides,
-    pub post: Sides,
-}
-
-// The two sides of one object net.
-pub struct NetSides {
-    pub pre: [u64; 32],
-    pub post: [u64; 32],
-}
-
-// The two sides of an event's object nets.
-pub struct Inners {
-    pub pre: [u64; 256],
-    pub post: [u64; 256],
-}
+ghost use Rattle.flat.specs.Flat.{modelIn};
+ghost use Rattle.sides.specs.Held.{holdRule, ruleIn};
+ghost use Rattle.sides.specs.Parts.{outerIn, sumRows, Flat, netSumIn, sideIn};
+use flat::EVENT;
+use flat::EVENTS;
+use flat::OBJECT;
+use flat::OBJECT_POST;
+use flat::OBJECT_PRE;
+use flat::OBJECTS;
+use flat::POST;
+use flat::PRE;
 
 // Row i of a table of arcs.
 fn arcs_at(table: &[u8], i: usize) -> [u64; 32]
@@ -69,108 +52,88 @@ fn outer_side(kind: u8, index: u8, table: &[u8]) -> [u64; 32]
     one
 }
 
-// The numbers of v, and `count` times row t of a table of arcs.
-fn plus_times(v: [u64; 32], count: u8, table: &[u8], t: usize) -> [u64; 32]
-    requires { ⌜ (t * 32 + 32 ≤ length (now table)) × ((i : ℕ) → nth v i ≤ 4294967296) ⌝ }
-    ensures { λ r. ⌜ (r ≡ v ⊕ times count (rowIn 32 (now (table .entry)) t)) × ((i : ℕ) → nth r i ≤ nth v i + 65025) ⌝ }
+// Row t of a table of arcs added to the sum, as often as it is counted.
+fn plus_times(sum: &mut [u64; 32], count: u8, table: &[u8], t: usize)
+    requires { ⌜ (length (now sum) ≡ 32) × (t * 32 + 32 ≤ length (now table)) × ((i : ℕ) → nth (now sum) i ≤ 4294967296) ⌝ }
+    ensures { λ _. ⌜ (now (sum .exit) ≡ now (sum .entry) ⊕ times count (rowIn 32 (now (table .entry)) t)) × ((i : ℕ) → nth (now (sum .exit)) i ≤ nth (now (sum .entry)) i + 65025) ⌝ }
 {
-    let mut sum = [0u64; 32];
+    if count == 0 {
+        return;
+    }
     let at = t * 32;
     let mut k = 0;
     while k < 32 {
-        sum[k] = v[k] + count as u64 * table[at + k] as u64;
+        sum[k] = sum[k] + count as u64 * table[at + k] as u64;
         k += 1;
     }
-    sum
 }
 
 // The rows of a net's transitions added up, each as often as it is counted; the net's counts begin at `from`.
-fn summed(sync: [u8; 256], from: usize, table: &[u8], transitions: usize) -> [u64; 32]
-    requires { ⌜ (from + 32 ≤ 256) × (transitions ≤ 32) × (length (now table) ≡ 1024) ⌝ }
-    ensures { λ r. ⌜ r ≡ sumRows (λ t. nth sync (from + t)) (rowIn 32 (now (table .entry))) 0 transitions (zeros 32) ⌝ }
+fn summed<'a>(sync: &'a [u8], from: usize, table: &'a [u8], transitions: usize) -> [u64; 32]
+    requires { ⌜ (from + 32 ≤ length (now sync)) × (length (now sync) ≡ 256) × (transitions ≤ 32) × (length (now table) ≡ 1024) ⌝ }
+    ensures { λ r. ⌜ r ≡ sumRows (λ t. nth (now (sync .entry)) (from + t)) (rowIn 32 (now (table .entry))) 0 transitions (zeros 32) ⌝ }
 {
     let mut sum = [0u64; 32];
     let mut t = 0;
     while t < transitions {
-        let count = sync[from + t];
-        let next = plus_times(sum, count, table, t);
-        sum = next;
+        plus_times(&mut sum, sync[from + t], table, t);
         t += 1;
     }
     sum
 }
 
-// The numbers of one net laid in their row, from `at` on.
-fn put_net(inner: &mut [u64; 256], at: usize, v: [u64; 32])
-    requires { ⌜ (at + 32 ≤ 256) × (length (now inner) ≡ 256) ⌝ }
-    ensures { λ _. ⌜ now (inner .exit) ≡ sets (now (inner .entry)) at v ⌝ }
+// A row of a side laid from `at` on.
+fn put_row(side: &mut [u64; 288], at: usize, v: [u64; 32])
+    requires { ⌜ (at + 32 ≤ 288) × (length (now side) ≡ 288) ⌝ }
+    ensures { λ _. ⌜ (length (now (side .exit)) ≡ 288) × (now (side .exit) ≡ sets (now (side .entry)) at v) ⌝ }
 {
     let mut k = 0;
     while k < 32 {
-        inner[at + k] = v[k];
+        side[at + k] = v[k];
         k += 1;
     }
 }
 
-// The two sides of an object net, for the counts that begin at `from`.
-fn net_sides(net: ObjectNet, sync: [u8; 256], from: usize) -> NetSides
-    requires { ⌜ (net .transitions ≤ 32) × (from + 32 ≤ 256) ⌝ }
-    ensures { λ r. ⌜ r ≡ netSides net sync from ⌝ }
+// The rows of the object nets laid behind the first row, for the counts of event e; a net's arcs of this side begin at `arcs`.
+fn inner_side(plan: &[u8], e: usize, arcs: usize, side: &mut [u64; 288])
+    requires { ⌜ Flat (now plan) e × (arcs ≤ 1026) × (length (now side) ≡ 288) ⌝ }
+    ensures { λ _. ⌜ now (side .exit) ≡ fill (putRow row) 1 (listed (netSumIn (now (plan .entry)) e arcs) 0 (nth (now (plan .entry)) 0)) (now (side .entry)) ⌝ }
 {
-    let asked = net.pre;
-    let given = net.post;
-    NetSides {
-        pre: summed(sync, from, &asked, net.transitions),
-        post: summed(sync, from, &given, net.transitions),
-    }
-}
-
-// The two sides of the object nets, for the counts of an event.
-fn inner_sides(objects: [ObjectNet; 8], nets: usize, sync: [u8; 256]) -> Inners
-    requires { ⌜ (nets ≤ 8) × ((n : ℕ) → getD objects n noNet .transitions ≤ 32) ⌝ }
-    ensures { λ r. ⌜ r ≡ innersOf objects nets sync ⌝ }
-{
-    let mut pre = [0u64; 256];
-    let mut post = [0u64; 256];
+    let sync = EVENTS + e * EVENT + 2;
+    let nets = plan[0] as usize;
     let mut n = 0;
     while n < nets {
-        let net = objects[n];
-        let sides = net_sides(net, sync, n * 32);
-        let asked = sides.pre;
-        let given = sides.post;
-        put_net(&mut pre, n * 32, asked);
-        put_net(&mut post, n * 32, given);
+        let net = OBJECTS + n * OBJECT;
+        let from = net + arcs;
+        let transitions = plan[net + 1] as usize;
+        let sum = summed(
+            &plan[sync..sync + 256],
+            n * 32,
+            &plan[from..from + 1024],
+            transitions,
+        );
+        put_row(side, (n + 1) * 32, sum);
         n += 1;
     }
-    Inners { pre, post }
 }
 
-// What the firing rule asks of a step of event e, which is one of the held model's.
-pub fn rule_of(m: Model, e: usize) -> Rule
-    requires { ⌜ (heldModel m ≡ true) × (e < m .listed) ⌝ }
-    ensures { λ r. ⌜ r ≡ holdRule (modelOf m) e ⌝ }
+// A side of event e; the arcs of the moves of this side begin at `moves`.
+fn side_of(plan: &[u8], e: usize, moves: usize, arcs: usize, side: &mut [u64; 288])
+    requires { ⌜ Flat (now plan) e × (moves ≤ 1060) × (arcs ≤ 1026) × (now side ≡ replicate 288 0) ⌝ }
+    ensures { λ _. ⌜ now (side .exit) ≡ sideIn (now (plan .entry)) e moves arcs ⌝ }
 {
-    let event = m.events[e];
-    let sync = event.sync;
-    let objects = m.objects;
-    let inners = inner_sides(objects, m.nets, sync);
-    let asked = m.pre;
-    let given = m.post;
-    let before = inners.pre;
-    let after = inners.post;
-    let types = m.types;
-    let pre = Sides {
-        outer: outer_side(event.kind, event.index, &asked),
-        inner: before,
-    };
-    let post = Sides {
-        outer: outer_side(event.kind, event.index, &given),
-        inner: after,
-    };
-    Rule {
-        nets: m.nets,
-        types,
-        pre,
-        post,
-    }
+    let at = EVENTS + e * EVENT;
+    let outer = outer_side(plan[at], plan[at + 1], &plan[moves..moves + 1024]);
+    put_row(side, 0, outer);
+    inner_side(plan, e, arcs, side);
+}
+
+// What the firing rule asks of a step of event e, which is one of the held model's, into room that is all 0.
+pub fn rule_of(plan: &[u8], e: usize, pre: &mut [u64; 288], post: &mut [u64; 288])
+    requires { ⌜ (length (now plan) ≡ 34996) × (heldModel (modelIn (now plan)) ≡ true) × (e < modelIn (now plan) .listed) × (now pre ≡ replicate 288 0) × (now post ≡ replicate 288 0) ⌝ }
+    ensures { λ _. ⌜ (length (now (pre .exit)) ≡ 288) × (length (now (post .exit)) ≡ 288)
+        × (ruleIn (now (plan .entry)) (now (pre .exit)) (now (post .exit)) ≡ holdRule (modelOf (modelIn (now (plan .entry)))) e) ⌝ }
+{
+    side_of(plan, e, PRE, OBJECT_PRE, pre);
+    side_of(plan, e, POST, OBJECT_POST, post);
 }

@@ -13,10 +13,9 @@ use Rattle.rules.specs.Rules.{nth}
 use Rattle.model.specs.Held.{noNet, noEvent}
 use Rattle.model.specs.declared.ObjectNet.{ObjectNet}
 use Rattle.model.specs.declared.Event.{Event}
-use Rattle.model.specs.declared.Model.{Model}
 use Rattle.model.proofs.PadLaws.{nth-zeros}
 use Rattle.model.proofs.SlotLaws.{by-index}
-use Rattle.sums.specs.Sums.{product, gainOf, Small, GainRow, NetGains, Gains, eventGain, balancedAt}
+use Rattle.sums.specs.Sums.{product, gainOf, Small, GainRow, NetGains, TableGains, eventGain, balancedAt}
 
 -- ---- a number stored in a list
 
@@ -121,9 +120,9 @@ module _ (moves first : List ℕ) (long : length moves ≡ 32) (small : Small mo
   }
 
 -- the table of a model
-pub model-gains : (m : Model) (up down moves gain : List ℕ) → GainRow up down 0 (m .pre) (m .post) moves
-    → NetGains moves (m .nets) (m .objects) up down gain → Gains m up down gain
-model-gains m up down moves gain g n = record { small = n .small; moves = λ t p. n .first t p ∙ g .is t p; nets = n .is }
+pub model-gains : (pre post : List ℕ) (nets : ℕ) (objects : List ObjectNet) (up down moves gain : List ℕ) → GainRow up down 0 pre post moves
+    → NetGains moves nets objects up down gain → TableGains pre post nets objects up down gain
+model-gains pre post nets objects up down moves gain g n = record { small = n .small; moves = λ t p. n .first t p ∙ g .is t p; nets = n .is }
 
 -- what a move gains stays small
 pub move-small : (kind index : ℕ) (gain : List ℕ) (r : ℕ) → r ≡ cond (eqb kind 1) (nth gain (index - 1)) 0 → Small gain → r ≤ 1069531200

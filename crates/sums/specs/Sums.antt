@@ -47,12 +47,16 @@ pub record NetGains (moves : List ℕ) (nets : ℕ) (objects : List ObjectNet) (
   pub is : (n t : ℕ) → n < nets → t < 32
       → nth gain (n * 32 + 32 + t) ≡ gainOf up down (n * 32 + 32) (getD objects n noNet .pre) (getD objects n noNet .post) t
 
--- the same of a model
-pub record Gains (m : Model) (up down gain : List ℕ) : Type 0 where
+-- the same, with the tables of the moves
+pub record TableGains (pre post : List ℕ) (count : ℕ) (objects : List ObjectNet) (up down gain : List ℕ) : Type 0 where
   pub small : Small gain
-  pub moves : (t : ℕ) → t < 32 → nth gain t ≡ gainOf up down 0 (m .pre) (m .post) t
-  pub nets : (n t : ℕ) → n < m .nets → t < 32
-      → nth gain (n * 32 + 32 + t) ≡ gainOf up down (n * 32 + 32) (getD (m .objects) n noNet .pre) (getD (m .objects) n noNet .post) t
+  pub moves : (t : ℕ) → t < 32 → nth gain t ≡ gainOf up down 0 pre post t
+  pub nets : (n t : ℕ) → n < count → t < 32
+      → nth gain (n * 32 + 32 + t) ≡ gainOf up down (n * 32 + 32) (getD objects n noNet .pre) (getD objects n noNet .post) t
+
+-- the same of a model
+abbrev pub Gains : Model → List ℕ → List ℕ → List ℕ → Type 0
+Gains m up down gain = TableGains (m .pre) (m .post) (m .nets) (m .objects) up down gain
 
 -- what an event gains: what its move gains, and each transition's gain as often as it is counted. Idling gains nothing outside
 unfoldable pub eventGain : ℕ → Event → List ℕ → ℕ

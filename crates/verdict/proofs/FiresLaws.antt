@@ -13,7 +13,7 @@ use Rattle.eos.specs.Multiset as M
 use Rattle.eos.specs.Causes.{Refusal, first, unless, at}
 use Rattle.eos.proofs.Basics.{some-not}
 use Rattle.rows.specs.Rows.{Row}
-use Rattle.sides.specs.declared.Rule.{Rule}
+use Rattle.sides.specs.Held.{Rule}
 use Rattle.verdict.specs.declared.Verdict.the-variants.{Fires, Turned}
 use Rattle.verdict.specs.Verdict.{lackingRows, causesIn, verdictOf}
 use Rattle.verdict.proofs.LackLaws.{lacking-within}

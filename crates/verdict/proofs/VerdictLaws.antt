@@ -12,7 +12,7 @@ use Rattle.eos.specs.Vector.{leV, eqV}
 use Rattle.eos.specs.Causes.{Refusal, first, unless, at, failing, numbered}
 use Rattle.rows.specs.Rows.{Row}
 use Rattle.model.specs.Held.{rowIn}
-use Rattle.sides.specs.declared.Rule.{Rule}
+use Rattle.sides.specs.Held.{Rule}
 use Rattle.verdict.specs.declared.Verdict.{Verdict}
 use Rattle.verdict.specs.declared.Verdict.the-variants.{Fires, Turned}
 use Rattle.verdict.specs.Verdict.{outerRows, innerTakenIn, innerGivenIn, lackingRows, causesIn, verdictOf}

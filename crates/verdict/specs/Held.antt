@@ -8,7 +8,7 @@ use lib.ListN.{length, getD}
 use Rattle.eos.specs.Vector.{_⊕_, _⊖_, eqV}
 use Rattle.rows.specs.Rows.{Row, rowsIn}
 use Rattle.model.specs.Held.{rowIn}
-use Rattle.sides.specs.declared.Rule.{Rule}
+use Rattle.sides.specs.Held.{Rule, ruleIn}
 use Rattle.verdict.specs.Verdict.{insideIn, innerRows}
 
 -- ---- what is required
@@ -19,6 +19,13 @@ pub record Sound (q : Rule) : Type 0 where
   pub types : (p : ℕ) → getD (q .types) p 0 ≤ 8
   pub pre : (k : ℕ) → getD (q .pre .inner) k 0 < 2 ^ 32
   pub post : (k : ℕ) → getD (q .post .inner) k 0 < 2 ^ 32
+
+-- an event's sides, beside the model that is laid flat
+pub record Lent (plan pre post : List ℕ) : Type 0 where
+  pub plan-long : length plan ≡ 34996
+  pub pre-long : length pre ≡ 288
+  pub post-long : length post ≡ 288
+  pub sound : Sound (ruleIn plan pre post)
 
 -- each row has a place, from 1 to 32
 abbrev pub OnPlaces : List Row → Type 0

@@ -10,7 +10,7 @@ use Rattle.eos.specs.Multiset as M
 use Rattle.eos.specs.Causes.{Refusal, unless, at, failing}
 use Rattle.rows.specs.Rows.{Row}
 use Rattle.model.specs.Held.{rowIn}
-use Rattle.sides.specs.declared.Rule.{Rule}
+use Rattle.sides.specs.Held.{Rule}
 use Rattle.verdict.specs.declared.Verdict.{Verdict}
 use Rattle.verdict.specs.declared.Verdict.the-variants.{Fires, Turned}
 

@@ -20,8 +20,9 @@ pub fn unbalanced(m: Model, h: HeldWeights) -> usize
 {
     let above = h.above;
     let below = h.below;
-    let gain = gains(m, above, below);
-    let loss = gains(m, below, above);
+    let objects = m.objects;
+    let gain = gains(m.nets, &m.pre, &m.post, objects, above, below);
+    let loss = gains(m.nets, &m.pre, &m.post, objects, below, above);
     let events = m.events;
     first_unbalanced(m.listed, m.nets, events, gain, loss)
 }

@@ -17,7 +17,7 @@ gain-table-requires : tie.Need-gain-table-requires
 gain-table-requires c κs = search needs
 
 returns : tie.Need-returns
-returns c = model-gains _ _ _ _ _ (c .before .before .gain-row .ensures) (c .gain-table .ensures)
+returns c = model-gains _ _ _ _ _ _ _ _ (c .before .gain-row .ensures) (c .gain-table .ensures)
 
 pub gains-spec : {M : Type 1} → statement M
 gains-spec =

@@ -20,47 +20,49 @@ cast-p c = search needs
 sub-p : tie.Need-sub-p
 sub-p c = search needs
 
-array-read-d : tie.Need-array-read-d
-array-read-d c = search needs
+shared-slice-read-d : tie.Need-shared-slice-read-d
+shared-slice-read-d c = search needs
 
 cast-d : tie.Need-cast-d
-cast-d c = search needs
+cast-d c =
+    let s = c .before .before .before .before in
+    omega (arith, s .pre .5 (getD (s .args .rows .now) (s .args .at) 0 - 1))
 
 returns : tie.Need-returns
 returns c =
-    let s = c .before .before .before in
+    let s = c .before .before .before .before .before in
     let a = s .args in
-    added-none (a .t2) (a .rows .now) (a .at) (a .sums .now) (s .pre .0) (c .if1 .taken)
+    added-none (a .types .now) (a .rows .now) (a .at) (a .sums .now) (s .pre .0) (c .if1 .taken)
 
 sub-add-row : tie.Need-sub-add-row
 sub-add-row c = search needs
 
 mul-add-row : tie.Need-mul-add-row
 mul-add-row c =
-    let s = c .before .before .before .before in
+    let s = c .before .before .before .before .before .before in
     let a = s .args in
-    omega (arith, s .pre .4 (getD (a .rows .now) (a .at) 0 - 1))
+    omega (arith, s .pre .5 (getD (a .rows .now) (a .at) 0 - 1))
 
 add-add-row : tie.Need-add-add-row
 add-add-row c = search needs
 
 add-row-requires : tie.Need-add-row-requires
 add-row-requires c κs =
-    let s = c .before .before .before .before in
+    let s = c .before .before .before .before .before .before in
     let a = s .args in
-    let t = s .pre .4 (getD (a .rows .now) (a .at) 0 - 1) in
-    (s .pre .0, omega arith, omega arith, s .pre .5)
+    let t = s .pre .5 (getD (a .rows .now) (a .at) 0 - 1) in
+    (s .pre .0, omega arith, omega arith, s .pre .6)
 
 returns-2 : tie.Need-returns-2
 returns-2 c =
     let b = c .before .before .before in
-    let s = b .before .before in
+    let s = b .before .before .before .before in
     let a = s .args in
     let p = getD (a .rows .now) (a .at) 0 - 1 in
-    let d = getD (a .t2) p 0 in
+    let d = getD (a .types .now) p 0 in
     let o : 1 ≤ d = omega (arith, c .before .before .if1 .left) in
-    added-inside (a .t2) (a .rows .now) (a .at) (a .sums .now) (s .pre .0) d refl o (s .pre .4 p) (s .pre .1)
-    (λ i. omega (arith, b .shared-slice-known2 .given i)) _ (c .add-row .ensures)
+    added-inside (a .types .now) (a .rows .now) (a .at) (a .sums .now) (s .pre .0) d refl o (s .pre .5 p) (s .pre .1)
+    (λ i. omega (arith, b .before .shared-slice-known3 .given i)) _ (c .add-row .ensures)
 
 pub add-inside-spec : {M : Type 1} → statement M
 add-inside-spec =
@@ -70,7 +72,7 @@ add-inside-spec =
     shared-slice-read-p
     cast-p
     sub-p
-    array-read-d
+    shared-slice-read-d
     cast-d
     returns
     sub-add-row

@@ -2,7 +2,8 @@
 use Rattle.projections.proofs.inner_of.Statement.{statement}
 use Rattle.projections.proofs.inner_of.Tie as tie
 use Prim.Native.Nat.{ℕ, _-_, _≤_, _*_}
-use mathlib.Core.Path.{_≡_, refl}
+use mathlib.Core.Path.{_≡_, refl, sym, subst}
+use mathlib.Core.List.{List}
 use native.Mathlib.Omega.{arith}
 use borrow.Author.Needs.{needs}
 use lib.ListN.{length}
@@ -19,8 +20,10 @@ abbrev μ-loop : tie.MeasureT-loop
 
 loop-holds : tie.Need-loop-holds Inv-loop μ-loop
 loop-holds c =
-    let a = c .before .args in
-    (omega arith, refl, (λ k. omega (arith, nth-zeros 256 k)), inner-start (a .types) (a .n) (a .rows .now))
+    let a = c .before .before .args in
+    let none = c .before .before .pre .3 in
+    subst (λ (sums : List ℕ). Inv-loop (a .rows .now) (a .n) (a .types .now) sums 0 sums 0) (sym none)
+    (omega arith, refl, (λ k. omega (arith, nth-zeros 256 k)), inner-start (a .types .now) (a .n) (a .rows .now))
 
 mul-add-inside : tie.Need-mul-add-inside Inv-loop μ-loop
 mul-add-inside c = search needs
@@ -28,12 +31,12 @@ mul-add-inside c = search needs
 add-inside-requires : tie.Need-add-inside-requires Inv-loop μ-loop
 add-inside-requires c κs =
     let l = c .before .before in
-    let s = l .before .before in
+    let s = l .before .before .before in
     let a = s .args in
     let p = place-at (a .n) (a .rows .now) (l .loop .i) (s .pre .0 .places) (c .before .loop-test .taken) in
     let few = s .pre .0 .few in
     let long = s .pre .0 .long in
-    (l .loop .inv .1, omega arith, p .0, p .1, s .pre .1, λ k. omega (arith, l .loop .inv .2 k))
+    (l .loop .inv .1, omega arith, p .0, p .1, s .pre .1, s .pre .2, λ k. omega (arith, l .loop .inv .2 k))
 
 add-i : tie.Need-add-i Inv-loop μ-loop
 add-i c = search needs
@@ -44,16 +47,16 @@ loop-less c = search needs
 loop-again : tie.Need-loop-again Inv-loop μ-loop
 loop-again c =
     let l = c .before .before .before in
-    let a = l .before .before .args in
+    let a = l .before .before .before .args in
     let g = c .add-inside .ensures in
-    (omega arith, g .long, (λ k. omega (arith, g .small k, l .loop .inv .2 k)), inner-turn (a .types) (a .n) (a .rows .now) (l .loop .i) _ _ (c .before .before .loop-test .taken) (l .loop .inv .3) g)
+    (omega arith, g .long, (λ k. omega (arith, g .small k, l .loop .inv .2 k)), inner-turn (a .types .now) (a .n) (a .rows .now) (l .loop .i) _ _ (c .before .before .loop-test .taken) (l .loop .inv .3) g)
 
 returns : tie.Need-returns Inv-loop μ-loop
 returns c =
     let l = c .before in
-    let s = l .before .before in
+    let s = l .before .before .before in
     let a = s .args in
-    inner-end (a .types) (a .n) (a .rows .now) (l .loop .i) (l .loop .sums) (s .pre .0 .few) (l .loop .inv .0) (c .loop-test .left) (l .loop .inv .1) (l .loop .inv .2) (l .loop .inv .3)
+    inner-end (a .types .now) (a .n) (a .rows .now) (l .loop .i) (l .loop .sums) (s .pre .0 .few) (l .loop .inv .0) (c .loop-test .left) (l .loop .inv .1) (l .loop .inv .2) (l .loop .inv .3)
 
 pub inner-of-spec : {M : Type 1} → statement M
 inner-of-spec =

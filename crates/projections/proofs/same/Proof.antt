@@ -11,10 +11,10 @@ use Rattle.eos.specs.Vector.{eqV}
 use Rattle.rows.proofs.Compare.{eq-on, eq-end}
 
 abbrev Inv-loop : tie.InvT-loop
-Inv-loop a b equal₀ k₀ equal k = (k ≤ 32) × (eqV a b ≡ (equal && eqV (drop k a) (drop k b)))
+Inv-loop b a equal₀ k₀ equal k = (k ≤ 32) × (eqV a b ≡ (equal && eqV (drop k a) (drop k b)))
 
 abbrev μ-loop : tie.MeasureT-loop
-μ-loop a b equal₀ k₀ equal k = 32 - k
+μ-loop b a equal₀ k₀ equal k = 32 - k
 
 loop-holds : tie.Need-loop-holds Inv-loop μ-loop
 loop-holds c = (omega arith, refl)
@@ -28,8 +28,8 @@ array-read-equal c = search needs
 mul-equal-2 : tie.Need-mul-equal-2 Inv-loop μ-loop
 mul-equal-2 c = search needs
 
-array-read-equal-2 : tie.Need-array-read-equal-2 Inv-loop μ-loop
-array-read-equal-2 c = search needs
+shared-slice-read-equal : tie.Need-shared-slice-read-equal Inv-loop μ-loop
+shared-slice-read-equal c = search needs
 
 add-k : tie.Need-add-k Inv-loop μ-loop
 add-k c = search needs
@@ -39,19 +39,19 @@ loop-less c = search needs
 
 loop-again : tie.Need-loop-again Inv-loop μ-loop
 loop-again c =
-    let l = c .before .loop in
-    let a = c .before .before .args in
+    let l = c .before .before .loop in
+    let a = c .before .before .before .args in
     let m : length (a .t1) ≡ 32 = search needs in
-    let n : length (a .t2) ≡ 32 = search needs in
-    (omega arith, l .inv .1 ∙ eq-on (a .t1) (a .t2) (l .k) (omega arith) (omega arith) (l .equal))
+    let n : length (a .b .now) ≡ 32 = search needs in
+    (omega arith, l .inv .1 ∙ eq-on (a .t1) (a .b .now) (l .k) (omega arith) (omega arith) (l .equal))
 
 returns : tie.Need-returns Inv-loop μ-loop
 returns c =
     let l = c .before .loop in
     let a = c .before .before .args in
     let m : length (a .t1) ≡ 32 = search needs in
-    let n : length (a .t2) ≡ 32 = search needs in
-    sym (l .inv .1 ∙ eq-end (a .t1) (a .t2) (l .k) (l .equal) (omega arith) (omega arith))
+    let n : length (a .b .now) ≡ 32 = search needs in
+    sym (l .inv .1 ∙ eq-end (a .t1) (a .b .now) (l .k) (l .equal) (omega arith) (omega arith))
 
 pub same-spec : {M : Type 1} → statement M
 same-spec =
@@ -63,7 +63,7 @@ same-spec =
     mul-equal
     array-read-equal
     mul-equal-2
-    array-read-equal-2
+    shared-slice-read-equal
     add-k
     loop-less
     loop-again

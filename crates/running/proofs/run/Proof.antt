@@ -2,11 +2,21 @@
 use borrow.Author.Needs.{needs}
 use Rattle.running.proofs.run.Statement.{statement}
 use Rattle.running.proofs.run.Tie as tie
-use mathlib.Core.Path.{_≡_, sym, _∙_}
+use mathlib.Core.Path.{_≡_, ap, sym, subst, _∙_}
 use mathlib.Core.Bool.{true}
+use lib.ListN.{length, drop}
 use borrow.Author.Tests.{not-true, not-false}
 use Rattle.encoding.proofs.Loops.{line-got, line-bad}
+use Rattle.model.specs.Held.{Sized}
+use Rattle.model.specs.declared.Model.{Model}
+use Rattle.model.proofs.TestLaws.{held-is}
+use Rattle.flat.specs.Flat.{modelIn}
+use Rattle.flat.proofs.SizedLaws.{model-sized}
+use Rattle.flat.proofs.FlatLaws.{flat-again}
+use Rattle.reader.specs.Sizes.{sizesIn}
 use Rattle.reader.specs.Answers.{heldBoth}
+use Rattle.reader.proofs.ReadingLaws.{both-model}
+use Rattle.running.specs.Running.{runFrom}
 use Rattle.running.proofs.TraceLaws.{trace-long, trace-unheld, trace-unheaded, trace-headed}
 
 -- the two passed the held test
@@ -53,17 +63,47 @@ returns-3 c =
     c .refused3 .ensures
     ∙ trace-unheaded _ _ _ (p .before .before .if1 .left) (passed p) _ (line-bad _ _ (sym (t .enum-told .given .1) ∙ h .head-line .ensures))
 
+-- the model that was laid flat is read there
+again : (f : tie.After-flatten) →
+    let p = f .before .before .before .before .before .before .before in
+    modelIn (f .flatten .last .1 .0) ≡ p .before .before .before .before .args .m
+again f =
+    let p = f .before .before .before .before .before .before .before in
+    let s = p .before .before .before .before in
+    let m = s .args .m in
+    ap modelIn (f .flatten .ensures .1) ∙ flat-again m (model-sized m _ (s .good .0)) (held-is m (both-model m _ (passed p)))
+
+flatten-requires : tie.Need-flatten-requires
+flatten-requires c κs = search needs
+
+slice-aggregate-run-from : tie.Need-slice-aggregate-run-from
+slice-aggregate-run-from c = search needs
+
+sizes-requires : tie.Need-sizes-requires
+sizes-requires c κs = both-model _ _ (passed (c .before .before .before .before .before .before .before .before))
+
 run-from-requires : tie.Need-run-from-requires
 run-from-requires c κs =
-    let p = c .before .before .before .before .before in
-    (passed p, p .before .before .if1 .left)
+    let f = c .before .before in
+    let p = f .before .before .before .before .before .before .before in
+    let s = p .before .before .before .before in
+    let e = again f in (
+      f .flatten .ensures .0,
+      subst Sized (sym e) (model-sized (s .args .m) _ (s .good .0)),
+      ap (λ (x : Model). heldBoth x (s .args .k)) e ∙ passed p,
+      c .sizes .ensures ∙ ap sizesIn (sym e),
+      p .before .before .if1 .left,
+    )
 
 returns-4 : tie.Need-returns-4
 returns-4 c =
-    let d = c .before .before in
+    let f = c .before .before .before in
+    let d = f .before .before .before in
     let h = d .before .before in
     let p = h .before .before in
-    c .run-from .ensures
+    let a = p .before .before .before .before .args in
+    let next = d .head .given .0 .1 .0 in
+    c .run-from .ensures ∙ ap (λ (x : Model). runFrom (length (a .s .now)) x (a .k) (drop next (a .s .now)) 0) (again f)
     ∙ trace-headed _ _ _ (p .before .before .if1 .left) (passed p) _ _ (line-got _ _ _ (sym (d .head .given .1) ∙ h .head-line .ensures))
 
 pub run-spec : {M : Type 1} → statement M
@@ -81,5 +121,8 @@ run-spec =
     enum-told
     refused-requires-3
     returns-3
+    flatten-requires
+    slice-aggregate-run-from
+    sizes-requires
     run-from-requires
     returns-4)

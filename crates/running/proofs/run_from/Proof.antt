@@ -6,7 +6,7 @@ use Prim.Native.Nat.{_+_, _-_, _≤_}
 use mathlib.Core.Path.{ap, sym, _∙_}
 use native.Mathlib.Omega.{arith}
 use lib.ListN.{length, length-drop}
-use Rattle.reader.proofs.ReadingLaws.{both-model}
+use Rattle.flat.specs.Flat.{modelIn}
 use Rattle.running.specs.declared.Stop.{Stop}
 use Rattle.firing.specs.declared.Stepped.{Stepped}
 use Rattle.running.specs.Parts.{stopIn}
@@ -15,11 +15,11 @@ use Rattle.firing.proofs.SizedLaws.{rows-room}
 use Rattle.running.proofs.RunLaws.{rest-left, Going, going-start, going-done, going-uses, going-turn, going-stop}
 
 abbrev Inv-loop : tie.InvT-loop
-Inv-loop m s from widths rows₀ taken₀ given₀ len₀ at₀ fired₀ rows taken given len at fired =
-    Going m (record { len = len₀; rows = rows₀ }) s from len rows at fired
+Inv-loop plan sizes s from rows₀ taken₀ given₀ len₀ at₀ fired₀ rows taken given len at fired =
+    Going (modelIn plan) (record { len = len₀; rows = rows₀ }) s from len rows at fired
 
 abbrev μ-loop : tie.MeasureT-loop
-μ-loop m s from widths rows₀ taken₀ given₀ len₀ at₀ fired₀ rows taken given len at fired = length s - at
+μ-loop plan sizes s from rows₀ taken₀ given₀ len₀ at₀ fired₀ rows taken given len at fired = length s - at
 
 -- the entry, and the loop, from the place behind the step
 abbrev start : tie.At-loop Inv-loop μ-loop → tie.Start Inv-loop μ-loop
@@ -41,14 +41,11 @@ uses c =
     going-uses _ _ _ _ _ _ _ _ (i .before .loop .inv) (i .loop-test .taken) (after (t .before)) (t .before .step-on .ensures)
     _ (sym (t .turn-of .ensures) ∙ c .turn .given .1)
 
-sizes-requires : tie.Need-sizes-requires Inv-loop μ-loop
-sizes-requires c κs = both-model _ (c .before .args .k) (c .before .pre .0)
-
 loop-holds : tie.Need-loop-holds Inv-loop μ-loop
 loop-holds c =
     let s = c .before .before .before in
     let k = s .args .k in
-    going-start (s .args .m) k (s .args .s .now) (s .args .from) (record { held = s .pre .0; long = rows-room k _ (s .good .1 .0) })
+    going-start _ k (s .args .s .now) (s .args .from) (record { held = s .pre .2; long = rows-room k _ (s .good .1 .1 .0) })
 
 sub-step-on : tie.Need-sub-step-on Inv-loop μ-loop
 sub-step-on c = search needs
@@ -65,7 +62,8 @@ step-on-requires c κs =
     let s = start l in
     let at = l .loop .at in
     let text = s .args .s .now in
-    (l .loop .inv .kept .held, l .before .before .sizes .ensures, omega (arith, ap length (rest-left text at), length-drop at text, s .pre .1), l .loop .inv .kept .long)
+    let kept = l .loop .inv .kept in
+    (s .pre .0, s .pre .1, kept .held, s .pre .3, omega (arith, ap length (rest-left text at), length-drop at text, s .pre .4), kept .long)
 
 turn-of-requires : tie.Need-turn-of-requires Inv-loop μ-loop
 turn-of-requires c κs = search needs
@@ -90,12 +88,12 @@ returns c =
 add-at : tie.Need-add-at Inv-loop μ-loop
 add-at c =
     let l = loop-of (c .before .before .before .before) .before in
-    omega (arith, uses (c .before) .1, start l .pre .1)
+    omega (arith, uses (c .before) .1, start l .pre .4)
 
 add-fired : tie.Need-add-fired Inv-loop μ-loop
 add-fired c =
     let l = loop-of (c .before .before .before .before) .before in
-    omega (arith, uses (c .before) .1, l .loop .inv .behind, start l .pre .1)
+    omega (arith, uses (c .before) .1, l .loop .inv .behind, start l .pre .4)
 
 loop-less : tie.Need-loop-less Inv-loop μ-loop
 loop-less c = let u = uses (c .before) in omega (arith, u .0, u .1)
@@ -116,7 +114,6 @@ run-from-spec =
     (tie.spec
     Inv-loop
     μ-loop
-    sizes-requires
     loop-holds
     sub-step-on
     part-step-on-start

@@ -1,7 +1,7 @@
--- `summed` meets its contract.
+-- `summed` adds up the rows. The loop's invariant: what is added, and the rows from t on, make up the sum.
+use borrow.Author.Needs.{needs}
 use Rattle.sides.proofs.summed.Statement.{statement}
 use Rattle.sides.proofs.summed.Tie as tie
-use borrow.Author.Needs.{needs}
 use Prim.Native.Nat.{ℕ, _-_, _≤_, _+_, _*_}
 use mathlib.Core.Path.{_≡_, refl, ap, sym, _∙_}
 use native.Mathlib.Omega.{arith}
@@ -15,26 +15,26 @@ use Rattle.sides.specs.Parts.{sumRows}
 use Rattle.sides.proofs.SumLaws.{length-plus, sum-next, sum-done}
 
 abbrev Inv-loop : tie.InvT-loop
-Inv-loop from table transitions sync sum₀ t₀ sum t =
+Inv-loop sync from table transitions sum₀ t₀ sum t =
     (t ≤ transitions) × (length sum ≡ 32) × ((i : ℕ) → nth sum i ≤ t * 65025)
     × (sumRows (λ t. nth sync (from + t)) (rowIn 32 table) t (transitions - t) sum ≡ sumRows (λ t. nth sync (from + t)) (rowIn 32 table) 0 transitions (zeros 32))
 
 abbrev μ-loop : tie.MeasureT-loop
-μ-loop from table transitions sync sum₀ t₀ sum t = transitions - t
+μ-loop sync from table transitions sum₀ t₀ sum t = transitions - t
 
 loop-holds : tie.Need-loop-holds Inv-loop μ-loop
-loop-holds c = (omega arith, refl, λ i. omega (arith, nth-zeros 32 i), rw sub-zero)
+loop-holds c = (omega arith, refl, (λ i. omega (arith, nth-zeros 32 i)), rw sub-zero)
 
-add-count : tie.Need-add-count Inv-loop μ-loop
-add-count c = search needs
+add-plus-times : tie.Need-add-plus-times Inv-loop μ-loop
+add-plus-times c = search needs
 
-array-read-count : tie.Need-array-read-count Inv-loop μ-loop
-array-read-count c = search needs
+shared-slice-read-plus-times : tie.Need-shared-slice-read-plus-times Inv-loop μ-loop
+shared-slice-read-plus-times c = search needs
 
 plus-times-requires : tie.Need-plus-times-requires Inv-loop μ-loop
 plus-times-requires c κs =
-    let l = c .before in
-    (omega arith, λ i. omega (arith, l .loop .inv .2 i))
+    let l = c .before .before .before in
+    (l .loop .inv .1, omega arith, λ i. omega (arith, l .loop .inv .2 i))
 
 add-t : tie.Need-add-t Inv-loop μ-loop
 add-t c = search needs
@@ -44,22 +44,23 @@ loop-less c = search needs
 
 loop-again : tie.Need-loop-again Inv-loop μ-loop
 loop-again c =
-    let l = c .before .before in
-    let a = l .before .before .args in
+    let l = c .before .before .before .before in
+    let a = l .before .before .before .args in
     let t = l .loop .t in
-    let n = length-plus (l .loop .sum) (a .table .now) (nth (a .t1) (a .from + t)) t (l .loop .inv .1) (omega arith) in (
+    let h = c .before .before .before .loop-test .taken in
+    let n = length-plus (l .loop .sum) (a .table .now) (nth (a .sync .now) (a .from + t)) t (l .loop .inv .1) (omega arith) in (
       omega arith,
       ap length (c .plus-times .ensures .0) ∙ n,
-      λ i. omega (arith, l .loop .inv .2 i, c .plus-times .ensures .1 i),
-      sum-next (λ t. nth (a .t1) (a .from + t)) (rowIn 32 (a .table .now)) t (a .transitions) (l .loop .sum) _ (c .before .loop-test .taken) (c .plus-times .ensures .0)
+      (λ i. omega (arith, l .loop .inv .2 i, c .plus-times .ensures .1 i)),
+      sum-next (λ t. nth (a .sync .now) (a .from + t)) (rowIn 32 (a .table .now)) t (a .transitions) (l .loop .sum) _ h (c .plus-times .ensures .0)
           ∙ l .loop .inv .3,
     )
 
 returns : tie.Need-returns Inv-loop μ-loop
 returns c =
     let l = c .before in
-    let a = l .before .before .args in
-    sym (sum-done (λ t. nth (a .t1) (a .from + t)) (rowIn 32 (a .table .now)) (l .loop .t) (a .transitions) (l .loop .sum) (c .loop-test .left)) ∙ l .loop .inv .3
+    let a = l .before .before .before .args in
+    sym (sum-done (λ t. nth (a .sync .now) (a .from + t)) (rowIn 32 (a .table .now)) (l .loop .t) (a .transitions) (l .loop .sum) (c .loop-test .left)) ∙ l .loop .inv .3
 
 pub summed-spec : {M : Type 1} → statement M
 summed-spec =
@@ -68,8 +69,8 @@ summed-spec =
     Inv-loop
     μ-loop
     loop-holds
-    add-count
-    array-read-count
+    add-plus-times
+    shared-slice-read-plus-times
     plus-times-requires
     add-t
     loop-less

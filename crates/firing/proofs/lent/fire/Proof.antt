@@ -10,6 +10,7 @@ use Rattle.eos.specs.Causes.{first}
 use Rattle.rows.specs.Rows.{Row, rowsIn}
 use Rattle.rows.proofs.RowLaws.{length-rows}
 use Rattle.steps.proofs.MoveLaws.{taken-few}
+use Rattle.sides.specs.Held.{Rule, ruleIn}
 use Rattle.verdict.specs.declared.Verdict.the-variants.{Fires}
 use Rattle.verdict.specs.Verdict.{causesIn, verdictOf}
 use Rattle.verdict.proofs.FiresLaws.{fires-within, fires-room}
@@ -17,7 +18,10 @@ use Rattle.firing.proofs.StepLaws.{fired-rows, turned-rows}
 
 -- the entry, from the place behind the verdict
 abbrev start : tie.After-verdict → tie.Start
-start c = c .before .before .before .before .before
+start c = c .before .before .before .before .before .before .before .before
+
+abbrev rule : tie.Start → Rule
+rule s = ruleIn (s .args .plan .now) (s .args .pre .now) (s .args .post .now)
 
 abbrev taken : tie.Start → List Row
 taken s = rowsIn (s .args .take) (s .args .taken .now)
@@ -30,7 +34,7 @@ marked s = rowsIn (s .args .len) (s .args .rows .now)
 
 -- the step meets no cause
 fires : (c : tie.After-enum-told)
-    → verdictOf (first (causesIn (start (c .before .before) .args .q) (taken (start (c .before .before))) (given (start (c .before .before))) (marked (start (c .before .before))))) ≡ Fires
+    → verdictOf (first (causesIn (rule (start (c .before .before))) (taken (start (c .before .before))) (given (start (c .before .before))) (marked (start (c .before .before))))) ≡ Fires
 fires c = sym (c .before .before .verdict .ensures) ∙ c .enum-told .given .1
 
 verdict-requires : tie.Need-verdict-requires
@@ -47,22 +51,22 @@ change-requires c κs =
     let e = c .before in
     let s = start (e .before .before) in
     let a = s .args in
-    let w = fires-within (a .q) (taken s) (given s) (marked s) (fires e) in
-    let r = fires-room (a .q) (taken s) (given s) (marked s) (fires e) in
+    let w = fires-within (rule s) (taken s) (given s) (marked s) (fires e) in
+    let r = fires-room (rule s) (taken s) (given s) (marked s) (fires e) in
     let n = length-rows (a .take) (a .taken .now) in
     let g = length-rows (a .give) (a .given .now) in
     let k = length-rows (a .len) (a .rows .now) in
     (s .pre .3, w, s .pre .1 .long, s .pre .2 .long, s .pre .1 .few, s .pre .2 .few, omega (arith, r, n, g, k))
 
-sub-t17 : tie.Need-sub-t17
-sub-t17 c =
+sub-t19 : tie.Need-sub-t19
+sub-t19 c =
     let e = c .before .before in
     let s = start (e .before .before) in
     let a = s .args in
-    taken-few (a .rows .now) (a .len) (a .taken .now) (a .take) (fires-within (a .q) (taken s) (given s) (marked s) (fires e))
+    taken-few (a .rows .now) (a .len) (a .taken .now) (a .take) (fires-within (rule s) (taken s) (given s) (marked s) (fires e))
 
-add-t18 : tie.Need-add-t18
-add-t18 c = search needs
+add-t20 : tie.Need-add-t20
+add-t20 c = search needs
 
 returns : tie.Need-returns
 returns c =
@@ -86,7 +90,7 @@ fire-spec =
     enum-known-judged
     enum-told
     change-requires
-    sub-t17
-    add-t18
+    sub-t19
+    add-t20
     returns
     returns-2)

@@ -2,10 +2,18 @@
 use borrow.Author.Needs.{needs}
 use Rattle.firing.proofs.stepping.step.Statement.{statement}
 use Rattle.firing.proofs.stepping.step.Tie as tie
-use mathlib.Core.Path.{_≡_, sym, _∙_}
+use mathlib.Core.Path.{_≡_, ap, sym, subst, _∙_}
 use mathlib.Core.Bool.{true}
 use borrow.Author.Tests.{not-true, not-false}
+use Rattle.model.specs.Held.{Sized}
+use Rattle.model.specs.declared.Model.{Model}
+use Rattle.model.proofs.TestLaws.{held-is}
+use Rattle.flat.specs.Flat.{modelIn}
+use Rattle.flat.proofs.SizedLaws.{model-sized}
+use Rattle.flat.proofs.FlatLaws.{flat-again}
+use Rattle.reader.specs.Sizes.{sizesIn}
 use Rattle.reader.specs.Answers.{heldBoth}
+use Rattle.firing.specs.Answers.{heldStep}
 use Rattle.reader.proofs.ReadingLaws.{both-model}
 use Rattle.firing.proofs.SizedLaws.{rows-room}
 use Rattle.firing.proofs.StepLaws.{step-long, step-unheld, step-held}
@@ -13,6 +21,14 @@ use Rattle.firing.proofs.StepLaws.{step-long, step-unheld, step-held}
 -- the two passed the held test
 passed : (c : tie.Else2) → heldBoth (c .before .before .before .before .args .m) (c .before .before .before .before .args .k) ≡ true
 passed c = sym (c .before .test-marking .ensures) ∙ not-false _ (c .if2 .left)
+
+-- the model that was laid flat is read there
+again : (f : tie.After-flatten) → modelIn (f .flatten .last .1 .0) ≡ f .before .before .before .before .before .before .before .args .m
+again f =
+    let p = f .before .before .before in
+    let s = p .before .before .before .before in
+    let m = s .args .m in
+    ap modelIn (f .flatten .ensures .1) ∙ flat-again m (model-sized m _ (s .good .0)) (held-is m (both-model m _ (passed p)))
 
 returns : tie.Need-returns
 returns c = step-long _ _ _ (c .if1 .taken)
@@ -23,21 +39,47 @@ test-marking-requires c κs = search needs
 returns-2 : tie.Need-returns-2
 returns-2 c = step-unheld _ _ _ (c .before .before .if1 .left) (sym (c .before .test-marking .ensures) ∙ not-true _ (c .if2 .taken))
 
+flatten-requires : tie.Need-flatten-requires
+flatten-requires c κs = search needs
+
+slice-aggregate-step-on : tie.Need-slice-aggregate-step-on
+slice-aggregate-step-on c = search needs
+
 sizes-requires : tie.Need-sizes-requires
-sizes-requires c κs = both-model _ _ (passed (c .before))
+sizes-requires c κs = both-model _ _ (passed (c .before .before .before .before))
 
 step-on-requires : tie.Need-step-on-requires
 step-on-requires c κs =
     let z = c .before .before .before in
-    let p = z .before .before in
-    (passed p, z .sizes .ensures, p .before .before .if1 .left, rows-room (p .before .before .before .before .args .k) _ (p .before .before .before .before .good .1 .0))
+    let f = z .before .before in
+    let p = f .before .before .before in
+    let s = p .before .before .before .before in
+    let m = s .args .m in
+    let e = again f in (
+      f .flatten .ensures .0,
+      subst Sized (sym e) (model-sized m _ (s .good .0)),
+      ap (λ (x : Model). heldBoth x (s .args .k)) e ∙ passed p,
+      z .sizes .ensures ∙ ap sizesIn (sym e),
+      p .before .before .if1 .left,
+      rows-room (s .args .k) _ (s .good .1 .0),
+    )
 
 returns-3 : tie.Need-returns-3
 returns-3 c =
-    let p = c .before .before .before .before .before .before in
-    c .step-on .ensures ∙ step-held _ _ _ (p .before .before .if1 .left) (passed p)
+    let f = c .before .before .before .before .before .before in
+    let p = f .before .before .before in
+    let a = p .before .before .before .before .args in
+    c .step-on .ensures ∙ ap (λ (x : Model). heldStep x (a .k) (a .s .now)) (again f) ∙ step-held _ _ _ (p .before .before .if1 .left) (passed p)
 
 pub step-spec : {M : Type 1} → statement M
 step-spec =
     tie.close
-    (tie.spec returns test-marking-requires returns-2 sizes-requires step-on-requires returns-3)
+    (tie.spec
+    returns
+    test-marking-requires
+    returns-2
+    flatten-requires
+    slice-aggregate-step-on
+    sizes-requires
+    step-on-requires
+    returns-3)

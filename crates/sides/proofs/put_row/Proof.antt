@@ -1,7 +1,7 @@
--- `put_net` meets its contract.
-use Rattle.sides.proofs.put_net.Statement.{statement}
-use Rattle.sides.proofs.put_net.Tie as tie
+-- `put_row` meets its contract.
 use borrow.Author.Needs.{needs}
+use Rattle.sides.proofs.put_row.Statement.{statement}
+use Rattle.sides.proofs.put_row.Tie as tie
 use Prim.Native.Nat.{_-_, _≤_, _+_}
 use mathlib.Core.Path.{_≡_}
 use native.Mathlib.Omega.{arith}
@@ -11,28 +11,28 @@ use lib.Seq.{sets}
 use Rattle.text.proofs.PaddedLaws.{put-next, put-done}
 
 abbrev Inv-loop : tie.InvT-loop
-Inv-loop inner₀ at v k₀ inner k = (k ≤ 32) × (length inner ≡ 256) × (sets inner₀ at v ≡ sets inner (at + k) (drop k v))
+Inv-loop side₀ at v k₀ side k = (k ≤ 32) × (length side ≡ 288) × (sets side₀ at v ≡ sets side (at + k) (drop k v))
 
 abbrev μ-loop : tie.MeasureT-loop
-μ-loop inner₀ at v k₀ inner k = 32 - k
+μ-loop side₀ at v k₀ side k = 32 - k
 
 loop-holds : tie.Need-loop-holds Inv-loop μ-loop
 loop-holds c = (search needs, search needs, rw add-zero)
 
-mul-inner : tie.Need-mul-inner Inv-loop μ-loop
-mul-inner c = search needs
+mul-side : tie.Need-mul-side Inv-loop μ-loop
+mul-side c = search needs
 
-array-read-inner : tie.Need-array-read-inner Inv-loop μ-loop
-array-read-inner c = search needs
+array-read-side : tie.Need-array-read-side Inv-loop μ-loop
+array-read-side c = search needs
 
-add-inner : tie.Need-add-inner Inv-loop μ-loop
-add-inner c = search needs
+add-side : tie.Need-add-side Inv-loop μ-loop
+add-side c = search needs
 
-mul-inner-2 : tie.Need-mul-inner-2 Inv-loop μ-loop
-mul-inner-2 c = search needs
+mul-side-2 : tie.Need-mul-side-2 Inv-loop μ-loop
+mul-side-2 c = search needs
 
-element-write-inner : tie.Need-element-write-inner Inv-loop μ-loop
-element-write-inner c = search needs
+element-write-side : tie.Need-element-write-side Inv-loop μ-loop
+element-write-side c = search needs
 
 add-k : tie.Need-add-k Inv-loop μ-loop
 add-k c = search needs
@@ -52,20 +52,20 @@ returns c =
     let l = c .before .loop in
     let a = c .before .before .args in
     let m : length (a .t3) ≡ 32 = search needs in
-    put-done _ (a .t3) _ _ (l .k) (l .inv .2) (omega arith)
+    (l .inv .1, put-done _ (a .t3) _ _ (l .k) (l .inv .2) (omega arith))
 
-pub put-net-spec : {M : Type 1} → statement M
-put-net-spec =
+pub put-row-spec : {M : Type 1} → statement M
+put-row-spec =
     tie.close
     (tie.spec
     Inv-loop
     μ-loop
     loop-holds
-    mul-inner
-    array-read-inner
-    add-inner
-    mul-inner-2
-    element-write-inner
+    mul-side
+    array-read-side
+    add-side
+    mul-side-2
+    element-write-side
     add-k
     loop-less
     loop-again

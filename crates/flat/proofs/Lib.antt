@@ -1,0 +1,3 @@
+pub mod SizedLaws
+pub mod LayLaws
+pub mod FlatLaws
