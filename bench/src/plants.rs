@@ -27,9 +27,11 @@ fn one(n: usize, p: usize) -> String {
     list((0..n).map(|i| usize::from(i == p)))
 }
 
-/// How large a plant is. Racks go round its places; each place has as many of them at the start.
+/// How large a plant is. Racks go round its places; each place has as many of them at the start. A plant with full arcs has the
+/// largest number at every arc and count, and is read and weighed only.
 #[derive(Clone, Copy)]
 pub struct Size {
+    pub full: bool,
     pub nets: usize,
     pub places: usize,
     pub inner: usize,
@@ -49,8 +51,18 @@ fn next(size: &Size, p: usize) -> usize {
     (p + size.nets) % size.places
 }
 
+/// The two sides of the move from p.
+fn sides(size: &Size, p: usize) -> (String, String) {
+    if size.full {
+        let all = list((0..size.places).map(|_| 255));
+        return (all.clone(), all);
+    }
+    (one(size.places, p), one(size.places, next(size, p)))
+}
+
 fn model(size: &Size) -> String {
     let Size {
+        full,
         nets,
         places,
         inner,
@@ -65,7 +77,8 @@ fn model(size: &Size) -> String {
     );
     writeln!(s, "moves={places}").unwrap();
     for p in 0..places {
-        write!(s, "pre={}\npost={}\n", one(places, p), one(places, next(size, p))).unwrap();
+        let (pre, post) = sides(size, p);
+        write!(s, "pre={pre}\npost={post}\n").unwrap();
     }
     for _ in 0..nets {
         write!(s, "inner={inner}\nsteps={transitions}\n").unwrap();
@@ -78,7 +91,7 @@ fn model(size: &Size) -> String {
     for e in 0..events {
         writeln!(s, "event={}", e % places + 1).unwrap();
         for _ in 0..nets {
-            let count = if e < places { 0 } else { 255 };
+            let count = if e < places && !full { 0 } else { 255 };
             writeln!(s, "sync={}", list((0..transitions).map(|_| count))).unwrap();
         }
     }
@@ -128,6 +141,7 @@ pub fn plant(name: &'static str, size: Size) -> Plant {
 }
 
 const SMALL: Size = Size {
+    full: false,
     nets: 1,
     places: 2,
     inner: 2,
@@ -137,6 +151,7 @@ const SMALL: Size = Size {
     steps: 10_000,
 };
 const TYPICAL: Size = Size {
+    full: false,
     nets: 2,
     places: 8,
     inner: 25,
@@ -146,6 +161,7 @@ const TYPICAL: Size = Size {
     steps: 3_000,
 };
 const MAXIMAL: Size = Size {
+    full: false,
     nets: 8,
     places: 32,
     inner: 32,
@@ -161,6 +177,14 @@ pub fn measured() -> Vec<Plant> {
         plant("small, 256 racks", Size { racks: 256, ..SMALL }),
         plant("typical, 40 racks", TYPICAL),
         plant("maximal, 256 racks", MAXIMAL),
+        plant(
+            "maximal and full, 256 racks",
+            Size {
+                full: true,
+                steps: 0,
+                ..MAXIMAL
+            },
+        ),
     ]
 }
 

@@ -67,6 +67,10 @@ fn listing(m: Model, k: Marking) {
         k,
         b"inv=1\nouter=1,1\ninner=0,0\n",
     );
+}
+
+// Weights of either sign, at the limits and past them.
+fn signs(m: Model, k: Marking) {
     weight_case(
         b"weights below 0",
         m,
@@ -103,6 +107,10 @@ fn listing(m: Model, k: Marking) {
         k,
         b"inv=1\nouter=1,-0\ninner=1,1\n",
     );
+}
+
+// Weight files that are not read, and no model to weigh.
+fn files(m: Model, k: Marking) {
     weight_case(b"another header", m, k, b"inv=2\nouter=1,1\ninner=1,1\n");
     weight_case(b"no inner line", m, k, b"inv=1\nouter=1,1\n");
     weight_case(
@@ -197,6 +205,8 @@ pub fn run() {
     let m = r.model;
     let k = r.start;
     listing(m, k);
+    signs(m, k);
+    files(m, k);
     least_event();
     at_the_limit(m);
     extremes();
