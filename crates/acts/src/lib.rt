@@ -9,8 +9,8 @@ ghost use Rattle.plant.specs.Reading.{readIdle, readMove, readAct, readSync, re
 ghost use Rattle.plant.specs.Answers.{framed, Fitting, actingOf, countsOf, syncsOf, eventLinesOf, eventsOf};
 use arcs::narrow;
 use arcs::put_row;
-use lines::list_line;
 use lines::number_line;
+use lists::list_line;
 use model::Event;
 use model::Model;
 use plant::Acting;

@@ -8,7 +8,7 @@ ghost use Rattle.text.specs.Lines.{many, bad};
 ghost use Rattle.rules.specs.Rules.{nth, monotonous};
 ghost use Rattle.plant.specs.Reading.{readSides};
 ghost use Rattle.plant.specs.Answers.{sidesOf, tablesOf};
-use lines::list_line;
+use lists::list_line;
 use model::Model;
 use plant::Sides;
 use plant::Tables;

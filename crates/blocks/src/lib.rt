@@ -8,7 +8,6 @@ ghost use Rattle.marking.specs.Reading.{limits, readNetToken, readBlock};
 ghost use Rattle.marking.specs.Answers.{blockOf};
 use lines::ended_of;
 use lines::number_line;
-use lines::tokens::token_line;
 use marking::Block;
 use marking::Marking;
 use marking::NetToken;
@@ -16,6 +15,7 @@ use model::Model;
 use placing::insert;
 use text::Ended;
 use text::Line;
+use tokens::token_line;
 
 // A net-token's row: the number of its place, and its counts.
 pub fn row_of(t: NetToken) -> [u16; 33]

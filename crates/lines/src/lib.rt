@@ -1,23 +1,13 @@
-// Lines `key=number`, `key=list` and `key=weights`. A key has its '=' at its end.
+// Lines `key=number`. A key has its '=' at its end.
 ghost use mathlib.Core.Path.{_≡_};
-ghost use Prim.Native.Nat.{_+_};
-ghost use lib.Dec.{leb};
-ghost use Rattle.text.specs.Lines.{within, readNumber, readHead, readList, readWeights, modest};
-ghost use Rattle.text.specs.Answers.{lineOf, endedIn, rowOf, weightRowOf};
+ghost use Rattle.text.specs.Lines.{within, readNumber, readHead};
+ghost use Rattle.text.specs.Answers.{lineOf, endedIn};
 use numbers::Decimal;
 use numbers::item;
 use scan::starts;
 use text::Ended;
 use text::Fault;
 use text::Line;
-use text::Row;
-use text::WeightRow;
-use text::lists::list_end;
-use text::lists::no_row;
-use text::lists::no_weights;
-use text::lists::weights_end;
-
-pub mod tokens;
 
 // The line of key and one number from lo to hi.
 pub fn number_line(s: &[u8], at: usize, key: &[u8], lo: u16, hi: u16) -> Line
@@ -69,24 +59,4 @@ pub fn head_line(s: &[u8], at: usize, key: &[u8]) -> Line
         };
     };
     Line::Value { value, next }
-}
-
-// The line of key and n numbers up to hi.
-pub fn list_line(s: &[u8], at: usize, key: &[u8], n: usize, hi: u16) -> Row
-    ensures { λ r. ⌜ r ≡ rowOf (readList (now (key .entry)) n (λ v. leb v hi) (now (s .entry)) at) ⌝ }
-{
-    if starts(s, at, key) {
-        return list_end(s, at, at + key.len(), n, hi);
-    }
-    no_row(2, at)
-}
-
-// The line of key and n weights of at most hi either side of 0.
-pub fn weight_line(s: &[u8], at: usize, key: &[u8], n: usize, hi: u16) -> WeightRow
-    ensures { λ r. ⌜ r ≡ weightRowOf (readWeights (now (key .entry)) n (modest hi) (now (s .entry)) at) ⌝ }
-{
-    if starts(s, at, key) {
-        return weights_end(s, at, at + key.len(), n, hi);
-    }
-    no_weights(2, at)
 }

@@ -4,9 +4,9 @@ ghost use Prim.Native.Nat.{_+_, _≤_};
 ghost use lib.ListN.{length};
 ghost use lib.Dec.{leb};
 ghost use lib.Seq.{sets};
-ghost use Rattle.text.specs.Lists.{stopOf};
 ghost use Rattle.text.specs.Printed.{decimal, itemsText, endText};
 ghost use Rattle.print.specs.Writing.{write};
+use text::stop_of;
 
 // How writing into a lent buffer ended: up to a position, or not at all for want of room.
 pub enum Written {
@@ -81,13 +81,6 @@ pub fn write_number(out: &mut [u8], at: usize, n: u64) -> Written
     Written::Upto { next: at + k }
 }
 
-// What ends a number with `left` more to come: LF after the last, else a comma.
-fn ending(left: usize) -> u8
-    ensures { λ r. ⌜ r ≡ stopOf left ⌝ }
-{
-    if left == 0 { 10 } else { 44 }
-}
-
 // Whether numbers, each with the byte that ends it, have at most `room` bytes.
 fn list_fits(values: &[u16], room: usize) -> bool
     ensures { λ r. ⌜ r ≡ leb (length (itemsText decimal (now (values .entry)))) room ⌝ }
@@ -116,7 +109,7 @@ fn put_items(out: &mut [u8], at: usize, values: &[u16]) -> usize
         let n = values[i] as u64;
         let k = width(n);
         put_digits(out, next, n, k);
-        out[next + k] = ending(values.len() - i - 1);
+        out[next + k] = stop_of(values.len() - i - 1);
         next = next + k + 1;
         i += 1;
     }

@@ -11,7 +11,6 @@ ghost use Rattle.steps.specs.Answers.{noStep, tokenRows, stepRows};
 use blocks::row_of;
 use lines::ended_of;
 use lines::number_line;
-use lines::tokens::token_line;
 use marking::NetToken;
 use model::Model;
 use placing::put_row;
@@ -19,6 +18,7 @@ use steps::StepLines;
 use steps::TokenLines;
 use text::Ended;
 use text::Line;
+use tokens::token_line;
 
 // The lines of n net-tokens; `sizes` says for each place how many counts its net-tokens have.
 fn tokens_at(

@@ -1,6 +1,7 @@
-// What the lines of the file formats say, and how they are read and printed; the lists in them. Every reader goes from a position of a
-// text, and its answer says the position after what it read or the one fault that ends the reading.
-pub mod lists;
+// What the lines of the file formats say, and how they are read and printed. Every reader goes from a position of a text, and its answer
+// says the position after what it read or the one fault that ends the reading.
+ghost use mathlib.Core.Path.{_≡_};
+ghost use Rattle.text.specs.Lists.{stopOf};
 
 // A fault: the number of its cause, and the position at which the line at fault begins.
 pub struct Fault {
@@ -38,4 +39,11 @@ pub struct TokenRow {
     pub ended: Ended,
     pub place: u16,
     pub counts: [u16; 32],
+}
+
+// What ends a number of a list with `left` more to come: LF after the last, else a comma.
+pub fn stop_of(left: usize) -> u8
+    ensures { λ r. ⌜ r ≡ stopOf left ⌝ }
+{
+    if left == 0 { 10 } else { 44 }
 }

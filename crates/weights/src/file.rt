@@ -14,7 +14,7 @@ use super::HeldWeights;
 use super::WeightLines;
 use lines::ended_of;
 use lines::head_line;
-use lines::weight_line;
+use lists::weight_line;
 use model::Model;
 use model::ObjectNet;
 use text::Ended;

@@ -22,7 +22,7 @@ abbrev μ-loop : tie.MeasureT-loop
 μ-loop out₀ at values next₀ i₀ out next i = length values - i
 
 -- one number further
-further : (c : tie.After-ending Inv-loop μ-loop) →
+further : (c : tie.After-stop-of Inv-loop μ-loop) →
     let l = c .before .before .before .before .before .before .before .before in
     let a = l .before .before .before .args in
     (l .loop .next + c .before .before .before .before .before .width .result + 1 + length (itemsText decimal (drop (l .loop .i + 1) (a .values .now)))
@@ -53,14 +53,14 @@ put-digits-requires c κs =
     let l = c .before .before .before .before .loop in
     (c .before .width .ensures, omega (arith, length-items (a .values .now) (l .i) (omega arith)))
 
-sub-ending : tie.Need-sub-ending Inv-loop μ-loop
-sub-ending c = search needs
+sub-stop-of : tie.Need-sub-stop-of Inv-loop μ-loop
+sub-stop-of c = search needs
 
-sub-ending-2 : tie.Need-sub-ending-2 Inv-loop μ-loop
-sub-ending-2 c = search needs
+sub-stop-of-2 : tie.Need-sub-stop-of-2 Inv-loop μ-loop
+sub-stop-of-2 c = search needs
 
-ending-requires : tie.Need-ending-requires Inv-loop μ-loop
-ending-requires c κs = search needs
+stop-of-requires : tie.Need-stop-of-requires Inv-loop μ-loop
+stop-of-requires c κs = search needs
 
 add-out : tie.Need-add-out Inv-loop μ-loop
 add-out c = omega (arith, further c)
@@ -88,8 +88,8 @@ loop-again c =
     let p = c .before .before .before .put-digits in (
       omega arith,
       further c,
-      length-set (p .last .0) (l .loop .next + w .result) (c .ending .result) ∙ p .kept .0 ∙ l .loop .inv .2,
-      lay-item (a .values .now) (l .loop .out) (l .loop .i) (l .loop .next) (omega arith) (w .ensures) (p .ensures) (c .ending .ensures) ∙ l .loop .inv .3,
+      length-set (p .last .0) (l .loop .next + w .result) (c .stop-of .result) ∙ p .kept .0 ∙ l .loop .inv .2,
+      lay-item (a .values .now) (l .loop .out) (l .loop .i) (l .loop .next) (omega arith) (w .ensures) (p .ensures) (c .stop-of .ensures) ∙ l .loop .inv .3,
     )
 
 same-length : tie.Need-same-length Inv-loop μ-loop
@@ -114,9 +114,9 @@ put-items-spec =
     cast-n
     width-requires
     put-digits-requires
-    sub-ending
-    sub-ending-2
-    ending-requires
+    sub-stop-of
+    sub-stop-of-2
+    stop-of-requires
     add-out
     slice-write-out
     add-next
