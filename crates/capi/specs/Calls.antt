@@ -1,6 +1,6 @@
 -- What the calls answer to C: the number of 01's table and what stands beside it in the place of an answer's enum, and what was given.
 use Prim.Native.Nat.{ℕ}
-use mathlib.Core.Bool.{Bool, cond}
+use mathlib.Core.Bool.{cond}
 use mathlib.Core.List.{List}
 use Rattle.reader.specs.Answers.{readPair, writePair, Lent}
 use Rattle.reader.specs.declared.ModelReading.{ModelReading}

@@ -1,7 +1,7 @@
 -- The test of a held model (01's cause 14): counts in range, unused room 0, and the rules on types, moves and events, each looked up
 -- where it is held.
 use Prim.Native.Nat.{ℕ, zero, suc, pred}
-use mathlib.Core.Bool.{Bool, true, false, cond, _&&_}
+use mathlib.Core.Bool.{Bool, false, cond, _&&_}
 use mathlib.Core.List.{List}
 use lib.Dec.{leb, eqb, ltb}
 use lib.ListN.{drop, getD}

@@ -4,8 +4,6 @@ use mathlib.Core.List.{List, map}
 use lib.ListN.{length, replicate}
 use Rattle.text.specs.Lines.{Outcome, got, bad}
 use Rattle.text.specs.Answers.{endedOf, keptOr, padded}
-use Rattle.text.specs.declared.Line.{Line}
-use Rattle.text.specs.declared.Line.the-variants as line
 use Rattle.eos.specs.Model as eos
 use Rattle.model.specs.Held.{preOf, postOf, row, tabled, holdNet, noNet, holdNets, kindOf, indexOf, holdEvent, noEvent, holdEvents, holdModel, noModel}
 use Rattle.rules.specs.Rules as rules

@@ -1,5 +1,5 @@
 -- What the parts of the code answer for a held model is what the model's event asks and gives.
-use Prim.Native.Nat.{ℕ, zero, suc, _+_, _-_, _*_, pred, _≤_, _<_}
+use Prim.Native.Nat.{ℕ, zero, suc, _+_, _*_, pred, _≤_, _<_}
 use mathlib.Core.Path.{_≡_, refl, ap, sym, _∙_}
 use mathlib.Core.Bool.{Bool, true, false≢true}
 use mathlib.Core.List.{List, [], _∷_}

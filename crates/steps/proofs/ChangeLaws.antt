@@ -1,6 +1,6 @@
 -- Rows are like, counted and taken away as their net-tokens are. So a marking's rows, changed by the rows of a step, are those of the
 -- marking after the step.
-use Prim.Native.Nat.{ℕ, _-_}
+use Prim.Native.Nat.{ℕ}
 use mathlib.Core.Path.{_≡_, refl, ap, sym, _∙_}
 use mathlib.Core.Logic.{_↔_}
 use mathlib.Core.List.{List, [], _∷_, _++_, map, map-append}

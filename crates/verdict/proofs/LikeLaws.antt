@@ -8,7 +8,7 @@ use native.Mathlib.Omega.{arith}
 use lib.Dec.{T, leb}
 use lib.ListN.{length}
 use Rattle.eos.specs.Multiset as M
-use Rattle.eos.specs.Model.{NetToken, Marking, like, Model, typeOf, sizeOf, proper}
+use Rattle.eos.specs.Model.{NetToken, Marking, Model, typeOf, sizeOf, proper}
 use Rattle.eos.specs.Causes.{lacking}
 use Rattle.eos.proofs.Basics.{and-l, and-r, and-i}
 use Rattle.rules.specs.Rules.{rightModel}

@@ -1,9 +1,8 @@
 -- What the verdict is asked of, and what its parts answer.
-use Prim.Native.Nat.{ℕ, suc, _+_, _^_, _≤_, _<_}
+use Prim.Native.Nat.{ℕ, _+_, _^_, _≤_, _<_}
 use mathlib.Core.Path.{_≡_}
 use mathlib.Core.Bool.{Bool}
 use mathlib.Core.List.{List, [], _∷_}
-use mathlib.Core.Option.{Option, none, some}
 use lib.ListN.{length, getD}
 use Rattle.eos.specs.Vector.{_⊕_, _⊖_, eqV}
 use Rattle.rows.specs.Rows.{Row, rowsIn}

@@ -2,11 +2,6 @@
 use borrow.Author.Needs.{needs}
 use Rattle.capi.proofs.fp_check_weights.Statement.{statement}
 use Rattle.capi.proofs.fp_check_weights.Tie as tie
-use Rattle.capi.proofs.fp_check_weights.Reads as reads
-use Rattle.capi.proofs.fp_check_weights.Lts as lts
-use Rattle.capi.proofs.values.one_or_none.Reads as one-or-none-reads
-use Rattle.pairs.proofs.weight_pair.Reads as weight-pair-reads
-use Rattle.weights.proofs.check_weights.Reads as check-weights-reads
 use Rattle.capi.proofs.CallLaws.{weighed-is}
 
 check-weights-requires : tie.Need-check-weights-requires

@@ -2,10 +2,6 @@
 use borrow.Author.Needs.{needs}
 use Rattle.capi.proofs.fp_listing.Statement.{statement}
 use Rattle.capi.proofs.fp_listing.Tie as tie
-use Rattle.capi.proofs.fp_listing.Reads as reads
-use Rattle.capi.proofs.fp_listing.Lts as lts
-use Rattle.capi.proofs.text_written.Reads as text-written-reads
-use Rattle.listing.proofs.listing.Reads as listing-reads
 use Rattle.capi.proofs.CallLaws.{lent-is}
 
 listing-requires : tie.Need-listing-requires

@@ -2,10 +2,6 @@
 use borrow.Author.Needs.{needs}
 use Rattle.capi.proofs.fp_read_marking.Statement.{statement}
 use Rattle.capi.proofs.fp_read_marking.Tie as tie
-use Rattle.capi.proofs.fp_read_marking.Reads as reads
-use Rattle.capi.proofs.fp_read_marking.Lts as lts
-use Rattle.pairs.proofs.read_pair.Reads as read-pair-reads
-use Rattle.reader.proofs.read_marking.Reads as read-marking-reads
 use Rattle.capi.proofs.CallLaws.{marking-is}
 
 read-marking-requires : tie.Need-read-marking-requires

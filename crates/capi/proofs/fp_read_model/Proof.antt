@@ -2,10 +2,6 @@
 use borrow.Author.Needs.{needs}
 use Rattle.capi.proofs.fp_read_model.Statement.{statement}
 use Rattle.capi.proofs.fp_read_model.Tie as tie
-use Rattle.capi.proofs.fp_read_model.Reads as reads
-use Rattle.capi.proofs.fp_read_model.Lts as lts
-use Rattle.pairs.proofs.read_pair.Reads as read-pair-reads
-use Rattle.reader.proofs.read_model.Reads as read-model-reads
 use Rattle.capi.proofs.CallLaws.{model-is}
 
 read-model-requires : tie.Need-read-model-requires

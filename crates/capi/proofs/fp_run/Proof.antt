@@ -2,10 +2,6 @@
 use borrow.Author.Needs.{needs}
 use Rattle.capi.proofs.fp_run.Statement.{statement}
 use Rattle.capi.proofs.fp_run.Tie as tie
-use Rattle.capi.proofs.fp_run.Reads as reads
-use Rattle.capi.proofs.fp_run.Lts as lts
-use Rattle.pairs.proofs.stop_pair.Reads as stop-pair-reads
-use Rattle.running.proofs.run.Reads as run-reads
 use Rattle.capi.proofs.CallLaws.{run-is}
 
 run-requires : tie.Need-run-requires

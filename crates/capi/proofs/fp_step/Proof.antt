@@ -2,11 +2,6 @@
 use borrow.Author.Needs.{needs}
 use Rattle.capi.proofs.fp_step.Statement.{statement}
 use Rattle.capi.proofs.fp_step.Tie as tie
-use Rattle.capi.proofs.fp_step.Reads as reads
-use Rattle.capi.proofs.fp_step.Lts as lts
-use Rattle.capi.proofs.values.used_by.Reads as used-by-reads
-use Rattle.firing.proofs.stepping.step.Reads as step-reads
-use Rattle.pairs.proofs.step_pair.Reads as step-pair-reads
 use Rattle.capi.proofs.CallLaws.{step-is}
 
 step-requires : tie.Need-step-requires

@@ -2,11 +2,6 @@
 use borrow.Author.Needs.{needs}
 use Rattle.capi.proofs.fp_ways.Statement.{statement}
 use Rattle.capi.proofs.fp_ways.Tie as tie
-use Rattle.capi.proofs.fp_ways.Reads as reads
-use Rattle.capi.proofs.fp_ways.Lts as lts
-use Rattle.capi.proofs.values.ways_in.Reads as ways-in-reads
-use Rattle.pairs.proofs.spread_pair.Reads as spread-pair-reads
-use Rattle.spread.proofs.ways.Reads as ways-reads
 use Rattle.capi.proofs.CallLaws.{shared-is}
 
 ways-requires : tie.Need-ways-requires

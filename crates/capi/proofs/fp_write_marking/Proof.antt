@@ -2,10 +2,6 @@
 use borrow.Author.Needs.{needs}
 use Rattle.capi.proofs.fp_write_marking.Statement.{statement}
 use Rattle.capi.proofs.fp_write_marking.Tie as tie
-use Rattle.capi.proofs.fp_write_marking.Reads as reads
-use Rattle.capi.proofs.fp_write_marking.Lts as lts
-use Rattle.capi.proofs.text_written.Reads as text-written-reads
-use Rattle.reader.proofs.write_marking.Reads as write-marking-reads
 use Rattle.capi.proofs.CallLaws.{lent-is}
 
 write-marking-requires : tie.Need-write-marking-requires

@@ -2,10 +2,6 @@
 use borrow.Author.Needs.{needs}
 use Rattle.capi.proofs.text_written.Statement.{statement}
 use Rattle.capi.proofs.text_written.Tie as tie
-use Rattle.capi.proofs.text_written.Reads as reads
-use Rattle.capi.proofs.text_written.Lts as lts
-use Rattle.capi.proofs.values.bytes_of.Reads as bytes-of-reads
-use Rattle.pairs.proofs.write_pair.Reads as write-pair-reads
 use Rattle.capi.proofs.CallLaws.{text-is}
 
 write-pair-requires : tie.Need-write-pair-requires

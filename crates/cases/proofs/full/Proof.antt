@@ -3,7 +3,6 @@ use Rattle.cases.proofs.full.Statement.{statement}
 use Rattle.cases.proofs.full.Tie as tie
 use borrow.Author.Needs.{needs}
 use Prim.Native.Nat.{_-_, _≤_}
-use native.Mathlib.Omega.{arith}
 
 abbrev Inv-loop : tie.InvT-loop
 Inv-loop k₀ i₀ k i = i ≤ 256

@@ -2,10 +2,6 @@
 use borrow.Author.Needs.{needs}
 use Rattle.rackrun.proofs.print_listing.Statement.{statement}
 use Rattle.rackrun.proofs.print_listing.Tie as tie
-use Rattle.rackrun.proofs.print_listing.Reads as reads
-use Rattle.rackrun.proofs.print_listing.Lts as lts
-use Rattle.io.proofs.write_all.Reads as write-all-reads
-use Rattle.engine.proofs.listing.Reads as listing-reads
 use Rattle.rackrun.proofs.WrittenLaws.{written-counts}
 
 listing-requires : tie.Need-listing-requires
