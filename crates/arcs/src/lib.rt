@@ -1,9 +1,7 @@
 // The lines `pre` and `post`: the two sides of a move or of an object net's transition.
 ghost use mathlib.Core.Path.{_≡_};
 ghost use mathlib.Core.List.{map};
-ghost use Prim.Native.Nat.{_+_, _≤_, _%_};
-ghost use lib.ListN.{length};
-ghost use lib.Seq.{sets};
+ghost use Prim.Native.Nat.{_≤_, _%_};
 ghost use Rattle.text.specs.Lines.{many, bad};
 ghost use Rattle.rules.specs.Rules.{nth, monotonous};
 ghost use Rattle.plant.specs.Reading.{readSides};
@@ -13,6 +11,7 @@ use model::Model;
 use plant::Sides;
 use plant::Tables;
 use rules::monotonous;
+use tables::bytes::put_row;
 use text::Ended;
 use text::Fault;
 
@@ -27,18 +26,6 @@ pub fn narrow(values: [u16; 32]) -> [u8; 32]
         i += 1;
     }
     r
-}
-
-// Lays a row into a table, from `at` on.
-pub fn put_row(table: &mut [u8], at: usize, values: [u8; 32])
-    requires { ⌜ at + 32 ≤ length (now table) ⌝ }
-    ensures { λ _. ⌜ now (table .exit) ≡ sets (now (table .entry)) at values ⌝ }
-{
-    let mut k = 0;
-    while k < 32 {
-        table[at + k] = values[k];
-        k += 1;
-    }
 }
 
 // No sides, and how the reading ended.

@@ -1,16 +1,16 @@
 // What events gain and lose: an event whose effect is 0 gains what it loses.
 ghost use mathlib.Core.Path.{_≡_};
 ghost use mathlib.Core.Bool.{cond};
-ghost use Prim.Native.Nat.{ℕ, _+_, _-_, _*_, _≤_, _<_};
+ghost use Prim.Native.Nat.{ℕ, _+_, _-_, _*_, _^_, _≤_, _<_};
 ghost use lib.Dec.{eqb};
 ghost use lib.ListN.{length, getD};
-ghost use lib.Seq.{sets};
 ghost use Rattle.eos.specs.Causes.{failing, numbered};
 ghost use Rattle.rules.specs.Rules.{nth};
 ghost use Rattle.model.specs.Held.{noEvent};
-ghost use Rattle.sums.specs.Sums.{total, product, GainRow, NetGains, TableGains, Small, eventGain, balancedAt, ActIn};
+ghost use Rattle.sums.specs.Sums.{total, product, GainRow, NetGains, TableGains, Small, eventGain, balanced, balancedAt, leastAfter, ActIn};
 use model::Event;
 use model::ObjectNet;
+use tables::sums::put_row;
 
 // A weight times an arc.
 fn scaled(w: u16, v: u8) -> u64
@@ -53,18 +53,6 @@ fn gain_row<'a>(
     row
 }
 
-// Lays a row into a table, from `at` on.
-fn put_gains(table: &mut [u64], at: usize, values: [u64; 32])
-    requires { ⌜ at + 32 ≤ length (now table) ⌝ }
-    ensures { λ _. ⌜ now (table .exit) ≡ sets (now (table .entry)) at values ⌝ }
-{
-    let mut k = 0;
-    while k < 32 {
-        table[at + k] = values[k];
-        k += 1;
-    }
-}
-
 // What each transition of a net gains by the weights from `at` on.
 fn net_row(o: ObjectNet, up: [u16; 288], down: [u16; 288], at: usize) -> [u64; 32]
     requires { ⌜ at + 32 ≤ 288 ⌝ }
@@ -85,12 +73,12 @@ fn gain_table(
     ensures { λ r. ⌜ NetGains moves nets objects up down r ⌝ }
 {
     let mut table = [0u64; 288];
-    put_gains(&mut table, 0, moves);
+    put_row(&mut table, 0, moves);
     let mut n = 0;
     while n < nets {
         let o = objects[n];
         let row = net_row(o, up, down, n * 32 + 32);
-        put_gains(&mut table, n * 32 + 32, row);
+        put_row(&mut table, n * 32 + 32, row);
         n += 1;
     }
     table
@@ -155,7 +143,48 @@ fn event_gain(e: Event, nets: usize, gain: [u64; 288]) -> u64
     outside + inside
 }
 
-// The number of the least event that does not gain what it loses, from 1; 0 where each does.
+// The number of the least event that does not gain what it loses, from 1 and 0 for none, once the event e at k is judged too.
+fn least_after(
+    least: usize,
+    k: usize,
+    e: Event,
+    nets: usize,
+    gain: [u64; 288],
+    loss: [u64; 288],
+) -> usize
+    requires { ⌜ (k + 1 < 2 ^ 64) × (nets ≤ 8) × ActIn e × Small gain × Small loss ⌝ }
+    ensures { λ r. ⌜ r ≡ leastAfter least k (balanced nets gain loss e) ⌝ }
+{
+    if least != 0 {
+        return least;
+    }
+    if event_gain(e, nets, gain) != event_gain(e, nets, loss) {
+        return k + 1;
+    }
+    0
+}
+
+// The number of the least of the first events that are lent, `listed` of them, that does not gain what it loses, from 1; 0 where each does.
+fn least_unbalanced(
+    events: &[Event],
+    listed: usize,
+    nets: usize,
+    gain: [u64; 288],
+    loss: [u64; 288],
+) -> usize
+    requires { ⌜ (listed ≤ length (now events)) × (nets ≤ 8) × Small gain × Small loss × ((k : ℕ) → k < listed → ActIn (getD (now events) k noEvent)) ⌝ }
+    ensures { λ r. ⌜ r ≡ numbered (failing listed 0 (balancedAt nets (now (events .entry)) gain loss)) ⌝ }
+{
+    let mut least = 0;
+    let mut k = 0;
+    while k < listed {
+        least = least_after(least, k, events[k], nets, gain, loss);
+        k += 1;
+    }
+    least
+}
+
+// The same of an array's first events.
 pub fn first_unbalanced(
     listed: usize,
     nets: usize,
@@ -167,13 +196,5 @@ pub fn first_unbalanced(
     requires { ⌜ ((k : ℕ) → k < listed → ActIn (getD events k noEvent)) ⌝ }
     ensures { λ r. ⌜ r ≡ numbered (failing listed 0 (balancedAt nets events gain loss)) ⌝ }
 {
-    let mut k = 0;
-    while k < listed {
-        let e = events[k];
-        if event_gain(e, nets, gain) != event_gain(e, nets, loss) {
-            return k + 1;
-        }
-        k += 1;
-    }
-    0
+    least_unbalanced(&events, listed, nets, gain, loss)
 }

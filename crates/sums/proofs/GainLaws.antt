@@ -10,12 +10,12 @@ use borrow.Author.Tests.{eq-eqb, ne-eqb}
 use lib.ListN.{length, getD, set, replicate, length-set, length-replicate}
 use lib.Seq.{sets, getD-set-same, getD-set-other, set-out, length-sets}
 use Rattle.rules.specs.Rules.{nth}
-use Rattle.model.specs.Held.{noNet, noEvent}
+use Rattle.model.specs.Held.{noNet}
 use Rattle.model.specs.declared.ObjectNet.{ObjectNet}
 use Rattle.model.specs.declared.Event.{Event}
 use Rattle.model.proofs.PadLaws.{nth-zeros}
 use Rattle.model.proofs.SlotLaws.{by-index}
-use Rattle.sums.specs.Sums.{product, gainOf, Small, GainRow, NetGains, TableGains, eventGain, balancedAt}
+use Rattle.sums.specs.Sums.{product, gainOf, Small, GainRow, NetGains, TableGains, eventGain, balanced, leastAfter}
 
 -- ---- a number stored in a list
 
@@ -132,11 +132,17 @@ move-small kind index gain r e h = rw e (go (eqb kind 1))
     go true = h (index - 1)
     go false = omega arith
 
--- an event by its gain and its loss, looked up with any event for those past the last
-module _ (nets : ℕ) (events : List Event) (gain loss : List ℕ) (k : ℕ) (d : Event) (e : getD events k d ≡ getD events k noEvent) (x y : ℕ)
-    (p : x ≡ eventGain nets (getD events k d) gain) (q : y ≡ eventGain nets (getD events k d) loss) where
-  pub event-apart : (x ≡ y → ⊥) → balancedAt nets events gain loss k ≡ false
-  event-apart h = rw (← e, ← p, ← q) (ne-eqb x y h)
+-- the least of the events before k, with the event e at k
+module _ (least k : ℕ) where
+  pub least-before : (good : Bool) → (least ≡ 0 → ⊥) → least ≡ leastAfter least k good
+  unfolding leastAfter
+  least-before good h = rw (ne-eqb least 0 h)
 
-  pub event-alike : x ≡ y → balancedAt nets events gain loss k ≡ true
-  event-alike h = rw (← e, ← p, ← q) (eq-eqb x y h)
+  module _ (none : least ≡ 0) (nets : ℕ) (e : Event) (gain loss : List ℕ) (x y : ℕ) (p : x ≡ eventGain nets e gain) (q : y ≡ eventGain nets e loss) where
+    pub least-here : (x ≡ y → ⊥) → k + 1 ≡ leastAfter least k (balanced nets gain loss e)
+    unfolding leastAfter
+    least-here h = rw (none, ← p, ← q, ne-eqb x y h)
+
+    pub least-not-yet : x ≡ y → 0 ≡ leastAfter least k (balanced nets gain loss e)
+    unfolding leastAfter
+    least-not-yet h = rw (none, ← p, ← q, eq-eqb x y h)

@@ -4,7 +4,7 @@ use mathlib.Core.Path.{_≡_, refl, sym, ap, ap₂, _∙_}
 use mathlib.Core.Bool.{Bool, true, false, cond, _&&_}
 use mathlib.Core.List.{List, [], _∷_}
 use native.Mathlib.Omega.{arith}
-use native.Mathlib.Nat.{mul-le-mul}
+use native.Mathlib.Nat.{add-zero, zero-add, mul-le-mul}
 use native.Mathlib.Numerals.{add-one}
 use lib.Dec.{eqb, ltb, leb}
 use lib.ListN.{length, take, drop, getD, length-drop}
@@ -12,9 +12,10 @@ use lib.Seq.{drop-cons, getD-take, drop-length, length-take-le}
 use borrow.Author.Tests.{eq-eqb, ne-eqb, lt-ltb, le-ltb}
 use Rattle.eos.specs.Firing.{allBelow}
 use Rattle.eos.specs.Causes.{failing, numbered}
+use Rattle.scan.proofs.Basics.{by-test}
 use Rattle.model.specs.Held.{noNet}
 use Rattle.model.specs.declared.ObjectNet.{ObjectNet}
-use Rattle.sums.specs.Sums.{total, lowest, someAt, enoughAt, netCovered}
+use Rattle.sums.specs.Sums.{total, leastAfter, lowest, someAt, enoughAt, netCovered}
 use Rattle.sums.proofs.TotalLaws.{total-on}
 
 -- a product of two numbers that have limits
@@ -90,17 +91,17 @@ of-move kind x e = rw (eq-eqb kind 1 e)
 pub of-idle : (kind x : ℕ) → (kind ≡ 1 → ⊥) → 0 ≡ cond (eqb kind 1) x 0
 of-idle kind x e = rw (ne-eqb kind 1 e)
 
--- ---- the least index at which a test fails
+-- ---- the least index at which a test fails, with one index more
 
-module _ (f : ℕ → Bool) (n k : ℕ) where
-  pub failing-here : k < n → f k ≡ false → k + 1 ≡ numbered (failing (n - k) k f)
-  failing-here h e = let s : n - k ≡ suc (n - suc k) = omega arith in rw (s, e) (add-one k)
+after-more : (f : ℕ → Bool) (d i : ℕ) → numbered (failing (suc d) i f) ≡ leastAfter (numbered (failing d i f)) (i + d) (f (i + d))
+unfolding leastAfter
+after-more f zero i = by-test (f i) (λ e. rw (add-zero i, e)) (λ e. rw (add-zero i, e) (sym (add-one i)))
+after-more f (suc d) i =
+    let s : i + suc d ≡ suc i + d = omega arith in
+    by-test (f i) (λ e. rw (s, e) (after-more f d (suc i))) (λ e. rw (e, ne-eqb (suc i) 0 (λ z. omega arith)))
 
-  pub failing-on : k < n → f k ≡ true → failing (n - k) k f ≡ failing (n - (k + 1)) (k + 1) f
-  failing-on h e = let s : n - k ≡ suc (n - suc k) = omega arith in rw (s, add-one k, e)
-
-  pub failing-end : n ≤ k → 0 ≡ numbered (failing (n - k) k f)
-  failing-end h = let s : n - k ≡ 0 = omega arith in rw s
+pub least-next : (f : ℕ → Bool) (k : ℕ) → leastAfter (numbered (failing k 0 f)) k (f k) ≡ numbered (failing (k + 1) 0 f)
+least-next f k = rw (add-one k) (sym (rw (zero-add k) at (after-more f k 0)))
 
 -- a net's weights, looked up with any net for those past the last
 pub net-at : (sum : ℕ) (w : List ℕ) (objects : List ObjectNet) (n : ℕ) (d : ObjectNet) → getD objects n d ≡ getD objects n noNet → (t : Bool)

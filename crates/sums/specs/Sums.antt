@@ -69,8 +69,15 @@ pub record ActIn (e : Event) : Type 0 where
   pub most : e .index ≤ 32
 
 -- an event is balanced where it gains what it loses
+abbrev pub balanced : ℕ → List ℕ → List ℕ → Event → Bool
+balanced nets gain loss e = eqb (eventGain nets e gain) (eventGain nets e loss)
+
 abbrev pub balancedAt : ℕ → List Event → List ℕ → List ℕ → ℕ → Bool
-balancedAt nets events gain loss k = eqb (eventGain nets (getD events k noEvent) gain) (eventGain nets (getD events k noEvent) loss)
+balancedAt nets events gain loss k = balanced nets gain loss (getD events k noEvent)
+
+-- the number of the least event that is not balanced, from 1, once the event at k is judged too; 0 for none
+unfoldable pub leastAfter : ℕ → ℕ → Bool → ℕ
+leastAfter least k good = cond (eqb least 0) (cond good 0 (k + 1)) least
 
 -- ---- markings
 

@@ -1,7 +1,7 @@
 -- `put_row` stores a row. The loop's invariant: the values that are left, stored from at + k on, give the whole.
 use borrow.Author.Needs.{needs}
-use Rattle.arcs.proofs.put_row.Statement.{statement}
-use Rattle.arcs.proofs.put_row.Tie as tie
+use Rattle.tables.proofs.counts.put_row.Statement.{statement}
+use Rattle.tables.proofs.counts.put_row.Tie as tie
 use Prim.Native.Nat.{_≤_, _-_, _+_}
 use mathlib.Core.Path.{_≡_, refl}
 use native.Mathlib.Omega.{arith}
@@ -20,11 +20,17 @@ abbrev μ-loop : tie.MeasureT-loop
 loop-holds : tie.Need-loop-holds Inv-loop μ-loop
 loop-holds c = (search needs, refl, rw add-zero)
 
+mul-table : tie.Need-mul-table Inv-loop μ-loop
+mul-table c = search needs
+
 array-read-table : tie.Need-array-read-table Inv-loop μ-loop
 array-read-table c = search needs
 
 add-table : tie.Need-add-table Inv-loop μ-loop
 add-table c = search needs
+
+mul-table-2 : tie.Need-mul-table-2 Inv-loop μ-loop
+mul-table-2 c = search needs
 
 slice-write-table : tie.Need-slice-write-table Inv-loop μ-loop
 slice-write-table c = search needs
@@ -59,8 +65,10 @@ put-row-spec =
     Inv-loop
     μ-loop
     loop-holds
+    mul-table
     array-read-table
     add-table
+    mul-table-2
     slice-write-table
     add-k
     loop-less

@@ -1,7 +1,7 @@
--- `put_gains` stores a row. The loop's invariant: the values that are left, stored from at + k on, give the whole.
+-- `put_row` stores a row. The loop's invariant: the values that are left, stored from at + k on, give the whole.
 use borrow.Author.Needs.{needs}
-use Rattle.gains.proofs.put_gains.Statement.{statement}
-use Rattle.gains.proofs.put_gains.Tie as tie
+use Rattle.tables.proofs.bytes.put_row.Statement.{statement}
+use Rattle.tables.proofs.bytes.put_row.Tie as tie
 use Prim.Native.Nat.{_≤_, _-_, _+_}
 use mathlib.Core.Path.{_≡_, refl}
 use native.Mathlib.Omega.{arith}
@@ -20,17 +20,11 @@ abbrev μ-loop : tie.MeasureT-loop
 loop-holds : tie.Need-loop-holds Inv-loop μ-loop
 loop-holds c = (search needs, refl, rw add-zero)
 
-mul-table : tie.Need-mul-table Inv-loop μ-loop
-mul-table c = search needs
-
 array-read-table : tie.Need-array-read-table Inv-loop μ-loop
 array-read-table c = search needs
 
 add-table : tie.Need-add-table Inv-loop μ-loop
 add-table c = search needs
-
-mul-table-2 : tie.Need-mul-table-2 Inv-loop μ-loop
-mul-table-2 c = search needs
 
 slice-write-table : tie.Need-slice-write-table Inv-loop μ-loop
 slice-write-table c = search needs
@@ -58,17 +52,15 @@ returns c =
     let m : length (a .t3) ≡ 32 = search needs in
     put-done _ (a .t3) _ _ (l .k) (l .inv .2) (omega arith)
 
-pub put-gains-spec : {M : Type 1} → statement M
-put-gains-spec =
+pub put-row-spec : {M : Type 1} → statement M
+put-row-spec =
     tie.close
     (tie.spec
     Inv-loop
     μ-loop
     loop-holds
-    mul-table
     array-read-table
     add-table
-    mul-table-2
     slice-write-table
     add-k
     loop-less
