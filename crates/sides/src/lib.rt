@@ -5,7 +5,6 @@ ghost use mathlib.Core.Path.{_≡_};
 ghost use mathlib.Core.Bool.{true};
 ghost use Prim.Native.Nat.{ℕ, _+_, _*_, _≤_, _<_};
 ghost use lib.ListN.{length, replicate};
-ghost use lib.Seq.{sets};
 ghost use Rattle.eos.specs.Vector.{_⊕_, times, zeros};
 ghost use Rattle.text.specs.Repeat.{fill};
 ghost use Rattle.model.specs.Held.{row, rowIn, putRow, listed, modelOf};
@@ -22,6 +21,7 @@ use flat::OBJECT_PRE;
 use flat::OBJECTS;
 use flat::POST;
 use flat::PRE;
+use tables::sums::put_row;
 
 // Row i of a table of arcs.
 fn arcs_at(table: &[u8], i: usize) -> [u64; 32]
@@ -80,18 +80,6 @@ fn summed<'a>(sync: &'a [u8], from: usize, table: &'a [u8], transitions: usize) 
         t += 1;
     }
     sum
-}
-
-// A row of a side laid from `at` on.
-fn put_row(side: &mut [u64; 288], at: usize, v: [u64; 32])
-    requires { ⌜ (at + 32 ≤ 288) × (length (now side) ≡ 288) ⌝ }
-    ensures { λ _. ⌜ (length (now (side .exit)) ≡ 288) × (now (side .exit) ≡ sets (now (side .entry)) at v) ⌝ }
-{
-    let mut k = 0;
-    while k < 32 {
-        side[at + k] = v[k];
-        k += 1;
-    }
 }
 
 // The rows of the object nets laid behind the first row, for the counts of event e; a net's arcs of this side begin at `arcs`.

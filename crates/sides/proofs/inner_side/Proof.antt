@@ -130,9 +130,9 @@ loop-again c =
     let e = m .summed .ensures ∙ sum-in (a .plan .now) (a .e) (a .arcs) n _ _ p q in
     let x : length (m .summed .result) ≡ 32 = search needs in (
       omega arith,
-      c .put-row .ensures .0,
+      c .put-row .kept .0 ∙ l .loop .inv .1,
       nets-next (netSumIn (a .plan .now) (a .e) (a .arcs)) n (nth (a .plan .now) 0) (l .loop .side) _ h (sym (ap length e) ∙ x)
-          (c .put-row .ensures .1 ∙ ap (sets (l .loop .side) ((n + 1) * 32)) e)
+          (c .put-row .ensures ∙ ap (sets (l .loop .side) ((n + 1) * 32)) e)
           ∙ l .loop .inv .2,
     )
 
