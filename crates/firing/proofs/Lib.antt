@@ -6,3 +6,4 @@ pub mod StepLaws
 pub mod KeepLaws
 pub mod FiresExactly
 pub mod RefusedLeaves
+pub mod Passing

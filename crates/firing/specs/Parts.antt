@@ -12,7 +12,7 @@ use Rattle.marking.specs.declared.Marking.{Marking}
 use Rattle.verdict.specs.declared.Verdict.{Verdict}
 use Rattle.verdict.specs.declared.Verdict.the-variants as verdict
 use Rattle.firing.specs.declared.StepAnswer.{StepAnswer}
-use Rattle.firing.specs.declared.StepAnswer.the-variants.{Fired, TooLong, NotHeld, Faulty, Turned}
+use Rattle.firing.specs.declared.StepAnswer.the-variants.{Fired, Faulty, Turned}
 use Rattle.firing.specs.declared.Stepped.{Stepped}
 use Rattle.firing.specs.Answers.{stays}
 

@@ -2,7 +2,6 @@
 use Prim.Native.Nat.{ℕ}
 use mathlib.Core.Path.{_≡_, refl}
 use mathlib.Core.List.{List, [], _∷_}
-use lib.IntN.{pos, negsuc}
 use Rattle.scan.specs.Bytes.{bytes}
 use Rattle.text.specs.Lists.{stopOf}
 use Rattle.text.specs.Printed.{decimalOf, decimal, itemsText, endText, texts, numberText, listText, tokenText}

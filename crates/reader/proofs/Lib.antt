@@ -4,4 +4,5 @@ pub mod ReadingLaws
 pub mod WritingLaws
 pub mod HeldExactly
 pub mod RefusedLeaves
+pub mod Passing
 pub mod Cases

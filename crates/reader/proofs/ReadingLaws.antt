@@ -33,7 +33,7 @@ use Rattle.marking.specs.declared.Marking.{Marking}
 use Rattle.marking.specs.declared.Block.{Block}
 use Rattle.reader.specs.Reading.{bounds, Loaded, readEnd, readTokens, readLines, readModel, readMarking}
 use Rattle.reader.specs.Sizes.{sizesIn, sizesFor}
-use Rattle.reader.specs.Parts.{answerOf}
+use Rattle.reader.specs.Parts.{answerOf, modelFrom, heldFrom, markingFrom}
 use Rattle.reader.specs.Answers.{longest, faulty, noReading, loaded, modelReading, noTokens, restored, forHeld, markingReading, heldBoth}
 use Rattle.reader.specs.declared.ReadAnswer.the-variants.{Accepted, TooLong, NotHeld, Faulty}
 use Rattle.reader.specs.declared.ModelReading.{ModelReading}
@@ -120,9 +120,14 @@ module _ (m : Model) (k : Marking) where
 
 -- ---- a model
 
-pub model-long : (s : Text) (r : ModelReading) → r ≡ noReading TooLong → longest < length s → r ≡ modelReading s
-unfolding modelReading
-model-long s r e h = e ∙ rw (lt-leb (length s) longest h, modelReading)
+-- from its first byte on
+pub model-start : (s : Text) → modelFrom s 0 ≡ modelReading s
+unfolding modelFrom modelReading readModel
+model-start s = refl
+
+pub model-long : (s : Text) (at : ℕ) (r : ModelReading) → r ≡ noReading TooLong → longest < length s → r ≡ modelFrom s at
+unfolding modelFrom
+model-long s at r e h = e ∙ rw (lt-leb (length s) longest h, modelFrom)
 
 -- a model with the start that is read
 abbrev with : eos.Model → eos.Marking → ℕ → Outcome Loaded
@@ -135,29 +140,32 @@ unfolding then readEnd need
 join-end d s (got μ y) = by-test (leb (length s) y) (λ h. rw h) (λ h. rw h)
 join-end d s (bad e) = refl
 
-module _ (s : Text) (few : length s ≤ longest) (p : Reading) (is : p ≡ readingOf (readPlant s 0)) where
-  short : modelReading s ≡ loaded s (readModel s)
-  unfolding modelReading
-  short = rw (le-leb (length s) longest few, modelReading)
+module _ (s : Text) (at : ℕ) (few : length s ≤ longest) (p : Reading) (is : p ≡ readingOf (readPlant s at)) where
+  abbrev all : Outcome Loaded
+  all = then (readLines s at) (readEnd s)
 
-  lines-ended : p .ended ≡ endedOf (readPlant s 0)
+  short : modelFrom s at ≡ loaded s all
+  unfolding modelFrom
+  short = rw (le-leb (length s) longest few, modelFrom)
+
+  lines-ended : p .ended ≡ endedOf (readPlant s at)
   unfolding readingOf
   lines-ended = ap (λ (p : Reading). p .ended) is
 
   -- its lines are refused
-  pub model-stopped : (d : Fault) → p .ended ≡ Stopped d → noReading (faulty s d) ≡ modelReading s
-  unfolding readModel readLines then loaded
-  model-stopped d e = sym (short ∙ rw (bad-of (readPlant s 0) (p .ended) d lines-ended e))
+  pub model-stopped : (d : Fault) → p .ended ≡ Stopped d → noReading (faulty s d) ≡ modelFrom s at
+  unfolding readLines then loaded
+  model-stopped d e = sym (short ∙ rw (bad-of (readPlant s at) (p .ended) d lines-ended e))
 
   module _ (next : ℕ) (e : p .ended ≡ Past next) where
-    plant-got : Got (readPlant s 0) next
-    plant-got = got-of (readPlant s 0) (p .ended) next lines-ended e
+    plant-got : Got (readPlant s at) next
+    plant-got = got-of (readPlant s at) (p .ended) next lines-ended e
 
     abbrev said : eos.Model
     said = plant-got .value
 
     said-right : rightModel said ≡ true
-    said-right = plant-exactly s .back 0 said next (plant-got .is) .fine-is
+    said-right = plant-exactly s .back at said next (plant-got .is) .fine-is
 
     model-is : p .model ≡ holdModel said
     unfolding readingOf keptOr
@@ -173,54 +181,64 @@ module _ (s : Text) (few : length s ≤ longest) (p : Reading) (is : p ≡ readi
           let k : sizesAt (p .model .places) z ≡ sizesOf said = ap (sizesAt (p .model .places)) sizes-are ∙ ap sizesFor model-is ∙ sizes-same said said-right in
           start-is ∙ ap (λ (z : Sizes). blockOf (readTokens z s next)) k
 
-      read-is : readModel s ≡ then (readTokens (sizesOf said) s next) (with said)
-      unfolding readModel readLines then
+      read-is : all ≡ then (readTokens (sizesOf said) s next) (with said)
+      unfolding readLines then
       read-is = rw (plant-got .is) (join-end said s (readBlock (bytes "start=") bounds (sizesOf said) s next))
 
       -- the net-tokens of its start are refused
-      pub start-stopped : (d : Fault) → b .ended ≡ Stopped d → noReading (faulty s d) ≡ modelReading s
+      pub start-stopped : (d : Fault) → b .ended ≡ Stopped d → noReading (faulty s d) ≡ modelFrom s at
       unfolding then loaded
       start-stopped d f =
-          let l : readModel s ≡ bad d = read-is ∙ rw (block-bad (readTokens (sizesOf said) s next) b start-of d f) in
+          let l : all ≡ bad d = read-is ∙ rw (block-bad (readTokens (sizesOf said) s next) b start-of d f) in
           sym (short ∙ ap (loaded s) l)
 
       -- all of it is read
-      pub model-read : (end : ℕ) → b .ended ≡ Past end → record { answer = Accepted; model = p .model; start = b .marking } ≡ modelReading s
+      pub model-read : (end : ℕ) → b .ended ≡ Past end → record { answer = Accepted; model = p .model; start = b .marking } ≡ modelFrom s at
       unfolding then loaded
       model-read end f =
           let t = block-got (readTokens (sizesOf said) s next) b start-of end f in
-          let l : readModel s ≡ with said (t .tokens) end = read-is ∙ ap (λ (o : Outcome eos.Marking). then o (with said)) (t .read) in
+          let l : all ≡ with said (t .tokens) end = read-is ∙ ap (λ (o : Outcome eos.Marking). then o (with said)) (t .read) in
           ap₂ {C = ModelReading} (λ m k. record { answer = Accepted; model = m; start = k }) model-is (t .held) ∙ sym (short ∙ ap (loaded s) l)
 
 -- ---- a marking
 module _ (m : Model) (s : Text) where
-  pub marking-long : (r : MarkingReading) → r ≡ noTokens TooLong → longest < length s → r ≡ markingReading m s
-  unfolding markingReading
-  marking-long r e h = e ∙ rw (lt-leb (length s) longest h, markingReading)
+  held-start : (b : Bool) → heldFrom b m s 0 ≡ forHeld b m s
+  unfolding heldFrom forHeld readMarking
+  held-start true = refl
+  held-start false = refl
+
+  -- from its first byte on
+  pub marking-start : markingFrom m s 0 ≡ markingReading m s
+  unfolding markingFrom markingReading
+  marking-start = ap (λ (r : MarkingReading). elim (leb (length s) longest) [ true ↦ r | false ↦ noTokens TooLong ]) (held-start (heldModel m))
+
+module _ (m : Model) (s : Text) (at : ℕ) where
+  pub marking-long : (r : MarkingReading) → r ≡ noTokens TooLong → longest < length s → r ≡ markingFrom m s at
+  unfolding markingFrom
+  marking-long r e h = e ∙ rw (lt-leb (length s) longest h, markingFrom)
 
   module _ (few : length s ≤ longest) where
     -- the model is not held
-    pub marking-unheld : (r : MarkingReading) → r ≡ noTokens NotHeld → heldModel m ≡ false → r ≡ markingReading m s
-    unfolding markingReading forHeld
-    marking-unheld r e h = e ∙ rw (le-leb (length s) longest few, markingReading, h)
+    pub marking-unheld : (r : MarkingReading) → r ≡ noTokens NotHeld → heldModel m ≡ false → r ≡ markingFrom m s at
+    unfolding markingFrom heldFrom
+    marking-unheld r e h = e ∙ rw (le-leb (length s) longest few, markingFrom, h)
 
-    module _ (held : heldModel m ≡ true) (z : List ℕ) (sizes-are : z ≡ sizesIn m) (b : Block) (is : b ≡ blockOf (readTokens (sizesAt (m .places) z) s 0)) where
-      tokens-of : b ≡ blockOf (readMarking (sizesFor m) s)
-      unfolding readMarking
-      tokens-of = is ∙ ap (λ (z : List ℕ). blockOf (readTokens (sizesAt (m .places) z) s 0)) sizes-are
+    module _ (held : heldModel m ≡ true) (z : List ℕ) (sizes-are : z ≡ sizesIn m) (b : Block) (is : b ≡ blockOf (readTokens (sizesAt (m .places) z) s at)) where
+      tokens-of : b ≡ blockOf (readTokens (sizesFor m) s at)
+      tokens-of = is ∙ ap (λ (z : List ℕ). blockOf (readTokens (sizesAt (m .places) z) s at)) sizes-are
 
-      for-held : markingReading m s ≡ restored s (readMarking (sizesFor m) s)
-      unfolding markingReading forHeld
-      for-held = rw (le-leb (length s) longest few, markingReading, held)
+      for-held : markingFrom m s at ≡ restored s (readTokens (sizesFor m) s at)
+      unfolding markingFrom heldFrom
+      for-held = rw (le-leb (length s) longest few, markingFrom, held)
 
       -- its lines are refused
-      pub marking-stopped : (d : Fault) → b .ended ≡ Stopped d → noTokens (faulty s d) ≡ markingReading m s
+      pub marking-stopped : (d : Fault) → b .ended ≡ Stopped d → noTokens (faulty s d) ≡ markingFrom m s at
       unfolding restored
-      marking-stopped d e = sym (for-held ∙ rw (block-bad (readMarking (sizesFor m) s) b tokens-of d e))
+      marking-stopped d e = sym (for-held ∙ rw (block-bad (readTokens (sizesFor m) s at) b tokens-of d e))
 
       -- all of it is read
-      pub marking-read : (end : ℕ) → b .ended ≡ Past end → record { answer = Accepted; marking = b .marking } ≡ markingReading m s
+      pub marking-read : (end : ℕ) → b .ended ≡ Past end → record { answer = Accepted; marking = b .marking } ≡ markingFrom m s at
       unfolding restored
       marking-read end e =
-          let t = block-got (readMarking (sizesFor m) s) b tokens-of end e in
+          let t = block-got (readTokens (sizesFor m) s at) b tokens-of end e in
           ap {B = MarkingReading} (λ k. record { answer = Accepted; marking = k }) (t .held) ∙ sym (for-held ∙ ap (restored s) (t .read))

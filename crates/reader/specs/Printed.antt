@@ -1,8 +1,6 @@
 -- The text of a model file (01, "Files"): a model with its start.
 use mathlib.Core.List.{_++_}
-use Rattle.scan.specs.Bytes.{Text, bytes}
-use Rattle.text.specs.Printed.{texts, numberText, weightsText}
-use Rattle.eos.specs.Weights.{Weights}
+use Rattle.scan.specs.Bytes.{Text}
 use Rattle.plant.specs.Printed.{plantText}
 use Rattle.marking.specs.Printed.{markingText}
 use Rattle.reader.specs.Reading.{Loaded}

@@ -6,9 +6,10 @@ ghost use Rattle.model.specs.Test.{heldModel};
 ghost use Rattle.marking.specs.Held.{sizesAt, Roomy};
 ghost use Rattle.marking.specs.Answers.{blockOf};
 ghost use Rattle.reader.specs.Reading.{readTokens};
-ghost use Rattle.reader.specs.Parts.{answerOf};
+ghost use Rattle.reader.specs.Parts.{answerOf, modelFrom, markingFrom};
 ghost use Rattle.reader.specs.Answers.{longest, noReading, modelReading, noTokens, markingReading, heldBoth, writtenAs, markingWriting};
 use blocks::block_at;
+use file::Reader;
 use marking::Block;
 use marking::Marking;
 use marking::Wrote;
@@ -99,14 +100,14 @@ pub fn no_reading(answer: ReadAnswer) -> ModelReading
     }
 }
 
-// Reads a model's text: its lines, and those of its start.
-pub fn read_model(s: &[u8]) -> ModelReading
-    ensures { λ r. ⌜ r ≡ modelReading (now (s .entry)) ⌝ }
+// Reads a model's text from `at` on: its lines, and those of its start.
+fn model_at(s: &[u8], at: usize) -> ModelReading
+    ensures { λ r. ⌜ r ≡ modelFrom (now (s .entry)) at ⌝ }
 {
     if Model::LONGEST < s.len() {
         return no_reading(ReadAnswer::TooLong);
     }
-    let read = read_plant(s, 0);
+    let read = read_plant(s, at);
     let lines = read.ended;
     let Ended::Past { next } = lines else {
         return no_reading(answer_of(s, lines));
@@ -125,6 +126,20 @@ pub fn read_model(s: &[u8]) -> ModelReading
     }
 }
 
+// Reads a model's text from the place that the reader has reached.
+fn model_from<'a>(r: Reader<'a>) -> ModelReading
+    ensures { λ o. ⌜ o ≡ modelFrom (now (r .entry .src)) (r .entry .at) ⌝ }
+{
+    model_at(r.src, r.at)
+}
+
+// Reads a model's text.
+pub fn read_model(s: &[u8]) -> ModelReading
+    ensures { λ r. ⌜ r ≡ modelReading (now (s .entry)) ⌝ }
+{
+    model_from(Reader { src: s, at: 0 })
+}
+
 // No marking, and why.
 fn no_tokens(answer: ReadAnswer) -> MarkingReading
     ensures { λ r. ⌜ r ≡ noTokens answer ⌝ }
@@ -133,9 +148,9 @@ fn no_tokens(answer: ReadAnswer) -> MarkingReading
     MarkingReading { answer, marking }
 }
 
-// Reads the text of a marking of a held model.
-pub fn read_marking(m: Model, s: &[u8]) -> MarkingReading
-    ensures { λ r. ⌜ r ≡ markingReading m (now (s .entry)) ⌝ }
+// Reads the text of a marking of a held model from `at` on.
+fn marking_at(m: Model, s: &[u8], at: usize) -> MarkingReading
+    ensures { λ r. ⌜ r ≡ markingFrom m (now (s .entry)) at ⌝ }
 {
     if Model::LONGEST < s.len() {
         return no_tokens(ReadAnswer::TooLong);
@@ -143,7 +158,7 @@ pub fn read_marking(m: Model, s: &[u8]) -> MarkingReading
     if !model::held::test(m) {
         return no_tokens(ReadAnswer::NotHeld);
     }
-    let block = tokens_from(s, 0, m.places as u16, sizes(m));
+    let block = tokens_from(s, at, m.places as u16, sizes(m));
     let ended = block.ended;
     let Ended::Past { next: _ } = ended else {
         return no_tokens(answer_of(s, ended));
@@ -153,6 +168,20 @@ pub fn read_marking(m: Model, s: &[u8]) -> MarkingReading
         answer: ReadAnswer::Accepted,
         marking,
     }
+}
+
+// Reads the text of a marking of a held model from the place that the reader has reached.
+fn marking_from<'a>(m: Model, r: Reader<'a>) -> MarkingReading
+    ensures { λ o. ⌜ o ≡ markingFrom m (now (r .entry .src)) (r .entry .at) ⌝ }
+{
+    marking_at(m, r.src, r.at)
+}
+
+// Reads the text of a marking of a held model.
+pub fn read_marking(m: Model, s: &[u8]) -> MarkingReading
+    ensures { λ r. ⌜ r ≡ markingReading m (now (s .entry)) ⌝ }
+{
+    marking_from(m, Reader { src: s, at: 0 })
 }
 
 // Whether m is held as a model is.

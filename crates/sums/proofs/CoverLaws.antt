@@ -8,7 +8,6 @@ use lib.ListN.{length, take}
 use lib.Seq.{length-take-le, getD-take}
 use borrow.Author.Tests.{ltb-true, lt-leb, le-leb}
 use Rattle.eos.specs.Firing.{allBelow}
-use Rattle.eos.specs.Weights.{least}
 use Rattle.rules.specs.Rules.{nth}
 use Rattle.model.specs.declared.ObjectNet.{ObjectNet}
 use Rattle.model.proofs.SlotLaws.{below-at}

@@ -22,9 +22,8 @@ use Rattle.eos.specs.Weights.{Weights}
 use Rattle.model.specs.Held.{tabled, modelOf}
 use Rattle.model.specs.declared.Model.{Model}
 use Rattle.reader.specs.Reading.{readEnd}
-use Rattle.weights.specs.Reading.{readWeightFile}
 use Rattle.weights.specs.Held.{holdWeights, noWeights}
-use Rattle.weights.specs.Parts.{linesOf, readNet, putNext, behindOuter, innersOf}
+use Rattle.weights.specs.Parts.{linesOf, readNet, putNext, behindOuter, innersOf, readFrom}
 use Rattle.weights.specs.declared.HeldWeights.{HeldWeights}
 use Rattle.weights.specs.declared.WeightLines.{WeightLines}
 use Rattle.weights.proofs.FileLaws.{row-got, row-bad, row-above, row-below, places-long, inners-are, lines-bad, rows-behind}
@@ -66,9 +65,9 @@ module _ (h : HeldWeights) (o : Outcome (List (List ℤ))) (r : WeightLines) (al
 
 -- ---- the lines in a row
 
-module _ (m : Model) (long : length (m .types) ≡ 32) (few : m .places ≤ 32) (s : Text) where
+module _ (m : Model) (long : length (m .types) ≡ 32) (few : m .places ≤ 32) (s : Text) (at : ℕ) where
   abbrev file : Outcome Weights
-  file = readWeightFile (modelOf m) s
+  file = readFrom (modelOf m) s at
 
   abbrev inners : ℕ → Outcome (List (List ℤ))
   inners at = manyAt (readNet (m .objects) s) 0 (m .nets) at
@@ -76,27 +75,27 @@ module _ (m : Model) (long : length (m .types) ≡ 32) (few : m .places ≤ 32) 
   abbrev outers : ℕ → Outcome (List ℤ)
   outers at = readWeights (bytes "outer=") (m .places) (modest 1000) s at
 
-  head-bad : (d : Fault) → readHead (bytes "inv=") s 0 ≡ bad d → file ≡ bad d
-  unfolding readWeightFile then
+  head-bad : (d : Fault) → readHead (bytes "inv=") s at ≡ bad d → file ≡ bad d
+  unfolding readFrom then
   head-bad d a = rw a
 
-  module _ (v x₁ : ℕ) (first : readHead (bytes "inv=") s 0 ≡ got v x₁) where
+  module _ (v x₁ : ℕ) (first : readHead (bytes "inv=") s at ≡ got v x₁) where
     outer-bad : (d : Fault) → outers x₁ ≡ bad d → file ≡ bad d
-    unfolding readWeightFile then
+    unfolding readFrom then
     outer-bad d b = rw (first, places-long m s long few, b)
 
     module _ (o : List ℤ) (x₂ : ℕ) (second : outers x₁ ≡ got o x₂) where
       inner-bad : (d : Fault) → inners x₂ ≡ bad d → file ≡ bad d
-      unfolding readWeightFile then
+      unfolding readFrom then
       inner-bad d c = rw (first, places-long m s long few, second, ← inners-are m s x₂, c)
 
       module _ (l : List (List ℤ)) (x₃ : ℕ) (third : inners x₂ ≡ got l x₃) where
         more-bad : x₃ < length s → file ≡ bad (fault 2 x₃)
-        unfolding readWeightFile then readEnd need
+        unfolding readFrom then readEnd need
         more-bad h = rw (first, places-long m s long few, second, ← inners-are m s x₂, third, lt-leb (length s) x₃ h)
 
         file-got : length s ≤ x₃ → file ≡ got (record { outward = o; inward = l }) x₃
-        unfolding readWeightFile then readEnd need
+        unfolding readFrom then readEnd need
         file-got h = rw (first, places-long m s long few, second, ← inners-are m s x₂, third, le-leb (length s) x₃ h)
 
   -- ---- by the answers
@@ -104,11 +103,11 @@ module _ (m : Model) (long : length (m .types) ≡ 32) (few : m .places ≤ 32) 
   abbrev none : Ended → WeightLines
   none e = record { ended = e; weights = noWeights }
 
-  pub head-refused : (a : Line) (d : Fault) → a ≡ Refused d → a ≡ lineOf (readHead (bytes "inv=") s 0) → none (endedIn a) ≡ linesOf file
+  pub head-refused : (a : Line) (d : Fault) → a ≡ Refused d → a ≡ lineOf (readHead (bytes "inv=") s at) → none (endedIn a) ≡ linesOf file
   head-refused a d h k = lines-bad file (endedIn a) d (ap endedIn h) (head-bad d (line-bad _ d (sym h ∙ k))) (none (endedIn a)) refl
 
-  module _ (v x₁ : ℕ) (head : Value v x₁ ≡ lineOf (readHead (bytes "inv=") s 0)) (a : WeightRow) (line : a ≡ weightRowOf (outers x₁)) where
-    first : readHead (bytes "inv=") s 0 ≡ got v x₁
+  module _ (v x₁ : ℕ) (head : Value v x₁ ≡ lineOf (readHead (bytes "inv=") s at)) (a : WeightRow) (line : a ≡ weightRowOf (outers x₁)) where
+    first : readHead (bytes "inv=") s at ≡ got v x₁
     first = line-got _ v x₁ head
 
     pub outer-refused : (d : Fault) → a .ended ≡ Stopped d → none (a .ended) ≡ linesOf file

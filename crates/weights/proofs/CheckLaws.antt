@@ -1,7 +1,8 @@
 -- The weight check, case by case: a text that is too long, a model or marking that is not held, a line at fault, weights that are judged.
 use Prim.Native.Nat.{ℕ, _≤_, _<_}
-use mathlib.Core.Path.{_≡_, ap, sym, _∙_}
-use mathlib.Core.Bool.{true, false}
+use mathlib.Core.Path.{_≡_, refl, ap, sym, _∙_}
+use mathlib.Core.Bool.{Bool, true, false}
+use lib.Dec.{leb}
 use lib.ListN.{length}
 use borrow.Author.Tests.{lt-leb, le-leb}
 use Rattle.scan.specs.Bytes.{Text}
@@ -20,33 +21,35 @@ use Rattle.reader.specs.Sizes.{sizesFor}
 use Rattle.weights.specs.Reading.{readWeightFile}
 use Rattle.weights.specs.Held.{holdWeights}
 use Rattle.weights.specs.Answers.{refusedWeights, faulty, judgedWeights, weighed, forHeld, weightChecking}
-use Rattle.weights.specs.Parts.{linesOf, Holds}
+use Rattle.weights.specs.Parts.{linesOf, readFrom, heldFrom, weightsFrom, Holds}
 use Rattle.weights.specs.declared.WeightAnswer.the-variants.{TooLong, NotHeld}
 use Rattle.weights.specs.declared.WeightLines.{WeightLines}
 use Rattle.weights.specs.declared.WeightCheck.{WeightCheck}
-use Rattle.weights.proofs.ReadsWhatItSays.{weights-were-printed, right-shaped}
+use Rattle.weights.proofs.ReadsWhatItSays.{file-start, weights-are-right, right-shaped}
 
-module _ (m : Model) (k : Marking) (s : Text) where
+-- ---- from a position on
+
+module _ (m : Model) (k : Marking) (s : Text) (at : ℕ) where
   abbrev file : Outcome Weights
-  file = readWeightFile (modelOf m) s
+  file = readFrom (modelOf m) s at
 
-  pub check-long : longest < length s → refusedWeights TooLong ≡ weightChecking m k s
-  unfolding weightChecking
-  check-long h = rw (lt-leb (length s) longest h, weightChecking)
+  pub from-long : longest < length s → refusedWeights TooLong ≡ weightsFrom m k s at
+  unfolding weightsFrom
+  from-long h = rw (lt-leb (length s) longest h, weightsFrom)
 
   module _ (few : length s ≤ longest) where
-    pub check-unheld : heldBoth m k ≡ false → refusedWeights NotHeld ≡ weightChecking m k s
-    unfolding weightChecking forHeld
-    check-unheld h = rw (le-leb (length s) longest few, weightChecking, h)
+    pub from-unheld : heldBoth m k ≡ false → refusedWeights NotHeld ≡ weightsFrom m k s at
+    unfolding weightsFrom heldFrom
+    from-unheld h = rw (le-leb (length s) longest few, weightsFrom, h)
 
     module _ (held : heldBoth m k ≡ true) where
-      pub check-bad : (d : Fault) → file ≡ bad d → weightChecking m k s ≡ refusedWeights (faulty s d)
-      unfolding weightChecking forHeld weighed
-      check-bad d e = rw (le-leb (length s) longest few, weightChecking, held, e)
+      from-bad : (d : Fault) → file ≡ bad d → weightsFrom m k s at ≡ refusedWeights (faulty s d)
+      unfolding weightsFrom heldFrom weighed
+      from-bad d e = rw (le-leb (length s) longest few, weightsFrom, held, e)
 
-      pub check-got : (w : Weights) (x : ℕ) → file ≡ got w x → weightChecking m k s ≡ judgedWeights (modelOf m) (tokensOf (sizesFor m) k) w
-      unfolding weightChecking forHeld weighed
-      check-got w x e = rw (le-leb (length s) longest few, weightChecking, held, e)
+      from-got : (w : Weights) (x : ℕ) → file ≡ got w x → weightsFrom m k s at ≡ judgedWeights (modelOf m) (tokensOf (sizesFor m) k) w
+      unfolding weightsFrom heldFrom weighed
+      from-got w x e = rw (le-leb (length s) longest few, weightsFrom, held, e)
 
       -- ---- by the answer of the lines
 
@@ -59,16 +62,42 @@ module _ (m : Model) (k : Marking) (s : Text) where
         unfolding linesOf keptOr
         lines-held w x e = ap (λ (l : WeightLines). l .weights) lines ∙ rw e
 
-        pub check-stopped : (d : Fault) → r .ended ≡ Stopped d → refusedWeights (faulty s d) ≡ weightChecking m k s
-        check-stopped d e = sym (check-bad d (bad-of file (r .ended) d lines-ended e))
+        pub from-stopped : (d : Fault) → r .ended ≡ Stopped d → refusedWeights (faulty s d) ≡ weightsFrom m k s at
+        from-stopped d e = sym (from-bad d (bad-of file (r .ended) d lines-ended e))
 
-        pub check-past : (x : ℕ) → r .ended ≡ Past x → (c : WeightCheck)
-            → ((w : Weights) → Holds m w (r .weights) → c ≡ judgedWeights (modelOf m) (tokensOf (sizesFor m) k) w) → c ≡ weightChecking m k s
-        check-past x e c h =
+        pub from-past : (x : ℕ) → r .ended ≡ Past x → (c : WeightCheck)
+            → ((w : Weights) → Holds m w (r .weights) → c ≡ judgedWeights (modelOf m) (tokensOf (sizesFor m) k) w) → c ≡ weightsFrom m k s at
+        from-past x e c h =
             let g = got-of file (r .ended) x lines-ended e in
             let w = g .value in
             h w (record {
-              shaped = right-shaped (modelOf m) w (weights-were-printed (modelOf m) s w x (g .is) .1);
+              shaped = right-shaped (modelOf m) w (weights-are-right (modelOf m) s at w x (g .is));
               is = lines-held w x (g .is);
             })
-            ∙ sym (check-got w x (g .is))
+            ∙ sym (from-got w x (g .is))
+
+-- ---- from its first byte on
+
+module _ (m : Model) (k : Marking) (s : Text) where
+  held-start : (b : Bool) → heldFrom b m k s 0 ≡ forHeld b m k s
+  unfolding heldFrom forHeld
+  held-start true = ap (weighed (modelOf m) (tokensOf (sizesFor m) k) s) (file-start (modelOf m) s)
+  held-start false = refl
+
+  pub check-start : weightsFrom m k s 0 ≡ weightChecking m k s
+  unfolding weightsFrom weightChecking
+  check-start = ap (λ (c : WeightCheck). elim (leb (length s) longest) [ true ↦ c | false ↦ refusedWeights TooLong ]) (held-start (heldBoth m k))
+
+  pub check-long : longest < length s → refusedWeights TooLong ≡ weightChecking m k s
+  check-long h = from-long m k s 0 h ∙ check-start
+
+  module _ (few : length s ≤ longest) where
+    pub check-unheld : heldBoth m k ≡ false → refusedWeights NotHeld ≡ weightChecking m k s
+    check-unheld h = from-unheld m k s 0 few h ∙ check-start
+
+    module _ (held : heldBoth m k ≡ true) where
+      pub check-bad : (d : Fault) → readWeightFile (modelOf m) s ≡ bad d → weightChecking m k s ≡ refusedWeights (faulty s d)
+      check-bad d e = sym check-start ∙ from-bad m k s 0 few held d (file-start (modelOf m) s ∙ e)
+
+      pub check-got : (w : Weights) (x : ℕ) → readWeightFile (modelOf m) s ≡ got w x → weightChecking m k s ≡ judgedWeights (modelOf m) (tokensOf (sizesFor m) k) w
+      check-got w x e = sym check-start ∙ from-got m k s 0 few held w x (file-start (modelOf m) s ∙ e)

@@ -14,5 +14,6 @@ pub mod ZeroLaws
 pub mod JudgeLaws
 pub mod ReadsWhatItSays
 pub mod CheckLaws
+pub mod Passing
 pub mod WeightsExactly
 pub mod Cases

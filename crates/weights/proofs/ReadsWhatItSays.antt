@@ -27,6 +27,7 @@ use Rattle.reader.specs.Reading.{readEnd}
 use Rattle.weights.specs.Printed.{weightFileText}
 use Rattle.reader.proofs.ReadsWhatItSays.{ended, to-end}
 use Rattle.weights.specs.Reading.{readInner, readWeightFile, rightInner, rightWeights}
+use Rattle.weights.specs.Parts.{readFrom}
 
 -- the lines, without the end of the text
 abbrev readLines : eos.Model → Text → ℕ → Outcome Weights
@@ -41,9 +42,17 @@ then-then (got a x) f g = refl
 then-then (bad e) f g = refl
 
 module _ (m : eos.Model) where
+  -- from its first byte on
+  pub file-start : (s : Text) → readFrom m s 0 ≡ readWeightFile m s
+  unfolding readFrom readWeightFile
+  file-start s = refl
+
+  from-lines : (s : Text) (at : ℕ) → readFrom m s at ≡ then (readLines m s at) (readEnd s)
+  unfolding readFrom need then
+  from-lines s at = simp then-then
+
   file-lines : (s : Text) → readWeightFile m s ≡ then (readLines m s 0) (readEnd s)
-  unfolding readWeightFile need then
-  file-lines s = simp then-then
+  file-lines s = sym (file-start s) ∙ from-lines s 0
 
   inner-exactly : (s : Text) (n : ℕ) → Exactly s (readInner m s n) (weightsText (bytes "inner=")) (rightInner m n)
   unfolding readInner rightInner
@@ -63,6 +72,10 @@ module _ (m : eos.Model) where
       (λ w h.
       let p = and-true (eqb (length (w .outward)) (eos.places m) && every (modest 1000) (w .outward)) _ h in
       (refl, (p .0, (p .1, refl, refl))))
+
+  -- what is read from a position on is right
+  pub weights-are-right : (s : Text) (at : ℕ) (w : Weights) (x : ℕ) → readFrom m s at ≡ got w x → rightWeights m w ≡ true
+  weights-are-right s at w x e = lines-exactly s .back at w x (ended (readLines m s at) s w x (sym (from-lines s at) ∙ e) .0) .fine-is
 
   -- what is accepted is the printed text of right weights
   pub weights-were-printed : (s : Text) (w : Weights) (x : ℕ) → readWeightFile m s ≡ got w x → (s ≡ weightFileText w) × (rightWeights m w ≡ true)

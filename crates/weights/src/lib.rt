@@ -10,10 +10,10 @@ ghost use Rattle.marking.specs.Held.{tokensOf};
 ghost use Rattle.reader.specs.Answers.{longest, heldBoth};
 ghost use Rattle.reader.specs.Sizes.{sizesFor};
 ghost use Rattle.weights.specs.Answers.{refusedWeights, passedWeights, faulty, judgedWeights, weightChecking};
-ghost use Rattle.weights.specs.Parts.{Holds};
+ghost use Rattle.weights.specs.Parts.{Holds, weightsFrom};
 use cover::covers;
 use effects::unbalanced;
-use file::weight_lines;
+use file::Reader;
 use marking::Marking;
 use model::Model;
 use reader::test_marking;
@@ -22,9 +22,10 @@ use scan::lines_before;
 use text::Ended;
 use text::Fault;
 use weighing::marking_weight;
+use weightfile::weight_lines;
 
 mod effects;
-mod file;
+mod weightfile;
 
 // The weights of a model's places, each as its part above 0 and its part below 0: nine rows of 32, the outer weights and then those of
 // each net. Unused room is 0.
@@ -155,9 +156,9 @@ fn judged(m: Model, k: Marking, h: HeldWeights) -> WeightCheck
     passed(m, k, h)
 }
 
-// Reads the weight file of a held model, judges the weights, and weighs a held marking.
-pub fn check_weights(m: Model, k: Marking, s: &[u8]) -> WeightCheck
-    ensures { λ r. ⌜ r ≡ weightChecking m k (now (s .entry)) ⌝ }
+// Reads the weight file of a held model from `at` on, judges the weights, and weighs a held marking.
+fn weights_at(m: Model, k: Marking, s: &[u8], at: usize) -> WeightCheck
+    ensures { λ r. ⌜ r ≡ weightsFrom m k (now (s .entry)) at ⌝ }
 {
     if Model::LONGEST < s.len() {
         return refused(WeightAnswer::TooLong);
@@ -165,11 +166,25 @@ pub fn check_weights(m: Model, k: Marking, s: &[u8]) -> WeightCheck
     if !test_marking(m, k) {
         return refused(WeightAnswer::NotHeld);
     }
-    let read = weight_lines(m, s);
+    let read = weight_lines(m, s, at);
     let ended = read.ended;
     let weights = read.weights;
     let Ended::Stopped { fault } = ended else {
         return judged(m, k, weights);
     };
     refused(fault_answer(s, fault))
+}
+
+// Reads the weight file of a held model from the place that the reader has reached, judges the weights, and weighs a held marking.
+fn weights_from<'a>(m: Model, k: Marking, r: Reader<'a>) -> WeightCheck
+    ensures { λ o. ⌜ o ≡ weightsFrom m k (now (r .entry .src)) (r .entry .at) ⌝ }
+{
+    weights_at(m, k, r.src, r.at)
+}
+
+// Reads the weight file of a held model, judges the weights, and weighs a held marking.
+pub fn check_weights(m: Model, k: Marking, s: &[u8]) -> WeightCheck
+    ensures { λ r. ⌜ r ≡ weightChecking m k (now (s .entry)) ⌝ }
+{
+    weights_from(m, k, Reader { src: s, at: 0 })
 }

@@ -1,97 +1,24 @@
--- `check_weights` meets its contract: a text that is too long, a model or marking that is not held, weights that are judged, or a line at
--- fault.
-use borrow.Author.Needs.{needs}
-use Rattle.weights.proofs.check_weights.Statement.{statement}
-use Rattle.weights.proofs.check_weights.Tie as tie
-use mathlib.Core.Path.{_≡_, ap, sym, _∙_}
-use mathlib.Core.Bool.{true}
-use borrow.Author.Tests.{not-true, not-false}
+-- `check_weights` meets its contract: it makes a reader of the text and calls `weights_from`, which checks a weight file from its first byte on.
+use mathlib.Core.Path.{_∙_}
+use mathlib.Core.List.{[], _∷_}
+use base.Logic.{emp}
+use contract.Monad.{factI}
 use denote.Ref.{now}
-use Rattle.reader.specs.Answers.{heldBoth}
-use Rattle.weights.specs.Answers.{refusedWeights}
-use Rattle.weights.proofs.JudgeLaws.{model-held}
-use Rattle.weights.proofs.CheckLaws.{check-long, check-unheld, check-stopped, check-past}
-
--- the model and the marking are held
-both : (c : tie.Else2) → heldBoth (c .before .before .before .before .args .m) (c .before .before .before .before .args .k) ≡ true
-both c = sym (c .before .test-marking .ensures) ∙ not-false _ (c .if2 .left)
-
-abbrev start : tie.Else2 → tie.Start
-start c = c .before .before .before .before
-
-refused-requires : tie.Need-refused-requires
-refused-requires c κs = search needs
-
-returns : tie.Need-returns
-returns c =
-    let t = c .before in
-    let a = t .before .before in
-    c .refused .ensures ∙ check-long (a .args .m) (a .args .k) (now (a .args .s)) (t .if1 .taken)
-
-test-marking-requires : tie.Need-test-marking-requires
-test-marking-requires c κs = search needs
-
-refused-requires-2 : tie.Need-refused-requires-2
-refused-requires-2 c κs = search needs
-
-returns-2 : tie.Need-returns-2
-returns-2 c =
-    let t = c .before in
-    let b = t .before in
-    let a = b .before .before .before in
-    c .refused2 .ensures
-    ∙ check-unheld (a .args .m) (a .args .k) (now (a .args .s)) (b .before .if1 .left) (sym (b .test-marking .ensures) ∙ not-true _ (t .if2 .taken))
-
-weight-lines-requires : tie.Need-weight-lines-requires
-weight-lines-requires c κs = model-held _ _ (both c)
-
-enum-known-ended : tie.Need-enum-known-ended
-enum-known-ended c = search needs
-
-enum-told : tie.Need-enum-told
-enum-told c = search needs
-
-judged-requires : tie.Need-judged-requires
-judged-requires c κs = both (c .before .before .before .before)
-
-returns-3 : tie.Need-returns-3
-returns-3 c =
-    let o = c .before in
-    let l = o .before .before .before in
-    let e = l .before in
-    let a = start e in
-    check-past (a .args .m) (a .args .k) (now (a .args .s)) (e .before .before .if1 .left) (both e) _ (l .weight-lines .ensures) _ (o .enum-told .given .1) _
-    (c .judged .ensures)
-
-fault-answer-requires : tie.Need-fault-answer-requires
-fault-answer-requires c κs = c .before .before .before .before .before .before .before .if1 .left
-
-refused-requires-3 : tie.Need-refused-requires-3
-refused-requires-3 c κs = search needs
-
-returns-4 : tie.Need-returns-4
-returns-4 c =
-    let k = c .before .before in
-    let l = k .before .before .before .before in
-    let e = l .before in
-    let a = start e in
-    c .refused3 .ensures ∙ ap refusedWeights (c .before .fault-answer .ensures)
-    ∙ check-stopped (a .args .m) (a .args .k) (now (a .args .s)) (e .before .before .if1 .left) (both e) _ (l .weight-lines .ensures) _ (k .before .ended .given .1)
+use Rattle.file.proofs.Walks.{makes}
+use Rattle.reader.proofs.Passing.{model, marking}
+use Rattle.weights.specs.Parts.{weightsFrom}
+use Rattle.weights.proofs.CheckLaws.{check-start}
+use Rattle.weights.proofs.Passing.{check}
+use Rattle.weights.proofs.weights_from.Symbol as from
+use Rattle.weights.proofs.weights_from.Met as proved
+use Rattle.weights.proofs.check_weights as call
+use Rattle.weights.proofs.check_weights.Key as key
+use Rattle.weights.proofs.check_weights.Statement.{statement}
+use Rattle.weights.proofs.check_weights.Code as code
 
 pub check-weights-spec : {M : Type 1} → statement M
-check-weights-spec =
-    tie.close
-    (tie.spec
-    refused-requires
-    returns
-    test-marking-requires
-    refused-requires-2
-    returns-2
-    weight-lines-requires
-    enum-known-ended
-    enum-told
-    judged-requires
-    returns-3
-    fault-answer-requires
-    refused-requires-3
-    returns-4)
+unfolding code.routine
+check-weights-spec 𝓤 H 𝓜 𝓖 𝓡 =
+    makes (model ∷ marking ∷ []) check (λ κs. weightsFrom) 𝓤 H 𝓜 𝓖 𝓡 code.env key.name from.name from.routine
+    (call.clauses 𝓤 H (𝓖 .A) (𝓜 .mem) (𝓡 .run)) (λ κs a y r e p. factI 𝓤 _ (emp 𝓤) (p ∙ check-start (a .0) (a .1 .0) (now (a .1 .1 .0))))
+    (code.unfolded 𝓤 H 𝓜 𝓡) code.calls-weights·weights-from (proved.met 𝓤 H 𝓜 𝓖 𝓡)

@@ -1,85 +1,22 @@
--- `step` meets its contract: 1, then 14, then the step on the marking's rows.
-use borrow.Author.Needs.{needs}
+-- `step` meets its contract: it makes a reader of the text and calls `step_from`; at the text's first byte all of it is left.
+use mathlib.Core.List.{[], _∷_}
+use lib.ListN.{drop}
+use base.Logic.{emp}
+use contract.Monad.{factI}
+use Rattle.file.proofs.Walks.{makes}
+use Rattle.reader.proofs.Passing.{model, marking}
+use Rattle.firing.specs.Answers.{stepping}
+use Rattle.firing.proofs.Passing.{stepped}
+use Rattle.firing.proofs.stepping.step_from.Symbol as from
+use Rattle.firing.proofs.stepping.step_from.Met as proved
+use Rattle.firing.proofs.stepping.step as call
+use Rattle.firing.proofs.stepping.step.Key as key
 use Rattle.firing.proofs.stepping.step.Statement.{statement}
-use Rattle.firing.proofs.stepping.step.Tie as tie
-use mathlib.Core.Path.{_≡_, ap, sym, subst, _∙_}
-use mathlib.Core.Bool.{true}
-use borrow.Author.Tests.{not-true, not-false}
-use Rattle.model.specs.Held.{Sized}
-use Rattle.model.specs.declared.Model.{Model}
-use Rattle.model.proofs.TestLaws.{held-is}
-use Rattle.flat.specs.Flat.{modelIn}
-use Rattle.flat.proofs.SizedLaws.{model-sized}
-use Rattle.flat.proofs.FlatLaws.{flat-again}
-use Rattle.reader.specs.Sizes.{sizesIn}
-use Rattle.reader.specs.Answers.{heldBoth}
-use Rattle.firing.specs.Answers.{heldStep}
-use Rattle.reader.proofs.ReadingLaws.{both-model}
-use Rattle.firing.proofs.SizedLaws.{rows-room}
-use Rattle.firing.proofs.StepLaws.{step-long, step-unheld, step-held}
-
--- the two passed the held test
-passed : (c : tie.Else2) → heldBoth (c .before .before .before .before .args .m) (c .before .before .before .before .args .k) ≡ true
-passed c = sym (c .before .test-marking .ensures) ∙ not-false _ (c .if2 .left)
-
--- the model that was laid flat is read there
-again : (f : tie.After-flatten) → modelIn (f .flatten .last .1 .0) ≡ f .before .before .before .before .before .before .before .args .m
-again f =
-    let p = f .before .before .before in
-    let s = p .before .before .before .before in
-    let m = s .args .m in
-    ap modelIn (f .flatten .ensures .1) ∙ flat-again m (model-sized m _ (s .good .0)) (held-is m (both-model m _ (passed p)))
-
-returns : tie.Need-returns
-returns c = step-long _ _ _ (c .if1 .taken)
-
-test-marking-requires : tie.Need-test-marking-requires
-test-marking-requires c κs = search needs
-
-returns-2 : tie.Need-returns-2
-returns-2 c = step-unheld _ _ _ (c .before .before .if1 .left) (sym (c .before .test-marking .ensures) ∙ not-true _ (c .if2 .taken))
-
-flatten-requires : tie.Need-flatten-requires
-flatten-requires c κs = search needs
-
-slice-aggregate-step-on : tie.Need-slice-aggregate-step-on
-slice-aggregate-step-on c = search needs
-
-sizes-requires : tie.Need-sizes-requires
-sizes-requires c κs = both-model _ _ (passed (c .before .before .before .before))
-
-step-on-requires : tie.Need-step-on-requires
-step-on-requires c κs =
-    let z = c .before .before .before in
-    let f = z .before .before in
-    let p = f .before .before .before in
-    let s = p .before .before .before .before in
-    let m = s .args .m in
-    let e = again f in (
-      f .flatten .ensures .0,
-      subst Sized (sym e) (model-sized m _ (s .good .0)),
-      ap (λ (x : Model). heldBoth x (s .args .k)) e ∙ passed p,
-      z .sizes .ensures ∙ ap sizesIn (sym e),
-      p .before .before .if1 .left,
-      rows-room (s .args .k) _ (s .good .1 .0),
-    )
-
-returns-3 : tie.Need-returns-3
-returns-3 c =
-    let f = c .before .before .before .before .before .before in
-    let p = f .before .before .before in
-    let a = p .before .before .before .before .args in
-    c .step-on .ensures ∙ ap (λ (x : Model). heldStep x (a .k) (a .s .now)) (again f) ∙ step-held _ _ _ (p .before .before .if1 .left) (passed p)
+use Rattle.firing.proofs.stepping.step.Code as code
 
 pub step-spec : {M : Type 1} → statement M
-step-spec =
-    tie.close
-    (tie.spec
-    returns
-    test-marking-requires
-    returns-2
-    flatten-requires
-    slice-aggregate-step-on
-    sizes-requires
-    step-on-requires
-    returns-3)
+unfolding code.routine
+step-spec 𝓤 H 𝓜 𝓖 𝓡 =
+    makes (model ∷ marking ∷ []) stepped (λ κs m k s at. stepping m k (drop at s)) 𝓤 H 𝓜 𝓖 𝓡 code.env key.name from.name from.routine
+    (call.clauses 𝓤 H (𝓖 .A) (𝓜 .mem) (𝓡 .run)) (λ κs a y r e p. factI 𝓤 _ (emp 𝓤) p)
+    (code.unfolded 𝓤 H 𝓜 𝓡) code.calls-firing·stepping·step-from (proved.met 𝓤 H 𝓜 𝓖 𝓡)

@@ -1,8 +1,8 @@
 -- `weight_lines` answers what the lines of a weight file say: a case for each line that is refused, one for bytes after the last line, and
 -- one for weights.
 use borrow.Author.Needs.{needs}
-use Rattle.weights.proofs.file.weight_lines.Statement.{statement}
-use Rattle.weights.proofs.file.weight_lines.Tie as tie
+use Rattle.weights.proofs.weightfile.weight_lines.Statement.{statement}
+use Rattle.weights.proofs.weightfile.weight_lines.Tie as tie
 use mathlib.Core.Path.{_≡_, ap, sym, _∙_}
 use Prim.Native.Nat.{_≤_}
 use lib.ListN.{length}
@@ -37,7 +37,7 @@ few c = most-places _ (held-is _ (c .pre))
 
 -- the first line, accepted
 first : (c : tie.After-known-told) → Value (c .before .head .given .0 .0) (c .before .head .given .0 .1 .0)
-    ≡ lineOf (readHead (bytes "inv=") (now (start c .args .s)) 0)
+    ≡ lineOf (readHead (bytes "inv=") (now (start c .args .s)) (start c .args .at))
 first c = sym (c .before .head .given .1) ∙ c .before .before .before .head-line .ensures
 
 slice-aggregate-head-line : tie.Need-slice-aggregate-head-line
@@ -64,7 +64,7 @@ returns c =
     let l = o .before .before in
     let a = l .before .before .before in
     c .no-lines .ensures ∙ ap none (c .before .ended-of .ensures)
-    ∙ head-refused (a .args .m) (long a) (few a) (now (a .args .s)) _ _ (o .enum-told .given .1) (l .head-line .ensures)
+    ∙ head-refused (a .args .m) (long a) (few a) (now (a .args .s)) (a .args .at) _ _ (o .enum-told .given .1) (l .head-line .ensures)
 
 slice-aggregate-weight-line : tie.Need-slice-aggregate-weight-line
 slice-aggregate-weight-line c = search needs
@@ -88,7 +88,7 @@ returns-2 c =
     let p = l .before .before in
     let a = start p in
     c .no-lines2 .ensures
-    ∙ outer-refused (a .args .m) (long a) (few a) (now (a .args .s)) _ _ (first p) _ (l .weight-line .ensures) _ (o .enum-told2 .given .1)
+    ∙ outer-refused (a .args .m) (long a) (few a) (now (a .args .s)) (a .args .at) _ _ (first p) _ (l .weight-line .ensures) _ (o .enum-told2 .given .1)
 
 outer-row-requires : tie.Need-outer-row-requires
 outer-row-requires c κs = search needs
@@ -116,7 +116,7 @@ returns-3 c =
     let p = up q in
     let a = start p in
     c .no-lines3 .ensures
-    ∙ inner-refused (a .args .m) (long a) (few a) (now (a .args .s)) _ _ (first p) _ (l .weight-line .ensures) _ (q .before .e .given .1) _
+    ∙ inner-refused (a .args .m) (long a) (few a) (now (a .args .s)) (a .args .at) _ _ (first p) _ (l .weight-line .ensures) _ (q .before .e .given .1) _
     (i .before .before .outer-row .ensures) _ (i .inner-lines .ensures) _ (o .enum-told3 .given .1)
 
 no-lines-requires-4 : tie.Need-no-lines-requires-4
@@ -132,7 +132,7 @@ returns-4 c =
     let p = up q in
     let a = start p in
     c .no-lines4 .ensures
-    ∙ more-refused (a .args .m) (long a) (few a) (now (a .args .s)) _ _ (first p) _ (l .weight-line .ensures) _ (q .before .e .given .1) _
+    ∙ more-refused (a .args .m) (long a) (few a) (now (a .args .s)) (a .args .at) _ _ (first p) _ (l .weight-line .ensures) _ (q .before .e .given .1) _
     (i .before .before .outer-row .ensures) _ (i .inner-lines .ensures) _ (k .before .f .given .1) (t .if1 .taken)
 
 returns-5 : tie.Need-returns-5
@@ -143,7 +143,7 @@ returns-5 c =
     let l = q .before .before .before in
     let p = up q in
     let a = start p in
-    file-read (a .args .m) (long a) (few a) (now (a .args .s)) _ _ (first p) _ (l .weight-line .ensures) _ (q .before .e .given .1) _
+    file-read (a .args .m) (long a) (few a) (now (a .args .s)) (a .args .at) _ _ (first p) _ (l .weight-line .ensures) _ (q .before .e .given .1) _
     (i .before .before .outer-row .ensures) _ (i .inner-lines .ensures) _ (k .before .f .given .1) (c .if1 .left)
 
 pub weight-lines-spec : {M : Type 1} → statement M

@@ -2,14 +2,13 @@
 ghost use mathlib.Core.Path.{_≡_};
 ghost use mathlib.Core.Bool.{true};
 ghost use Prim.Native.Nat.{_+_, _≤_};
-ghost use lib.ListN.{length, replicate};
+ghost use lib.ListN.{replicate};
 ghost use lib.Seq.{sets};
 ghost use Rattle.text.specs.Repeat.{manyAt};
 ghost use Rattle.model.specs.Held.{modelOf};
 ghost use Rattle.model.specs.Test.{heldModel};
-ghost use Rattle.weights.specs.Reading.{readWeightFile};
 ghost use Rattle.weights.specs.Held.{noWeights};
-ghost use Rattle.weights.specs.Parts.{readNet, innersOf, linesOf};
+ghost use Rattle.weights.specs.Parts.{readNet, innersOf, linesOf, readFrom};
 use super::HeldWeights;
 use super::WeightLines;
 use lines::ended_of;
@@ -17,21 +16,10 @@ use lines::head_line;
 use lists::weight_line;
 use model::Model;
 use model::ObjectNet;
+use tables::counts::put_row;
 use text::Ended;
 use text::Fault;
 use text::Line;
-
-// Lays a row into a table, from `at` on.
-fn put_row(table: &mut [u16], at: usize, values: [u16; 32])
-    requires { ⌜ at + 32 ≤ length (now table) ⌝ }
-    ensures { λ _. ⌜ now (table .exit) ≡ sets (now (table .entry)) at values ⌝ }
-{
-    let mut k = 0;
-    while k < 32 {
-        table[at + k] = values[k];
-        k += 1;
-    }
-}
 
 // No weights, and how the reading ended.
 fn no_lines(ended: Ended) -> WeightLines
@@ -91,12 +79,12 @@ fn outer_row(a: [u16; 32], b: [u16; 32]) -> HeldWeights
     HeldWeights { above, below }
 }
 
-// The lines of the weight file of a held model.
-pub fn weight_lines(m: Model, s: &[u8]) -> WeightLines
+// The lines of the weight file of a held model, from `at` on.
+pub fn weight_lines(m: Model, s: &[u8], at: usize) -> WeightLines
     requires { ⌜ heldModel m ≡ true ⌝ }
-    ensures { λ r. ⌜ r ≡ linesOf (readWeightFile (modelOf m) (now (s .entry))) ⌝ }
+    ensures { λ r. ⌜ r ≡ linesOf (readFrom (modelOf m) (now (s .entry)) at) ⌝ }
 {
-    let head = head_line(s, 0, b"inv=");
+    let head = head_line(s, at, b"inv=");
     let Line::Value { value: _, next: x1 } = head else {
         return no_lines(ended_of(head));
     };

@@ -1,8 +1,8 @@
 -- `inner_lines` holds the weights that are read. The loop's invariant: in each table, what is read from the start and put from the first
 -- net on is what is read from here and put from net i on.
 use borrow.Author.Needs.{needs}
-use Rattle.weights.proofs.file.inner_lines.Statement.{statement}
-use Rattle.weights.proofs.file.inner_lines.Tie as tie
+use Rattle.weights.proofs.weightfile.inner_lines.Statement.{statement}
+use Rattle.weights.proofs.weightfile.inner_lines.Tie as tie
 use Prim.Native.Nat.{_≤_, _-_}
 use mathlib.Core.Path.{_≡_, _∙_}
 use mathlib.Core.List.{[]}

@@ -1,7 +1,7 @@
 -- `outer_row` lays the two parts of the outer weights into their rows.
 use borrow.Author.Needs.{needs}
-use Rattle.weights.proofs.file.outer_row.Statement.{statement}
-use Rattle.weights.proofs.file.outer_row.Tie as tie
+use Rattle.weights.proofs.weightfile.outer_row.Statement.{statement}
+use Rattle.weights.proofs.weightfile.outer_row.Tie as tie
 use mathlib.Core.Path.{ap₂}
 use Prim.Native.Nat.{ℕ}
 use mathlib.Core.List.{List}
