@@ -1,3 +1,5 @@
 pub mod RunLaws
+pub mod TurnLaws
 pub mod TraceLaws
+pub mod Walks
 pub mod Cases

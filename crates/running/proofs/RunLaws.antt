@@ -1,13 +1,10 @@
--- A run's steps are the step calls on what is left of the text, each on the marking that the one before left. And the laws of the loop
--- that makes them.
-use Prim.Native.Nat.{ℕ, zero, suc, _+_, _-_, _≤_, _<_}
-use mathlib.Core.Path.{_≡_, refl, ap, ap₂, sym, subst, _∙_}
-use mathlib.Core.List.{List, [], _∷_}
+-- A run's steps are the step calls on what is left of the text, each on the marking that the one before left.
+use Prim.Native.Nat.{ℕ, zero, suc, _+_, _≤_, _<_}
+use mathlib.Core.Path.{_≡_, refl, ap, sym, subst, _∙_}
+use mathlib.Core.List.{[], _∷_}
 use native.Mathlib.Omega.{arith}
-use native.Mathlib.Nat.{sub-zero}
 use lib.Dec.{leb}
-use lib.ListN.{length, take, drop, length-append, length-drop}
-use lib.Seq.{take-all, drop-drop}
+use lib.ListN.{length, drop, length-append, length-drop}
 use Rattle.scan.specs.Bytes.{Text, bytes}
 use Rattle.scan.proofs.Basics.{by-test}
 use Rattle.text.specs.Lines.{Outcome, got, bad, readHead}
@@ -51,7 +48,7 @@ off-is e = cc
 on≢off : {A : Type 0} {n : ℕ} {a : Stop} → On n ≡ Off a → A
 on≢off e = let z : _≡_ {A = ℕ} 0 1 = cc in absurd (omega arith)
 
-fired-on : {G : Type 0} (a : StepAnswer) (b : Stop) (n : ℕ) → turnOf a ≡ Off b → a ≡ Fired n → G
+pub fired-on : {G : Type 0} (a : StepAnswer) (b : Stop) (n : ℕ) → turnOf a ≡ Off b → a ≡ Fired n → G
 fired-on a b n e f = on≢off (ap turnOf (sym f) ∙ e)
 
 pub turn-off : (a : StepAnswer) (b : Stop) → turnOf a ≡ Off b → stopOf a ≡ b
@@ -169,64 +166,3 @@ run-fuel (suc f) (suc g) m k s n a b =
     ∙ sym (run-fires g m k n s h used e))
     (λ e. run-stops f m k n s h e ∙ sym (run-stops g m k n s h e)))
     (λ h. run-end (suc f) m k n s (omega arith) ∙ sym (run-end (suc g) m k n s (omega arith)))
-
--- ---- the loop
-
--- what is left of a text is its part from a position to the end
-pub rest-left : (s : Text) (at : ℕ) → take (length s - at) (drop at s) ≡ drop at s
-rest-left s at = take-all (length s - at) (drop at s) (omega (arith, length-drop at s))
-
--- so many steps have fired, and the run goes on at `at` from these rows
-pub record Going (m : Model) (k : Marking) (s : Text) (from len : ℕ) (rows : List ℕ) (at fired : ℕ) : Type 0 where
-  pub kept : Keeps m (record { len = len; rows = rows })
-  pub behind : fired ≤ at
-  pub left : runFrom (length s) m k (drop from s) 0 ≡ runFrom (length s - fired) m (record { len = len; rows = rows }) (drop at s) fired
-
-pub going-start : (m : Model) (k : Marking) (s : Text) (from : ℕ) → Keeps m k → Going m k s from (k .len) (k .rows) from 0
-going-start m k s from h = record { kept = h; behind = omega arith; left = rw (sub-zero (length s)) }
-
-module _ (m : Model) (k : Marking) (s : Text) (from len : ℕ) (rows : List ℕ) (at fired : ℕ) (g : Going m k s from len rows at fired) where
-  -- the text is at its end
-  pub going-done : length s ≤ at → ran fired stop.AtEnd (record { len = len; rows = rows }) ≡ runFrom (length s) m k (drop from s) 0
-  going-done h = sym (g .left ∙ run-end (length s - fired) m _ fired (drop at s) (omega (arith, length-drop at s)))
-
-  module _ (more : at < length s) (r : Stepped) (is : r ≡ heldStep m (record { len = len; rows = rows }) (take (length s - at) (drop at s))) where
-    abbrev now : Marking
-    now = record { len = len; rows = rows }
-
-    said : r ≡ heldStep m now (drop at s)
-    said = is ∙ ap (heldStep m now) (rest-left s at)
-
-    some-left : 0 < length (drop at s)
-    some-left = omega (arith, length-drop at s)
-
-    fuel-is : length s - fired ≡ suc (length s - (fired + 1))
-    fuel-is = omega (arith, g .behind)
-
-    -- a step fires
-    pub going-uses : (used : ℕ) → turnOf (r .answer) ≡ On used → (1 ≤ used) × (at + used ≤ length s)
-    going-uses used e =
-        let u = fired-uses m now (drop at s) used (ap (λ (r : Stepped). r .answer) (sym said) ∙ turn-on (r .answer) used e) in
-        (u .some-byte, omega (arith, u .within, length-drop at s))
-
-    pub going-turn : (used : ℕ) → turnOf (r .answer) ≡ On used → Going m k s from (r .marking .len) (r .marking .rows) (at + used) (fired + 1)
-    going-turn used e =
-        let u = going-uses used e in
-        let f = ap (λ (r : Stepped). r .answer) (sym said) ∙ turn-on (r .answer) used e in
-        record {
-          kept = subst (λ (r : Stepped). Keeps m (r .marking)) (sym said) (step-keeps m now (g .kept) (drop at s));
-          behind = omega (arith, g .behind, u .0);
-          left = g .left ∙ ap (λ (i : ℕ). runFrom i m now (drop at s) fired) fuel-is
-              ∙ run-fires (length s - (fired + 1)) m now fired (drop at s) some-left used f
-              ∙ ap₂ (λ (r : Stepped) (l : Text). runFrom (length s - (fired + 1)) m (r .marking) l (fired + 1)) (sym said) (drop-drop used at s);
-        }
-
-    -- a step is turned down
-    pub going-stop : (b : Stop) → turnOf (r .answer) ≡ Off b → ran fired b (r .marking) ≡ runFrom (length s) m k (drop from s) 0
-    going-stop b e =
-        let f = turn-off (r .answer) b e in
-        sym (g .left ∙ ap (λ (i : ℕ). runFrom i m now (drop at s) fired) fuel-is
-        ∙ run-stops (length s - (fired + 1)) m now fired (drop at s) some-left
-        (λ n h. fired-on (r .answer) b n e (ap (λ (r : Stepped). r .answer) said ∙ h))
-        ∙ ap (λ (r : Stepped). ran fired (stopOf (r .answer)) (r .marking)) (sym said)
-        ∙ ap (λ (a : Stop). ran fired a (r .marking)) f)

@@ -7,8 +7,9 @@ ghost use Rattle.model.specs.Held.{Sized};
 ghost use Rattle.flat.specs.Flat.{modelIn};
 ghost use Rattle.reader.specs.Sizes.{sizesIn};
 ghost use Rattle.reader.specs.Answers.{longest, heldBoth};
-ghost use Rattle.running.specs.Parts.{turnOf, stopIn};
+ghost use Rattle.running.specs.Parts.{turnOf, Fits, progressOf, Ready, turnAt, reached};
 ghost use Rattle.running.specs.Running.{ran, runFrom, running};
+use file::Reader;
 use firing::StepAnswer;
 use firing::lent::step_on;
 use flat::flatten;
@@ -41,6 +42,15 @@ pub enum Turn {
     Off { stop: Stop },
 }
 
+// How far a run has come: whether it goes on, the place in the text, how many steps fired, the length of the marking, and what stopped it.
+pub struct Progress {
+    pub on: bool,
+    pub at: usize,
+    pub fired: usize,
+    pub len: usize,
+    pub stop: Stop,
+}
+
 // Whether a run goes on after a step's answer.
 fn turn_of(answer: StepAnswer) -> Turn
     ensures { λ r. ⌜ r ≡ turnOf answer ⌝ }
@@ -62,14 +72,91 @@ fn turn_of(answer: StepAnswer) -> Turn
     }
 }
 
-// What stopped a run that goes no further.
-fn stop_of(turn: Turn) -> Stop
-    ensures { λ r. ⌜ r ≡ stopIn turn ⌝ }
+// How far a run at `at` has come after its next turn, where `fired` steps fired before.
+fn progress_of(at: usize, fired: usize, len: usize, turn: Turn) -> Progress
+    requires { ⌜ Fits at fired turn ⌝ }
+    ensures { λ r. ⌜ r ≡ progressOf at fired len turn ⌝ }
 {
     match turn {
-        Turn::On { bytes: _ } => Stop::AtEnd,
-        Turn::Off { stop } => stop,
+        Turn::On { bytes } => Progress {
+            on: true,
+            at: at + bytes,
+            fired: fired + 1,
+            len,
+            stop: Stop::AtEnd,
+        },
+        Turn::Off { stop } => Progress {
+            on: false,
+            at,
+            fired,
+            len,
+            stop,
+        },
     }
+}
+
+// One turn of a run at `at`: at the end of the text it stops; else the next step is tried, and the run goes on behind its bytes or stops.
+fn turn_at<'s>(
+    plan: &[u8],
+    sizes: [u8; 32],
+    rows: &'s mut [u16; 8448],
+    taken: &'s mut [u16; 8448],
+    given: &'s mut [u16; 8448],
+    s: &[u8],
+    at: usize,
+    p: Progress,
+) -> Progress
+    requires { ⌜ Ready (now plan) sizes (now s) at (record { far = p; rows = now rows }) ⌝ }
+    ensures { λ r. ⌜ record { far = r; rows = now (rows .exit) }
+        ≡ turnAt (modelIn (now (plan .entry))) (now (s .entry)) at (record { far = p; rows = now (rows .entry) }) ⌝ }
+{
+    if s.len() <= at {
+        let end = Turn::Off { stop: Stop::AtEnd };
+        return progress_of(at, p.fired, p.len, end);
+    }
+    let end = step_on(plan, sizes, rows, p.len, &s[at..], taken, given);
+    let answer = end.answer;
+    progress_of(at, p.fired, end.len, turn_of(answer))
+}
+
+// The turn at the place of a reader.
+fn turn_from<'s, 'a>(
+    plan: &[u8],
+    sizes: [u8; 32],
+    rows: &'s mut [u16; 8448],
+    taken: &'s mut [u16; 8448],
+    given: &'s mut [u16; 8448],
+    r: Reader<'a>,
+    p: Progress,
+) -> Progress
+    requires { ⌜ Ready (now plan) sizes (now (r .src)) (r .at) (record { far = p; rows = now rows }) ⌝ }
+    ensures { λ t. ⌜ record { far = t; rows = now (rows .exit) }
+        ≡ turnAt (modelIn (now (plan .entry))) (now (r .entry .src)) (r .entry .at) (record { far = p; rows = now (rows .entry) }) ⌝ }
+{
+    turn_at(plan, sizes, rows, taken, given, r.src, r.at, p)
+}
+
+// The turns of a run that has just begun, up to its stop: the reader is moved from step to step by the bytes used.
+fn steps_at(
+    plan: &[u8],
+    sizes: [u8; 32],
+    rows: &mut [u16; 8448],
+    taken: &mut [u16; 8448],
+    given: &mut [u16; 8448],
+    s: &[u8],
+    from: Progress,
+) -> Progress
+    requires { ⌜ Ready (now plan) sizes (now s) (from .at) (record { far = from; rows = now rows }) × (from .on ≡ true) × (from .fired ≡ 0) ⌝ }
+    ensures { λ r. ⌜ reached (record { far = r; rows = now (rows .exit) })
+        ≡ runFrom (length (now (s .entry))) (modelIn (now (plan .entry))) (record { len = from .len; rows = now (rows .entry) }) (drop (from .at) (now (s .entry))) 0 ⌝ }
+{
+    let mut p = from;
+    let mut r = Reader { src: s, at: p.at };
+    while p.on {
+        p = turn_from(plan, sizes, rows, taken, given, r, p);
+        r = r.moved(p.at);
+    }
+    p
 }
 
 // The steps from `from` to the end of the text or the first stop, on a held marking of a held model that is laid flat.
@@ -81,36 +168,19 @@ fn run_from(plan: &[u8], sizes: [u8; 32], k: Marking, s: &[u8], from: usize) -> 
     let mut rows = k.rows;
     let mut taken = [0u16; 8448];
     let mut given = [0u16; 8448];
-    let mut len = k.len;
-    let mut at = from;
-    let mut fired = 0;
-    while at < s.len() {
-        let end = step_on(
-            plan,
-            sizes,
-            &mut rows,
-            len,
-            &s[at..],
-            &mut taken,
-            &mut given,
-        );
-        let answer = end.answer;
-        let turn = turn_of(answer);
-        len = end.len;
-        let Turn::On { bytes } = turn else {
-            return Ran {
-                fired,
-                stop: stop_of(turn),
-                marking: Marking { len, rows },
-            };
-        };
-        at += bytes;
-        fired += 1;
-    }
-    Ran {
-        fired,
+    let p = Progress {
+        on: true,
+        at: from,
+        fired: 0,
+        len: k.len,
         stop: Stop::AtEnd,
-        marking: Marking { len, rows },
+    };
+    let end = steps_at(plan, sizes, &mut rows, &mut taken, &mut given, s, p);
+    let stop = end.stop;
+    Ran {
+        fired: end.fired,
+        stop,
+        marking: Marking { len: end.len, rows },
     }
 }
 
