@@ -3,3 +3,4 @@ pub mod TurnLaws
 pub mod TraceLaws
 pub mod Walks
 pub mod Cases
+pub mod Passing

@@ -10,6 +10,7 @@ ghost use Rattle.reader.specs.Answers.{longest, heldBoth};
 ghost use Rattle.running.specs.Parts.{turnOf, Fits, progressOf, Ready, turnAt, reached};
 ghost use Rattle.running.specs.Running.{ran, runFrom, running};
 use file::Reader;
+use file::left;
 use firing::StepAnswer;
 use firing::lent::step_on;
 use flat::flatten;
@@ -160,7 +161,7 @@ fn steps_at(
 }
 
 // The steps from `from` to the end of the text or the first stop, on a held marking of a held model that is laid flat.
-fn run_from(plan: &[u8], sizes: [u8; 32], k: Marking, s: &[u8], from: usize) -> Ran
+fn steps_of(plan: &[u8], sizes: [u8; 32], k: Marking, s: &[u8], from: usize) -> Ran
     requires { ⌜ (length (now plan) ≡ 34996) × Sized (modelIn (now plan)) × (heldBoth (modelIn (now plan)) k ≡ true)
         × (sizes ≡ sizesIn (modelIn (now plan))) × (length (now s) ≤ longest) ⌝ }
     ensures { λ r. ⌜ r ≡ runFrom (length (now (s .entry))) (modelIn (now (plan .entry))) k (drop from (now (s .entry))) 0 ⌝ }
@@ -195,21 +196,36 @@ pub fn refused(stop: Stop, k: Marking) -> Ran
     }
 }
 
-// The run over a trace: the header, then steps, tried on a marking of a model.
-pub fn run(m: Model, k: Marking, s: &[u8]) -> Ran
-    ensures { λ r. ⌜ r ≡ running m k (now (s .entry)) ⌝ }
+// The run over the trace that stands at `at`: the header, then steps, tried on a marking of a model.
+fn run_at(m: Model, k: Marking, s: &[u8], at: usize) -> Ran
+    ensures { λ r. ⌜ r ≡ running m k (drop at (now (s .entry))) ⌝ }
 {
-    if Model::LONGEST < s.len() {
+    let rest = left(s, at);
+    if Model::LONGEST < rest.len() {
         return refused(Stop::TooLong, k);
     }
     if !test_marking(m, k) {
         return refused(Stop::NotHeld, k);
     }
-    let head = head_line(s, 0, b"run=");
+    let head = head_line(rest, 0, b"run=");
     let Line::Value { value: _, next } = head else {
         return refused(Stop::Faulty { why: 2, line: 1 }, k);
     };
     let mut plan = [0u8; 34996];
     flatten(m, &mut plan);
-    run_from(&plan, sizes(m), k, s, next)
+    steps_of(&plan, sizes(m), k, rest, next)
+}
+
+// The run over the trace that stands at the place that the reader has reached.
+fn run_from<'a>(m: Model, k: Marking, r: Reader<'a>) -> Ran
+    ensures { λ o. ⌜ o ≡ running m k (drop (r .entry .at) (now (r .entry .src))) ⌝ }
+{
+    run_at(m, k, r.src, r.at)
+}
+
+// The run over a trace: the header, then steps, tried on a marking of a model.
+pub fn run(m: Model, k: Marking, s: &[u8]) -> Ran
+    ensures { λ r. ⌜ r ≡ running m k (now (s .entry)) ⌝ }
+{
+    run_from(m, k, Reader { src: s, at: 0 })
 }

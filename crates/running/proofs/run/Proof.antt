@@ -1,128 +1,22 @@
--- `run` meets its contract: 1, then 14, then the header, then the steps.
-use borrow.Author.Needs.{needs}
+-- `run` meets its contract: it makes the reader of the trace and calls `run_from`.
+use mathlib.Core.List.{[], _∷_}
+use lib.ListN.{drop}
+use base.Logic.{emp}
+use contract.Monad.{factI}
+use Rattle.file.proofs.Walks.{makes}
+use Rattle.reader.proofs.Passing.{model, marking}
+use Rattle.running.specs.Running.{running}
+use Rattle.running.proofs.Passing.{ran}
+use Rattle.running.proofs.run_from.Symbol as from
+use Rattle.running.proofs.run_from.Met as proved
+use Rattle.running.proofs.run as call
+use Rattle.running.proofs.run.Key as key
 use Rattle.running.proofs.run.Statement.{statement}
-use Rattle.running.proofs.run.Tie as tie
-use mathlib.Core.Path.{_≡_, ap, sym, subst, _∙_}
-use mathlib.Core.Bool.{true}
-use lib.ListN.{length, drop}
-use borrow.Author.Tests.{not-true, not-false}
-use Rattle.encoding.proofs.Loops.{line-got, line-bad}
-use Rattle.model.specs.Held.{Sized}
-use Rattle.model.specs.declared.Model.{Model}
-use Rattle.model.proofs.TestLaws.{held-is}
-use Rattle.flat.specs.Flat.{modelIn}
-use Rattle.flat.proofs.SizedLaws.{model-sized}
-use Rattle.flat.proofs.FlatLaws.{flat-again}
-use Rattle.reader.specs.Sizes.{sizesIn}
-use Rattle.reader.specs.Answers.{heldBoth}
-use Rattle.reader.proofs.ReadingLaws.{both-model}
-use Rattle.running.specs.Running.{runFrom}
-use Rattle.running.proofs.TraceLaws.{trace-long, trace-unheld, trace-unheaded, trace-headed}
-
--- the two passed the held test
-passed : (c : tie.Else2) → heldBoth (c .before .before .before .before .args .m) (c .before .before .before .before .args .k) ≡ true
-passed c = sym (c .before .test-marking .ensures) ∙ not-false _ (c .if2 .left)
-
-refused-requires : tie.Need-refused-requires
-refused-requires c κs = search needs
-
-returns : tie.Need-returns
-returns c = c .refused .ensures ∙ trace-long _ _ _ (c .before .if1 .taken)
-
-test-marking-requires : tie.Need-test-marking-requires
-test-marking-requires c κs = search needs
-
-refused-requires-2 : tie.Need-refused-requires-2
-refused-requires-2 c κs = search needs
-
-returns-2 : tie.Need-returns-2
-returns-2 c =
-    let t = c .before in
-    c .refused2 .ensures ∙ trace-unheld _ _ _ (t .before .before .if1 .left) (sym (t .before .test-marking .ensures) ∙ not-true _ (t .if2 .taken))
-
-slice-aggregate-head-line : tie.Need-slice-aggregate-head-line
-slice-aggregate-head-line c = search needs
-
-head-line-requires : tie.Need-head-line-requires
-head-line-requires c κs = search needs
-
-enum-known-head : tie.Need-enum-known-head
-enum-known-head c = search needs
-
-enum-told : tie.Need-enum-told
-enum-told c = search needs
-
-refused-requires-3 : tie.Need-refused-requires-3
-refused-requires-3 c κs = search needs
-
-returns-3 : tie.Need-returns-3
-returns-3 c =
-    let t = c .before in
-    let h = t .before .before in
-    let p = h .before .before in
-    c .refused3 .ensures
-    ∙ trace-unheaded _ _ _ (p .before .before .if1 .left) (passed p) _ (line-bad _ _ (sym (t .enum-told .given .1) ∙ h .head-line .ensures))
-
--- the model that was laid flat is read there
-again : (f : tie.After-flatten) →
-    let p = f .before .before .before .before .before .before .before in
-    modelIn (f .flatten .last .1 .0) ≡ p .before .before .before .before .args .m
-again f =
-    let p = f .before .before .before .before .before .before .before in
-    let s = p .before .before .before .before in
-    let m = s .args .m in
-    ap modelIn (f .flatten .ensures .1) ∙ flat-again m (model-sized m _ (s .good .0)) (held-is m (both-model m _ (passed p)))
-
-flatten-requires : tie.Need-flatten-requires
-flatten-requires c κs = search needs
-
-slice-aggregate-run-from : tie.Need-slice-aggregate-run-from
-slice-aggregate-run-from c = search needs
-
-sizes-requires : tie.Need-sizes-requires
-sizes-requires c κs = both-model _ _ (passed (c .before .before .before .before .before .before .before .before))
-
-run-from-requires : tie.Need-run-from-requires
-run-from-requires c κs =
-    let f = c .before .before in
-    let p = f .before .before .before .before .before .before .before in
-    let s = p .before .before .before .before in
-    let e = again f in (
-      f .flatten .ensures .0,
-      subst Sized (sym e) (model-sized (s .args .m) _ (s .good .0)),
-      ap (λ (x : Model). heldBoth x (s .args .k)) e ∙ passed p,
-      c .sizes .ensures ∙ ap sizesIn (sym e),
-      p .before .before .if1 .left,
-    )
-
-returns-4 : tie.Need-returns-4
-returns-4 c =
-    let f = c .before .before .before in
-    let d = f .before .before .before in
-    let h = d .before .before in
-    let p = h .before .before in
-    let a = p .before .before .before .before .args in
-    let next = d .head .given .0 .1 .0 in
-    c .run-from .ensures ∙ ap (λ (x : Model). runFrom (length (a .s .now)) x (a .k) (drop next (a .s .now)) 0) (again f)
-    ∙ trace-headed _ _ _ (p .before .before .if1 .left) (passed p) _ _ (line-got _ _ _ (sym (d .head .given .1) ∙ h .head-line .ensures))
+use Rattle.running.proofs.run.Code as code
 
 pub run-spec : {M : Type 1} → statement M
-run-spec =
-    tie.close
-    (tie.spec
-    refused-requires
-    returns
-    test-marking-requires
-    refused-requires-2
-    returns-2
-    slice-aggregate-head-line
-    head-line-requires
-    enum-known-head
-    enum-told
-    refused-requires-3
-    returns-3
-    flatten-requires
-    slice-aggregate-run-from
-    sizes-requires
-    run-from-requires
-    returns-4)
+unfolding code.routine
+run-spec 𝓤 H 𝓜 𝓖 𝓡 =
+    makes (model ∷ marking ∷ []) ran (λ κs m k s at. running m k (drop at s)) 𝓤 H 𝓜 𝓖 𝓡 code.env key.name from.name from.routine
+    (call.clauses 𝓤 H (𝓖 .A) (𝓜 .mem) (𝓡 .run)) (λ κs a y r e p. factI 𝓤 _ (emp 𝓤) p)
+    (code.unfolded 𝓤 H 𝓜 𝓡) code.calls-running·run-from (proved.met 𝓤 H 𝓜 𝓖 𝓡)
