@@ -3,10 +3,9 @@ use Prim.Native.Nat.{ℕ, _+_, _-_, _≤_, _<_}
 use mathlib.Core.Path.{_≡_, ap, sym, _∙_}
 use mathlib.Core.List.{List, _++_}
 use mathlib.Core.Bool.{true, false}
-use native.Mathlib.Numerals.{add-one}
 use lib.ListN.{length, take}
 use borrow.Author.Tests.{le-leb, lt-leb}
-use Rattle.scan.specs.Bytes.{Text, newlines}
+use Rattle.scan.specs.Bytes.{Text}
 use Rattle.scan.proofs.Basics.{and-true}
 use Rattle.text.specs.Lines.{Outcome, bad}
 use Rattle.text.specs.declared.Fault.{Fault}
@@ -34,16 +33,12 @@ use Rattle.steps.specs.declared.StepLines.{StepLines}
 use Rattle.verdict.specs.declared.Verdict.{Verdict}
 use Rattle.verdict.specs.declared.Verdict.the-variants as verdict
 use Rattle.verdict.specs.Verdict.{causesIn, verdictOf}
-use Rattle.firing.specs.declared.StepAnswer.the-variants.{Fired, TooLong, NotHeld, Faulty, Turned}
+use Rattle.firing.specs.declared.StepAnswer.the-variants.{Fired, TooLong, NotHeld, Turned}
 use Rattle.firing.specs.Answers.{readThen, tried, stays, stepped, heldStep, whereHeld, stepping}
 use Rattle.firing.specs.Parts.{answered, ruled}
 use Rattle.firing.proofs.StandsLaws.{Stands, held-stands}
 use Rattle.firing.proofs.ReadLaws.{ReadRows}
 use Rattle.firing.proofs.RuledLaws.{read-right, ruled-same}
-
--- a fault is answered by its line
-pub fault-line : (s : Text) (x : Ended) (d : Fault) (n : ℕ) → x ≡ Stopped d → n ≡ newlines (take (d .at) s) → Faulty (d .why) (n + 1) ≡ answered s x
-fault-line s x d n e h = rw (e, h, add-one (newlines (take (d .at) s)))
 
 -- ---- a step that was judged
 

@@ -1,10 +1,10 @@
 -- What the step call answers and leaves of the marking, for every input; and the numbers of 01's table for each answer.
-use Prim.Native.Nat.{ℕ, suc}
+use Prim.Native.Nat.{ℕ}
 use mathlib.Core.Bool.{Bool, true, false}
 use mathlib.Core.Option.{Option, none, some}
 use lib.Dec.{leb}
-use lib.ListN.{length, take}
-use Rattle.scan.specs.Bytes.{Text, newlines}
+use lib.ListN.{length}
+use Rattle.scan.specs.Bytes.{Text, lineAt}
 use Rattle.text.specs.Lines.{Outcome, got, bad}
 use Rattle.eos.specs.Model as eos
 use Rattle.eos.specs.Firing.{Step, after}
@@ -50,7 +50,7 @@ judged μ t next (some r) = stops (Turned (r .number) (r .beside))
 -- line by line 2 and 3, lines counted from the step's own `fire` line, which begins the text; then 8 to 12
 unfoldable pub readThen : eos.Model → eos.Marking → Text → Outcome Step → Tried
 readThen m μ s (got t next) = judged μ t next (refusal 256 m t μ)
-readThen m μ s (bad e) = stops (Faulty (e .why) (suc (newlines (take (e .at) s))))
+readThen m μ s (bad e) = stops (Faulty (e .why) (lineAt s (e .at)))
 
 unfoldable pub tried : eos.Model → Sizes → eos.Marking → Text → Tried
 tried m z μ s = readThen m μ s (readStep bounds z (length (m .events)) s 0)

@@ -1,8 +1,8 @@
 -- What the parts of this crate's code answer.
-use Prim.Native.Nat.{ℕ, suc, _+_, _-_}
+use Prim.Native.Nat.{ℕ, _+_, _-_}
 use mathlib.Core.List.{List, _++_}
-use lib.ListN.{length, take}
-use Rattle.scan.specs.Bytes.{Text, newlines}
+use lib.ListN.{length}
+use Rattle.scan.specs.Bytes.{Text, lineAt}
 use Rattle.text.specs.declared.Ended.{Ended}
 use Rattle.text.specs.declared.Ended.the-variants.{Past, Stopped}
 use Rattle.eos.specs.Vector.{eqV, lexV}
@@ -16,10 +16,10 @@ use Rattle.firing.specs.declared.StepAnswer.the-variants.{Fired, Faulty,
 use Rattle.firing.specs.declared.Stepped.{Stepped}
 use Rattle.firing.specs.Answers.{stays}
 
--- how the reading of a step's lines ended; asked of a fault only
+-- how the reading of a step's lines ended: up to a position, or at a fault, which is named by its line
 abbrev pub answered : Text → Ended → StepAnswer
-answered s (Past next) = Fired 0
-answered s (Stopped e) = Faulty (e .why) (suc (newlines (take (e .at) s)))
+answered s (Past next) = Fired next
+answered s (Stopped e) = Faulty (e .why) (lineAt s (e .at))
 
 -- the rows of a marking changed by those taken and given
 abbrev pub changed : Marking → List Row → List Row → Marking

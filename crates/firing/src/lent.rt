@@ -18,7 +18,7 @@ use super::StepAnswer;
 use super::StepEnd;
 use changing::change;
 use judging::verdict;
-use scan::lines_before;
+use scan::line_at;
 use sides::rule_of;
 use steplines::read_step;
 use text::Ended;
@@ -26,16 +26,14 @@ use verdict::Verdict;
 
 // The answer for how the lines of a step ended: a fault is named by its line.
 fn answer_of(s: &[u8], ended: Ended) -> StepAnswer
-    requires { ⌜ length (now s) ≤ longest ⌝ }
     ensures { λ r. ⌜ r ≡ answered (now (s .entry)) ended ⌝ }
 {
-    let Ended::Stopped { fault } = ended else {
-        return StepAnswer::Fired { bytes: 0 };
-    };
-    let line = lines_before(s, fault.at) + 1;
-    StepAnswer::Faulty {
-        why: fault.why,
-        line,
+    match ended {
+        Ended::Past { next } => StepAnswer::Fired { bytes: next },
+        Ended::Stopped { fault } => StepAnswer::Faulty {
+            why: fault.why,
+            line: line_at(s, fault.at),
+        },
     }
 }
 

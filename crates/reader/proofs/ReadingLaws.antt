@@ -1,19 +1,16 @@
 -- What the readings answer, by how their parts ended.
-use Prim.Native.Nat.{ℕ, _+_, _≤_, _<_}
+use Prim.Native.Nat.{ℕ, _≤_, _<_}
 use mathlib.Core.Path.{_≡_, refl, ap, ap₂, sym, _∙_}
-use mathlib.Core.List.{List, [], _∷_}
+use mathlib.Core.List.{List}
 use mathlib.Core.Bool.{Bool, true, false}
-use native.Mathlib.Omega.{arith}
-use native.Mathlib.Numerals.{add-one}
-use lib.Dec.{leb, eqb}
-use lib.ListN.{length, take, length-take}
+use lib.Dec.{leb}
+use lib.ListN.{length}
 use borrow.Author.Tests.{le-leb, lt-leb}
-use Rattle.scan.specs.Bytes.{Text, bytes, lf, newlines}
+use Rattle.scan.specs.Bytes.{Text, bytes}
 use Rattle.scan.proofs.Basics.{by-test, and-true}
 use Rattle.text.specs.Lines.{Outcome, got, bad, then, need, fault}
 use Rattle.text.specs.Answers.{endedOf, keptOr}
 use Rattle.text.specs.declared.Fault.{Fault}
-use Rattle.text.specs.declared.Ended.{Ended}
 use Rattle.text.specs.declared.Ended.the-variants.{Past, Stopped}
 use Rattle.encoding.proofs.Loops.{Got, got-of, bad-of}
 use Rattle.eos.specs.Model as eos
@@ -33,27 +30,12 @@ use Rattle.marking.specs.declared.Marking.{Marking}
 use Rattle.marking.specs.declared.Block.{Block}
 use Rattle.reader.specs.Reading.{bounds, Loaded, readEnd, readTokens, readLines, readModel, readMarking}
 use Rattle.reader.specs.Sizes.{sizesIn, sizesFor}
-use Rattle.reader.specs.Parts.{answerOf, modelFrom, heldFrom, markingFrom}
+use Rattle.reader.specs.Parts.{modelFrom, heldFrom, markingFrom}
 use Rattle.reader.specs.Answers.{longest, faulty, noReading, loaded, modelReading, noTokens, restored, forHeld, markingReading, heldBoth}
-use Rattle.reader.specs.declared.ReadAnswer.the-variants.{Accepted, TooLong, NotHeld, Faulty}
+use Rattle.reader.specs.declared.ReadAnswer.the-variants.{Accepted, TooLong, NotHeld}
 use Rattle.reader.specs.declared.ModelReading.{ModelReading}
 use Rattle.reader.specs.declared.MarkingReading.{MarkingReading}
 use Rattle.reader.proofs.SizeLaws.{held-roomy, sizes-same}
-
--- ---- lines
-
-newlines-few : (s : Text) → newlines s ≤ length s
-unfolding newlines
-newlines-few [] = omega arith
-newlines-few (b ∷ s) = by-test (eqb b lf) (λ h. rw (h, newlines) (omega (arith, newlines-few s))) (λ h. rw (h, newlines) (omega (arith, newlines-few s)))
-
--- no more lines end before a position than the text has bytes
-pub lines-few : (s : Text) (at : ℕ) → newlines (take at s) ≤ length s
-lines-few s at = omega (arith, newlines-few (take at s), length-take at s)
-
--- a fault is answered by its line
-pub fault-line : (s : Text) (x : Ended) (d : Fault) (n : ℕ) → x ≡ Stopped d → n ≡ newlines (take (d .at) s) → Faulty (d .why) (n + 1) ≡ answerOf s x
-fault-line s x d n e h = rw (e, h, add-one (newlines (take (d .at) s)))
 
 -- ---- net-tokens, by what the code has of them
 module _ (o : Outcome eos.Marking) (b : Block) (is : b ≡ blockOf o) where

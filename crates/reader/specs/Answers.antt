@@ -1,10 +1,10 @@
 -- What the calls of this crate answer and leave in lent memory, for every input; and the numbers of 01's table for each answer.
-use Prim.Native.Nat.{ℕ, suc}
+use Prim.Native.Nat.{ℕ}
 use mathlib.Core.Bool.{Bool, true, false, _&&_}
 use mathlib.Core.List.{List}
 use lib.Dec.{leb}
-use lib.ListN.{length, take}
-use Rattle.scan.specs.Bytes.{Text, newlines}
+use lib.ListN.{length}
+use Rattle.scan.specs.Bytes.{Text, lineAt}
 use Rattle.text.specs.Lines.{Outcome, got, bad}
 use Rattle.text.specs.declared.Fault.{Fault}
 use Rattle.eos.specs.Model as eos
@@ -49,9 +49,9 @@ writePair (TooSmall n) = pair 13 n
 abbrev pub longest : ℕ
 longest = 1048576
 
--- a fault as its line: the lines before it are counted
+-- a fault as its line
 abbrev pub faulty : Text → Fault → ReadAnswer
-faulty s e = Faulty (e .why) (suc (newlines (take (e .at) s)))
+faulty s e = Faulty (e .why) (lineAt s (e .at))
 
 abbrev pub noReading : ReadAnswer → ModelReading
 noReading a = record { answer = a; model = noModel; start = noMarking }

@@ -1,13 +1,11 @@
 // The Reader level: a model is read and tested, a marking is read for a held model, tested and written.
 ghost use mathlib.Core.Path.{_≡_};
-ghost use Prim.Native.Nat.{_≤_};
-ghost use lib.ListN.{length};
 ghost use Rattle.model.specs.Test.{heldModel};
 ghost use Rattle.marking.specs.Held.{sizesAt, Roomy};
 ghost use Rattle.marking.specs.Answers.{blockOf};
 ghost use Rattle.reader.specs.Reading.{readTokens};
 ghost use Rattle.reader.specs.Parts.{answerOf, modelFrom, markingFrom};
-ghost use Rattle.reader.specs.Answers.{longest, noReading, modelReading, noTokens, markingReading, heldBoth, writtenAs, markingWriting};
+ghost use Rattle.reader.specs.Answers.{noReading, modelReading, noTokens, markingReading, heldBoth, writtenAs, markingWriting};
 use blocks::block_at;
 use file::Reader;
 use marking::Block;
@@ -15,7 +13,7 @@ use marking::Marking;
 use marking::Wrote;
 use model::Model;
 use plantreader::read_plant;
-use scan::lines_before;
+use scan::line_at;
 use sizes::sizes;
 use text::Ended;
 use text::Fault;
@@ -53,16 +51,14 @@ pub enum WriteAnswer {
 
 // The answer for how the lines of a text ended: a fault is named by its line.
 fn answer_of(s: &[u8], ended: Ended) -> ReadAnswer
-    requires { ⌜ length (now s) ≤ longest ⌝ }
     ensures { λ r. ⌜ r ≡ answerOf (now (s .entry)) ended ⌝ }
 {
     let Ended::Stopped { fault } = ended else {
         return ReadAnswer::Accepted;
     };
-    let line = lines_before(s, fault.at) + 1;
     ReadAnswer::Faulty {
         why: fault.why,
-        line,
+        line: line_at(s, fault.at),
     }
 }
 

@@ -9,7 +9,7 @@ use lib.Dec.{eqb}
 use borrow.Author.Tests.{eq-eqb, ne-eqb}
 use lib.ListN.{length, take, drop, getD, drop-of-length-le, length-drop}
 use lib.Seq.{drop-cons, getD-drop, take-suc, take-all}
-use Rattle.scan.specs.Bytes.{Text, lf, starts, newlines}
+use Rattle.scan.specs.Bytes.{Text, lf, starts, newlines, lineAt}
 use Rattle.scan.proofs.Basics.{by-test}
 
 -- ---- a key
@@ -71,16 +71,16 @@ unfolding newlines
 lines-other [] b e = rw (ne-eqb b lf e, newlines)
 lines-other (c ∷ s) b e = lines-cons c s (s ++ (b ∷ [])) 0 (lines-other s b e)
 
-pub lines-none : (s : Text) → newlines (take 0 s) ≡ 0
+pub line-first : (s : Text) → 1 ≡ lineAt s 0
 unfolding newlines
-lines-none s = refl
+line-first s = refl
 
 module _ (s : Text) (i : ℕ) (h : i < length s) where
-  pub lines-more : getD s i 0 ≡ lf → newlines (take (i + 1) s) ≡ newlines (take i s) + 1
-  lines-more e = rw (add-one i, take-suc s i 0 h) (lines-end (take i s) (getD s i 0) e)
+  pub line-more : getD s i 0 ≡ lf → lineAt s i + 1 ≡ lineAt s (i + 1)
+  line-more e = let z = lines-end (take i s) (getD s i 0) e in rw (add-one i, take-suc s i 0 h) (omega (arith, z))
 
-  pub lines-same : (getD s i 0 ≡ lf → ⊥) → newlines (take (i + 1) s) ≡ newlines (take i s)
-  lines-same e = let z = lines-other (take i s) (getD s i 0) e in rw (add-one i, take-suc s i 0 h) (omega arith)
+  pub line-same : (getD s i 0 ≡ lf → ⊥) → lineAt s i ≡ lineAt s (i + 1)
+  line-same e = let z = lines-other (take i s) (getD s i 0) e in rw (add-one i, take-suc s i 0 h) (omega (arith, z))
 
-pub lines-all : (s : Text) (i at : ℕ) → length s ≤ i → i ≤ at → newlines (take at s) ≡ newlines (take i s)
-lines-all s i at h k = rw (take-all at s (omega arith), take-all i s h)
+pub line-last : (s : Text) (i at : ℕ) → length s ≤ i → i ≤ at → lineAt s i ≡ lineAt s at
+line-last s i at h k = rw (take-all at s (omega arith), take-all i s h)

@@ -5,6 +5,7 @@ use Prim.Native.String as str
 use mathlib.Core.List.{List, [], _∷_}
 use mathlib.Core.Bool.{Bool, true, false}
 use lib.Dec.{eqb}
+use lib.ListN.{take}
 
 abbrev pub Text : Type 0
 Text = List ℕ
@@ -33,7 +34,11 @@ starts [] rest = true
 starts (k ∷ key) [] = false
 starts (k ∷ key) (b ∷ rest) = elim (eqb b k) [ true ↦ starts key rest | false ↦ false ]
 
--- the lines ended in a text: with those before a position, one more is the number of the line that begins there
+-- the lines ended in a text
 unfoldable pub newlines : Text → ℕ
 newlines [] = 0
 newlines (b ∷ s) = elim (eqb b lf) [ true ↦ suc (newlines s) | false ↦ newlines s ]
+
+-- the number, from 1, of the line that begins at a position: the lines before it are counted
+abbrev pub lineAt : Text → ℕ → ℕ
+lineAt s at = suc (newlines (take at s))

@@ -1,7 +1,7 @@
-// The bytes of a text: what stands at a position, and the lines before it.
+// The bytes of a text: what stands at a position, and in which line.
 ghost use mathlib.Core.Path.{_≡_};
-ghost use lib.ListN.{drop, take, getD};
-ghost use Rattle.scan.specs.Bytes.{starts, newlines};
+ghost use lib.ListN.{drop, getD};
+ghost use Rattle.scan.specs.Bytes.{starts, lineAt};
 
 // The byte at `at`, 0 past the end.
 pub fn byte_at(s: &[u8], at: usize) -> u8
@@ -33,11 +33,11 @@ pub fn starts(s: &[u8], at: usize, key: &[u8]) -> bool
     true
 }
 
-// How many lines end before `at`.
-pub fn lines_before(s: &[u8], at: usize) -> usize
-    ensures { λ r. ⌜ r ≡ newlines (take at (now (s .entry))) ⌝ }
+// The number of the line that begins at `at`, from 1.
+pub fn line_at(s: &[u8], at: usize) -> usize
+    ensures { λ r. ⌜ r ≡ lineAt (now (s .entry)) at ⌝ }
 {
-    let mut n = 0;
+    let mut n = 1;
     let mut i = 0;
     while i < s.len() {
         if at <= i {

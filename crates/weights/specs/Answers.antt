@@ -1,11 +1,11 @@
 -- What the weight check answers, for every input; and the numbers of 01's table for each answer.
-use Prim.Native.Nat.{suc, _+_}
+use Prim.Native.Nat.{_+_}
 use mathlib.Core.Bool.{Bool, true, false}
 use mathlib.Core.Option.{Option, none, some}
 use lib.Dec.{leb}
 use lib.IntN.{ℤ, natAbs}
-use lib.ListN.{length, take}
-use Rattle.scan.specs.Bytes.{Text, newlines}
+use lib.ListN.{length}
+use Rattle.scan.specs.Bytes.{Text, lineAt}
 use Rattle.text.specs.Lines.{Outcome, got, bad}
 use Rattle.numbers.specs.Answers.{above, below}
 use Rattle.text.specs.declared.Fault.{Fault}
@@ -52,9 +52,9 @@ turnedOr (some r) c = refusedWeights (Turned (r .number) (r .beside))
 unfoldable pub judgedWeights : eos.Model → eos.Marking → Weights → WeightCheck
 judgedWeights m μ w = turnedOr (weightRefusal (2 + length (m .nets)) m w) (passedWeights w (weigh m w μ))
 
--- a fault as its line: the lines before it are counted
+-- a fault as its line
 abbrev pub faulty : Text → Fault → WeightAnswer
-faulty s e = Faulty (e .why) (suc (newlines (take (e .at) s)))
+faulty s e = Faulty (e .why) (lineAt s (e .at))
 
 -- the weights of the file are judged, or its line at fault is named
 unfoldable pub weighed : eos.Model → eos.Marking → Text → Outcome Weights → WeightCheck

@@ -1,13 +1,12 @@
 // The Keeper level: a weight file is read for a held model, judged, and weighed on a held marking.
 ghost use mathlib.Core.Path.{_≡_};
 ghost use mathlib.Core.Bool.{true, _&&_};
-ghost use Prim.Native.Nat.{_-_, _≤_};
-ghost use lib.ListN.{length};
+ghost use Prim.Native.Nat.{_-_};
 ghost use Rattle.eos.specs.Weights.{Weights, weigh};
 ghost use Rattle.model.specs.Held.{modelOf};
 ghost use Rattle.model.specs.Test.{empty};
 ghost use Rattle.marking.specs.Held.{tokensOf};
-ghost use Rattle.reader.specs.Answers.{longest, heldBoth};
+ghost use Rattle.reader.specs.Answers.{heldBoth};
 ghost use Rattle.reader.specs.Sizes.{sizesFor};
 ghost use Rattle.weights.specs.Answers.{refusedWeights, passedWeights, faulty, judgedWeights, weightChecking};
 ghost use Rattle.weights.specs.Parts.{Holds, weightsFrom};
@@ -18,7 +17,7 @@ use marking::Marking;
 use model::Model;
 use reader::test_marking;
 use rows::empty_from;
-use scan::lines_before;
+use scan::line_at;
 use text::Ended;
 use text::Fault;
 use weighing::marking_weight;
@@ -80,13 +79,11 @@ pub fn refused(answer: WeightAnswer) -> WeightCheck
 
 // The answer for a fault, which is named by its line.
 fn fault_answer(s: &[u8], fault: Fault) -> WeightAnswer
-    requires { ⌜ length (now s) ≤ longest ⌝ }
     ensures { λ r. ⌜ r ≡ faulty (now (s .entry)) fault ⌝ }
 {
-    let line = lines_before(s, fault.at) + 1;
     WeightAnswer::Faulty {
         why: fault.why,
-        line,
+        line: line_at(s, fault.at),
     }
 }
 

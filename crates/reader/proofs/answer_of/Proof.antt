@@ -1,12 +1,11 @@
--- `answer_of` meets its contract: a fault is named by its line, which is no greater than the length of the text and one.
+-- `answer_of` meets its contract: a fault is named by its line.
 use borrow.Author.Needs.{needs}
 use Rattle.reader.proofs.answer_of.Statement.{statement}
 use Rattle.reader.proofs.answer_of.Tie as tie
-use native.Mathlib.Omega.{arith}
-use mathlib.Core.Path.{ap, sym}
+use mathlib.Core.Path.{ap, sym, _∙_}
 use denote.Ref.{now}
 use Rattle.reader.specs.Parts.{answerOf}
-use Rattle.reader.proofs.ReadingLaws.{lines-few, fault-line}
+use Rattle.reader.specs.declared.ReadAnswer.the-variants.{Faulty}
 
 enum-known-ended : tie.Need-enum-known-ended
 enum-known-ended c = search needs
@@ -17,18 +16,13 @@ enum-told c = search needs
 returns : tie.Need-returns
 returns c = ap (answerOf _) (sym (c .enum-told .given .1))
 
-lines-before-requires : tie.Need-lines-before-requires
-lines-before-requires c κs = search needs
-
-add-line : tie.Need-add-line
-add-line c =
-    let a = c .before .before .before .before .before in
-    omega (arith, c .lines-before .ensures, lines-few (now (a .args .s)) (c .before .before .ended .given .0 .0 .at), a .pre)
+line-at-requires : tie.Need-line-at-requires
+line-at-requires c κs = search needs
 
 returns-2 : tie.Need-returns-2
-returns-2 c = fault-line _ _ _ _ (c .before .before .ended .given .1) (c .lines-before .ensures)
+returns-2 c =
+    let e = c .before .before in
+    ap (Faulty (e .ended .given .0 .0 .why)) (c .line-at .ensures) ∙ ap (answerOf (now (e .before .before .before .args .s))) (sym (e .ended .given .1))
 
 pub answer-of-spec : {M : Type 1} → statement M
-answer-of-spec =
-    tie.close
-    (tie.spec enum-known-ended enum-told returns lines-before-requires add-line returns-2)
+answer-of-spec = tie.close (tie.spec enum-known-ended enum-told returns line-at-requires returns-2)

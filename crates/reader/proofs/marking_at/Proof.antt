@@ -49,7 +49,7 @@ enum-told-2 : tie.Need-enum-told-2
 enum-told-2 c = search needs
 
 answer-of-requires : tie.Need-answer-of-requires
-answer-of-requires c κs = c .before .before .before .before .before .before .before .if1 .left
+answer-of-requires c κs = search needs
 
 no-tokens-requires-3 : tie.Need-no-tokens-requires-3
 no-tokens-requires-3 c κs = search needs

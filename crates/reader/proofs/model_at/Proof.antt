@@ -31,7 +31,7 @@ enum-told : tie.Need-enum-told
 enum-told c = search needs
 
 answer-of-requires : tie.Need-answer-of-requires
-answer-of-requires c κs = c .before .before .before .if1 .left
+answer-of-requires c κs = search needs
 
 no-reading-requires-2 : tie.Need-no-reading-requires-2
 no-reading-requires-2 c κs = search needs
@@ -59,9 +59,7 @@ enum-told-3 : tie.Need-enum-told-3
 enum-told-3 c = search needs
 
 answer-of-requires-2 : tie.Need-answer-of-requires-2
-answer-of-requires-2 c κs =
-    let l = c .before .before .before .before .before .before .before in
-    l .before .before .before .if1 .left
+answer-of-requires-2 c κs = search needs
 
 no-reading-requires-3 : tie.Need-no-reading-requires-3
 no-reading-requires-3 c κs = search needs

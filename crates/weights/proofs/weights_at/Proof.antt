@@ -64,7 +64,7 @@ returns-3 c =
     (c .judged .ensures)
 
 fault-answer-requires : tie.Need-fault-answer-requires
-fault-answer-requires c κs = c .before .before .before .before .before .before .before .if1 .left
+fault-answer-requires c κs = search needs
 
 refused-requires-3 : tie.Need-refused-requires-3
 refused-requires-3 c κs = search needs

@@ -1,33 +1,28 @@
--- `answer_of` meets its contract: a fault is named by its line, which is no greater than the length of the text and one.
+-- `answer_of` meets its contract: a fault is named by its line.
 use borrow.Author.Needs.{needs}
 use Rattle.firing.proofs.lent.answer_of.Statement.{statement}
 use Rattle.firing.proofs.lent.answer_of.Tie as tie
-use native.Mathlib.Omega.{arith}
+use mathlib.Core.Path.{ap, sym, _∙_}
 use denote.Ref.{now}
-use Rattle.reader.proofs.ReadingLaws.{lines-few}
-use Rattle.firing.proofs.StepLaws.{fault-line}
+use Rattle.firing.specs.Parts.{answered}
+use Rattle.firing.specs.declared.StepAnswer.the-variants.{Faulty}
 
 enum-known-ended : tie.Need-enum-known-ended
 enum-known-ended c = search needs
 
-enum-told : tie.Need-enum-told
-enum-told c = search needs
+enum-known-ended-2 : tie.Need-enum-known-ended-2
+enum-known-ended-2 c = search needs
+
+line-at-requires : tie.Need-line-at-requires
+line-at-requires c κs = search needs
 
 returns : tie.Need-returns
-returns c = search needs
-
-lines-before-requires : tie.Need-lines-before-requires
-lines-before-requires c κs = search needs
-
-add-line : tie.Need-add-line
-add-line c =
-    let a = c .before .before .before .before .before in
-    omega (arith, c .lines-before .ensures, lines-few (now (a .args .s)) (c .before .before .ended .given .0 .0 .at), a .pre)
+returns c = ap (answered (now (c .before .before .before .before .args .s))) (sym (c .before .ended .given .1))
 
 returns-2 : tie.Need-returns-2
-returns-2 c = fault-line _ _ _ _ (c .before .before .ended .given .1) (c .lines-before .ensures)
+returns-2 c =
+    let e = c .before .before in
+    ap (Faulty (e .ended2 .given .0 .0 .why)) (c .line-at .ensures) ∙ ap (answered (now (e .before .before .before .args .s))) (sym (e .ended2 .given .1))
 
 pub answer-of-spec : {M : Type 1} → statement M
-answer-of-spec =
-    tie.close
-    (tie.spec enum-known-ended enum-told returns lines-before-requires add-line returns-2)
+answer-of-spec = tie.close (tie.spec enum-known-ended enum-known-ended-2 line-at-requires returns returns-2)
