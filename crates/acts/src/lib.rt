@@ -66,7 +66,7 @@ fn move_at(s: &[u8], at: usize, f: Frame) -> Acting
 }
 
 // The first line of an event.
-pub fn act_at(s: &[u8], at: usize, f: Frame) -> Acting
+fn act_at(s: &[u8], at: usize, f: Frame) -> Acting
     requires { ⌜ Fitting f ⌝ }
     ensures { λ r. ⌜ r ≡ actingOf (readAct (framed f) (now (s .entry)) at) ⌝ }
 {
@@ -78,7 +78,7 @@ pub fn act_at(s: &[u8], at: usize, f: Frame) -> Acting
 
 // The line of the counts of net n, where the event idles in net `own`, from 1, or is a move: 5 where that net does not take part, or
 // another does.
-pub fn sync_at(s: &[u8], at: usize, f: Frame, own: u8, n: usize) -> Counts
+fn sync_at(s: &[u8], at: usize, f: Frame, own: u8, n: usize) -> Counts
     requires { ⌜ Fitting f ⌝ }
     requires { ⌜ n < f .nets ⌝ }
     ensures { λ r. ⌜ r ≡ countsOf (readSync (framed f) own (now (s .entry)) n at) ⌝ }
@@ -109,7 +109,7 @@ pub fn sync_at(s: &[u8], at: usize, f: Frame, own: u8, n: usize) -> Counts
 }
 
 // A line of counts for each net.
-pub fn syncs_at(s: &[u8], from: usize, f: Frame, own: u8) -> Syncs
+fn syncs_at(s: &[u8], from: usize, f: Frame, own: u8) -> Syncs
     requires { ⌜ Fitting f ⌝ }
     ensures { λ r. ⌜ r ≡ syncsOf (manyAt (readSync (framed f) own (now (s .entry))) 0 (f .nets) from) ⌝ }
 {
@@ -158,7 +158,7 @@ fn no_event(ended: Ended) -> EventLines
 }
 
 // The lines of an event.
-pub fn event_at(s: &[u8], at: usize, f: Frame) -> EventLines
+fn event_at(s: &[u8], at: usize, f: Frame) -> EventLines
     requires { ⌜ Fitting f ⌝ }
     ensures { λ r. ⌜ r ≡ eventLinesOf (readEvent (framed f) (now (s .entry)) at) ⌝ }
 {

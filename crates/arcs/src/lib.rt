@@ -41,7 +41,7 @@ fn no_sides(fault: Fault) -> Sides
 
 // The two lines of a transition between `size` places, which is monotonous over `nets` nets: 4 at its `post` line where it is not. With
 // no nets that is not asked.
-pub fn sides_at(s: &[u8], at: usize, size: usize, nets: u8, types: [u8; 32]) -> Sides
+fn sides_at(s: &[u8], at: usize, size: usize, nets: u8, types: [u8; 32]) -> Sides
     requires { ⌜ size ≤ 32 ⌝ }
     ensures { λ r. ⌜ r ≡ sidesOf (readSides size (λ t. monotonous nets size (nth types) (nth (t .pre)) (nth (t .post))) (now (s .entry)) at) ⌝ }
 {

@@ -24,7 +24,7 @@ fn no_net(ended: Ended) -> NetLines
 }
 
 // The lines of an object net. Its transitions have no types to keep.
-pub fn net_at(s: &[u8], at: usize) -> NetLines
+fn net_at(s: &[u8], at: usize) -> NetLines
     ensures { λ r. ⌜ r ≡ netLinesOf (readNet (now (s .entry)) at) ⌝ }
 {
     let a = number_line(s, at, b"inner=", 1, Model::INNER);

@@ -1,7 +1,7 @@
--- `tokens_from` meets its contract: the net-tokens are refused, bytes stand behind them, or nothing does.
+-- `tokens_at` meets its contract: the net-tokens are refused, bytes stand behind them, or nothing does.
 use borrow.Author.Needs.{needs}
-use Rattle.reader.proofs.tokens_from.Statement.{statement}
-use Rattle.reader.proofs.tokens_from.Tie as tie
+use Rattle.reader.proofs.tokens_at.Statement.{statement}
+use Rattle.reader.proofs.tokens_at.Tie as tie
 use Rattle.reader.proofs.ReadingLaws.{end-stopped, end-behind, end-reached}
 
 slice-aggregate-block-at : tie.Need-slice-aggregate-block-at
@@ -36,8 +36,8 @@ returns-3 c =
     let b = k .before .before .before in
     end-reached _ (b .block-at .result) (b .block-at .ensures) _ _ (k .before .ended .given .1) (c .if1 .left)
 
-pub tokens-from-spec : {M : Type 1} → statement M
-tokens-from-spec =
+pub tokens-at-spec : {M : Type 1} → statement M
+tokens-at-spec =
     tie.close
     (tie.spec
     slice-aggregate-block-at
