@@ -1,6 +1,6 @@
 pub mod RunLaws
 pub mod TurnLaws
 pub mod TraceLaws
-pub mod Walks
+pub mod Arrays
 pub mod Cases
 pub mod Passing
