@@ -12,6 +12,7 @@ ghost use Rattle.sides.specs.Held.{ruleIn};
 ghost use Rattle.verdict.specs.Held.{Lent, Placed};
 use flat::PRE;
 use flat::TYPES;
+use model::Model;
 use projections::containment::lacking;
 use projections::inner_of;
 use projections::nets::short_net;
@@ -39,7 +40,8 @@ fn on_marking(taken: &[u16], take: usize, give: usize, rows: &[u16], len: usize)
     if line != 0 {
         return turned(11, line);
     }
-    if 256 + take < len + give {
+    let most = Model::TOKENS as usize;
+    if most + take < len + give {
         return turned(12, take + 3);
     }
     Verdict::Fires

@@ -26,7 +26,7 @@ use Rattle.reader.specs.Answers.{heldBoth, loaded, modelReading}
 use Rattle.steps.specs.Reading.{readStep}
 use Rattle.firing.specs.Answers.{judged, readThen, tried}
 use Rattle.running.specs.Running.{onward, runFrom, headed, whereHeld, running}
-use Rattle.weights.specs.Reading.{readInner, readWeightFile}
+use Rattle.weights.specs.Reading.{readInner, readWeightLines, readWeightFile}
 use Rattle.weights.specs.Answers.{turnedOr, judgedWeights, weighed, forHeld, weightChecking}
 use Rattle.listing.specs.Listing.{modelFile, weightsFile, traceFile, pairText, pairThen, sumText, coverText, runText, afterModel, listingText}
 
@@ -48,7 +48,7 @@ pub listing-cases :
     × (listingText model (bytes "inv=1\nouter=-1,-1\ninner=0,0\n") (bytes "") ≡ bytes "model=0,0\nweights=0,0\nsum=-2\ncover=0\nfired=0\nstop=2,1\nheld=2\ntoken=1:0,0\ntoken=1:1,0\n")
 unfolding listingText afterModel runText coverText sumText pairThen pairText traceFile weightsFile modelFile modelReading loaded readModel readLines readEnd
     readPlant readEvent readSync readAct readMove readIdle readNet readSides keepsTypes
-    weightChecking forHeld weighed judgedWeights turnedOr weightRefusal readWeightFile readInner readWeights effect value weigh covers
+    weightChecking forHeld weighed judgedWeights turnedOr weightRefusal readWeightFile readWeightLines readInner readWeights effect value weigh covers
     running whereHeld headed runFrom onward heldBoth heldModel heldTypes heldMoves heldNets heldNet heldEvents heldEvent emptyEvent heldAct emptyPast monotonous
     touches takesPart heldMarking rightRow holdModel holdNet holdNets holdEvent holdEvents tabled fill padded holdMarking modelOf netOf eventOf tokensOf sizesIn
     tried readThen judged readStep readBlock readNetToken readToken tokenAt countsAt readHead readNumber readList behind lines.judged many manyAt need then listEnd

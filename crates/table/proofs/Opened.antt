@@ -25,7 +25,7 @@ use Rattle.reader.specs.Answers as reader
 use Rattle.reader.specs.Answers.{loaded, modelReading, restored, markingReading, heldBoth}
 use Rattle.steps.specs.Reading.{readStep}
 use Rattle.firing.specs.Answers.{judged, readThen, tried, stepped, heldStep, whereHeld, stepping}
-use Rattle.weights.specs.Reading.{readInner, readWeightFile}
+use Rattle.weights.specs.Reading.{readInner, readWeightLines, readWeightFile}
 use Rattle.weights.specs.Answers.{turnedOr, judgedWeights, weighed, forHeld, weightChecking}
 use Rattle.spread.specs.Call.{spreadCall}
 
@@ -38,7 +38,7 @@ lined = tt
 -- models, markings, steps, weight files
 unfoldable pub read : Unit {0}
 unfolding keepsTypes monotonous touches takesPart readSides readNet readIdle readMove readAct readSync readEvent readPlant readNetToken readBlock readEnd
-    readLines readModel readMarking readStep readInner readWeightFile
+    readLines readModel readMarking readStep readInner readWeightLines readWeightFile
 read = tt
 
 -- held models and markings, and their tests

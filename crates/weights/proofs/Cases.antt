@@ -16,7 +16,7 @@ use Rattle.eos.specs.Causes.{first, unless, at}
 use Rattle.eos.specs.Weights.{Weights, value, weigh, effect, covers, weightRefusal}
 use Rattle.reader.specs.Reading.{readEnd}
 use Rattle.weights.specs.Printed.{weightFileText}
-use Rattle.weights.specs.Reading.{readInner, readWeightFile}
+use Rattle.weights.specs.Reading.{readInner, readWeightLines, readWeightFile}
 use Rattle.weights.specs.Answers.{refusedWeights, turnedOr, judgedWeights}
 use Rattle.weights.specs.declared.WeightAnswer.the-variants.{Passed, Turned}
 
@@ -43,7 +43,7 @@ pub read-cases :
     × (readWeightFile listing (bytes "inv=1\nouter=-7,0\ninner=1,1\n") ≡ got (weights (negsuc 6) (pos 0) (pos 1)) 27)
     × (readWeightFile listing (bytes "inv=1\nouter=1,1\ninner=1001,1\n") ≡ bad (fault 3 16))
     × (readWeightFile listing (bytes "inv=1\nouter=1,1\n") ≡ bad (fault 2 16))
-unfolding readWeightFile readInner readEnd readHead readNumber readWeights behind judged need then manyAt starts
+unfolding readWeightFile readWeightLines readInner readEnd readHead readNumber readWeights behind judged need then manyAt starts
     stopOf ended before item items listEnd digits numberOf number plainly negated signed
 read-cases = (refl, refl, refl, refl)
 

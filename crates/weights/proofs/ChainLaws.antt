@@ -22,8 +22,9 @@ use Rattle.eos.specs.Weights.{Weights}
 use Rattle.model.specs.Held.{tabled, modelOf}
 use Rattle.model.specs.declared.Model.{Model}
 use Rattle.reader.specs.Reading.{readEnd}
+use Rattle.weights.specs.Reading.{readWeightLines}
 use Rattle.weights.specs.Held.{holdWeights, noWeights}
-use Rattle.weights.specs.Parts.{linesOf, readNet, putNext, behindOuter, innersOf, readFrom}
+use Rattle.weights.specs.Parts.{linesOf, readNet, putNext, behindOuter, innersOf}
 use Rattle.weights.specs.declared.HeldWeights.{HeldWeights}
 use Rattle.weights.specs.declared.WeightLines.{WeightLines}
 use Rattle.weights.proofs.FileLaws.{row-got, row-bad, row-above, row-below, places-long, inners-are, lines-bad, rows-behind}
@@ -67,7 +68,7 @@ module _ (h : HeldWeights) (o : Outcome (List (List ℤ))) (r : WeightLines) (al
 
 module _ (m : Model) (long : length (m .types) ≡ 32) (few : m .places ≤ 32) (s : Text) (at : ℕ) where
   abbrev file : Outcome Weights
-  file = readFrom (modelOf m) s at
+  file = readWeightLines (modelOf m) s at
 
   abbrev inners : ℕ → Outcome (List (List ℤ))
   inners at = manyAt (readNet (m .objects) s) 0 (m .nets) at
@@ -76,26 +77,26 @@ module _ (m : Model) (long : length (m .types) ≡ 32) (few : m .places ≤ 32) 
   outers at = readWeights (bytes "outer=") (m .places) (modest 1000) s at
 
   head-bad : (d : Fault) → readHead (bytes "inv=") s at ≡ bad d → file ≡ bad d
-  unfolding readFrom then
+  unfolding readWeightLines then
   head-bad d a = rw a
 
   module _ (v x₁ : ℕ) (first : readHead (bytes "inv=") s at ≡ got v x₁) where
     outer-bad : (d : Fault) → outers x₁ ≡ bad d → file ≡ bad d
-    unfolding readFrom then
+    unfolding readWeightLines then
     outer-bad d b = rw (first, places-long m s long few, b)
 
     module _ (o : List ℤ) (x₂ : ℕ) (second : outers x₁ ≡ got o x₂) where
       inner-bad : (d : Fault) → inners x₂ ≡ bad d → file ≡ bad d
-      unfolding readFrom then
+      unfolding readWeightLines then
       inner-bad d c = rw (first, places-long m s long few, second, ← inners-are m s x₂, c)
 
       module _ (l : List (List ℤ)) (x₃ : ℕ) (third : inners x₂ ≡ got l x₃) where
         more-bad : x₃ < length s → file ≡ bad (fault 2 x₃)
-        unfolding readFrom then readEnd need
+        unfolding readWeightLines then readEnd need
         more-bad h = rw (first, places-long m s long few, second, ← inners-are m s x₂, third, lt-leb (length s) x₃ h)
 
         file-got : length s ≤ x₃ → file ≡ got (record { outward = o; inward = l }) x₃
-        unfolding readFrom then readEnd need
+        unfolding readWeightLines then readEnd need
         file-got h = rw (first, places-long m s long few, second, ← inners-are m s x₂, third, le-leb (length s) x₃ h)
 
   -- ---- by the answers

@@ -18,10 +18,10 @@ use Rattle.marking.specs.Held.{tokensOf}
 use Rattle.marking.specs.declared.Marking.{Marking}
 use Rattle.reader.specs.Answers.{longest, heldBoth}
 use Rattle.reader.specs.Sizes.{sizesFor}
-use Rattle.weights.specs.Reading.{readWeightFile}
+use Rattle.weights.specs.Reading.{readWeightLines, readWeightFile}
 use Rattle.weights.specs.Held.{holdWeights}
 use Rattle.weights.specs.Answers.{refusedWeights, faulty, judgedWeights, weighed, forHeld, weightChecking}
-use Rattle.weights.specs.Parts.{linesOf, readFrom, heldFrom, weightsFrom, Holds}
+use Rattle.weights.specs.Parts.{linesOf, heldFrom, weightsFrom, Holds}
 use Rattle.weights.specs.declared.WeightAnswer.the-variants.{TooLong, NotHeld}
 use Rattle.weights.specs.declared.WeightLines.{WeightLines}
 use Rattle.weights.specs.declared.WeightCheck.{WeightCheck}
@@ -31,7 +31,7 @@ use Rattle.weights.proofs.ReadsWhatItSays.{file-start, weights-are-righ
 
 module _ (m : Model) (k : Marking) (s : Text) (at : ℕ) where
   abbrev file : Outcome Weights
-  file = readFrom (modelOf m) s at
+  file = readWeightLines (modelOf m) s at
 
   pub from-long : longest < length s → refusedWeights TooLong ≡ weightsFrom m k s at
   unfolding weightsFrom

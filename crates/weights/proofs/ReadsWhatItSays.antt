@@ -26,8 +26,7 @@ use Rattle.model.proofs.SlotLaws.{by-index}
 use Rattle.reader.specs.Reading.{readEnd}
 use Rattle.weights.specs.Printed.{weightFileText}
 use Rattle.reader.proofs.ReadsWhatItSays.{ended, to-end}
-use Rattle.weights.specs.Reading.{readInner, readWeightFile, rightInner, rightWeights}
-use Rattle.weights.specs.Parts.{readFrom}
+use Rattle.weights.specs.Reading.{readInner, readWeightLines, readWeightFile, rightInner, rightWeights}
 
 -- the lines, without the end of the text
 abbrev readLines : eos.Model → Text → ℕ → Outcome Weights
@@ -43,12 +42,12 @@ then-then (bad e) f g = refl
 
 module _ (m : eos.Model) where
   -- from its first byte on
-  pub file-start : (s : Text) → readFrom m s 0 ≡ readWeightFile m s
-  unfolding readFrom readWeightFile
+  pub file-start : (s : Text) → readWeightLines m s 0 ≡ readWeightFile m s
+  unfolding readWeightFile
   file-start s = refl
 
-  from-lines : (s : Text) (at : ℕ) → readFrom m s at ≡ then (readLines m s at) (readEnd s)
-  unfolding readFrom need then
+  from-lines : (s : Text) (at : ℕ) → readWeightLines m s at ≡ then (readLines m s at) (readEnd s)
+  unfolding readWeightLines need then
   from-lines s at = simp then-then
 
   file-lines : (s : Text) → readWeightFile m s ≡ then (readLines m s 0) (readEnd s)
@@ -74,7 +73,7 @@ module _ (m : eos.Model) where
       (refl, (p .0, (p .1, refl, refl))))
 
   -- what is read from a position on is right
-  pub weights-are-right : (s : Text) (at : ℕ) (w : Weights) (x : ℕ) → readFrom m s at ≡ got w x → rightWeights m w ≡ true
+  pub weights-are-right : (s : Text) (at : ℕ) (w : Weights) (x : ℕ) → readWeightLines m s at ≡ got w x → rightWeights m w ≡ true
   weights-are-right s at w x e = lines-exactly s .back at w x (ended (readLines m s at) s w x (sym (from-lines s at) ∙ e) .0) .fine-is
 
   -- what is accepted is the printed text of right weights

@@ -8,21 +8,19 @@ use lib.IntN.{ℤ}
 use lib.ListN.{length, getD}
 use lib.Seq.{sets}
 use Rattle.scan.specs.Bytes.{Text, bytes}
-use Rattle.text.specs.Lines.{Outcome, then, readHead, readWeights, modest}
-use Rattle.text.specs.Repeat.{manyAt, fill}
+use Rattle.text.specs.Lines.{Outcome, readWeights, modest}
+use Rattle.text.specs.Repeat.{fill}
 use Rattle.numbers.specs.Answers.{above, below}
 use Rattle.text.specs.Answers.{endedOf, keptOr, padded}
-use Rattle.eos.specs.Model as eos
 use Rattle.eos.specs.Weights.{Weights, Shaped}
 use Rattle.model.specs.Held.{noNet, modelOf}
 use Rattle.model.specs.declared.ObjectNet.{ObjectNet}
 use Rattle.model.specs.declared.Model.{Model}
 use Rattle.marking.specs.Held.{tokensOf}
 use Rattle.marking.specs.declared.Marking.{Marking}
-use Rattle.reader.specs.Reading.{readEnd}
 use Rattle.reader.specs.Sizes.{sizesFor}
 use Rattle.reader.specs.Answers.{longest, heldBoth}
-use Rattle.weights.specs.Reading.{readInner}
+use Rattle.weights.specs.Reading.{readWeightLines}
 use Rattle.weights.specs.Held.{holdWeights, noWeights}
 use Rattle.weights.specs.Answers.{refusedWeights, weighed}
 use Rattle.weights.specs.declared.HeldWeights.{HeldWeights}
@@ -50,17 +48,10 @@ behindOuter h l = record { above = fill (putNext (map above)) 0 l (h .above); be
 unfoldable pub innersOf : HeldWeights → Outcome (List (List ℤ)) → WeightLines
 innersOf h o = record { ended = endedOf o; weights = keptOr noWeights (behindOuter h) o }
 
--- the lines of a weight file, from a position to the end of the text
-unfoldable pub readFrom : eos.Model → Text → ℕ → Outcome Weights
-readFrom m s at =
-    then (readHead (bytes "inv=") s at) λ _ x₁.
-    then (readWeights (bytes "outer=") (eos.places m) (modest 1000) s x₁) λ o x₂.
-    then (manyAt (readInner m s) 0 (length (m .nets)) x₂) λ i x₃. readEnd s (record { outward = o; inward = i }) x₃
-
 -- ---- checking
 
 unfoldable pub heldFrom : Bool → Model → Marking → Text → ℕ → WeightCheck
-heldFrom true m k s at = weighed (modelOf m) (tokensOf (sizesFor m) k) s (readFrom (modelOf m) s at)
+heldFrom true m k s at = weighed (modelOf m) (tokensOf (sizesFor m) k) s (readWeightLines (modelOf m) s at)
 heldFrom false m k s at = refusedWeights NotHeld
 
 -- checking a weight file whose lines begin at a position

@@ -16,12 +16,16 @@ use Rattle.reader.specs.Reading.{readEnd}
 unfoldable pub readInner : eos.Model → Text → ℕ → ℕ → Outcome (List ℤ)
 readInner m s n at = readWeights (bytes "inner=") (eos.net m n .size) (modest 1000) s at
 
--- `inv=1`, `outer`, then per net `inner`, and nothing after them
-unfoldable pub readWeightFile : eos.Model → Text → Outcome Weights
-readWeightFile m s =
-    then (readHead (bytes "inv=") s 0) λ _ x₁.
+-- `inv=1`, `outer`, then per net `inner`, and nothing after them, from a position on
+unfoldable pub readWeightLines : eos.Model → Text → ℕ → Outcome Weights
+readWeightLines m s at =
+    then (readHead (bytes "inv=") s at) λ _ x₁.
     then (readWeights (bytes "outer=") (eos.places m) (modest 1000) s x₁) λ o x₂.
     then (manyAt (readInner m s) 0 (length (m .nets)) x₂) λ i x₃. readEnd s (record { outward = o; inward = i }) x₃
+
+-- a weight file, whole
+unfoldable pub readWeightFile : eos.Model → Text → Outcome Weights
+readWeightFile m s = readWeightLines m s 0
 
 -- what such lines may say: as many weights as the model has places, each at most 1,000 either side of 0
 unfoldable pub rightInner : eos.Model → ℕ → List ℤ → Bool

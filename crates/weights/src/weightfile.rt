@@ -7,8 +7,9 @@ ghost use lib.Seq.{sets};
 ghost use Rattle.text.specs.Repeat.{manyAt};
 ghost use Rattle.model.specs.Held.{modelOf};
 ghost use Rattle.model.specs.Test.{heldModel};
+ghost use Rattle.weights.specs.Reading.{readWeightLines};
 ghost use Rattle.weights.specs.Held.{noWeights};
-ghost use Rattle.weights.specs.Parts.{readNet, innersOf, linesOf, readFrom};
+ghost use Rattle.weights.specs.Parts.{readNet, innersOf, linesOf};
 use super::HeldWeights;
 use super::WeightLines;
 use lines::ended_of;
@@ -82,7 +83,7 @@ fn outer_row(a: [u16; 32], b: [u16; 32]) -> HeldWeights
 // The lines of the weight file of a held model, from `at` on.
 pub fn weight_lines(m: Model, s: &[u8], at: usize) -> WeightLines
     requires { ⌜ heldModel m ≡ true ⌝ }
-    ensures { λ r. ⌜ r ≡ linesOf (readFrom (modelOf m) (now (s .entry)) at) ⌝ }
+    ensures { λ r. ⌜ r ≡ linesOf (readWeightLines (modelOf m) (now (s .entry)) at) ⌝ }
 {
     let head = head_line(s, at, b"inv=");
     let Line::Value { value: _, next: x1 } = head else {

@@ -20,6 +20,9 @@ returns c =
     let a = l .before .before .before .args in
     c .turned .ensures ∙ sym (stop-at 11 _ (lackingRows (rowsIn (a .len) (a .rows .now)) 2 [] (rowsIn (a .take) (a .taken .now))) (l .lacking .result) (l .lacking .ensures) (c .before .if1 .taken))
 
+cast-most : tie.Need-cast-most
+cast-most c = search needs
+
 add-if2 : tie.Need-add-if2
 add-if2 c = search needs
 
@@ -55,6 +58,7 @@ on-marking-spec =
     lacking-requires
     turned-requires
     returns
+    cast-most
     add-if2
     add-if2-2
     add-turned
