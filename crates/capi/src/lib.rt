@@ -3,9 +3,9 @@
 ghost use mathlib.Core.Path.{_≡_};
 ghost use Rattle.model.specs.Test.{heldModel};
 ghost use Rattle.reader.specs.Answers.{modelReading, markingReading, heldBoth, markingWriting, layWhole};
-ghost use Rattle.firing.specs.Answers.{stepping};
-ghost use Rattle.running.specs.Running.{running};
-ghost use Rattle.weights.specs.Answers.{weightChecking};
+ghost use Rattle.runner.specs.Answers.{stepping};
+ghost use Rattle.runner_trace.specs.Running.{running};
+ghost use Rattle.keeper.specs.Answers.{weightChecking};
 ghost use Rattle.spread.specs.Call.{spreadCall};
 ghost use Rattle.listing.specs.Listing.{listingText};
 ghost use Rattle.capi.specs.Calls.{modelRead, markingRead, textWritten, writtenToC, weighed, stepDone, runDone, shared};

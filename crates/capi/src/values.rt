@@ -1,7 +1,7 @@
 // What an answer gives beside its number; 0 where it is refused.
 ghost use mathlib.Core.Path.{_≡_};
 ghost use mathlib.Core.Bool.{cond};
-ghost use Rattle.firing.specs.Answers.{usedBy};
+ghost use Rattle.runner.specs.Answers.{usedBy};
 ghost use Rattle.spread.specs.Call.{spreadValue};
 ghost use Rattle.capi.specs.Calls.{bytesOf};
 use engine::Spread;

@@ -19,18 +19,18 @@ pub use reader::test_model;
 pub use reader::write_marking;
 
 // Runner. `stepping` (firing/specs/Answers.antt), `running` (running/specs/Running.antt).
-pub use firing::StepAnswer;
-pub use firing::Stepped;
-pub use firing::stepping::step;
-pub use running::Ran;
-pub use running::Stop;
-pub use running::run;
+pub use runner::StepAnswer;
+pub use runner::Stepped;
+pub use runner::stepping::step;
+pub use runner_trace::Ran;
+pub use runner_trace::Stop;
+pub use runner_trace::run;
 
 // Keeper. `weightChecking` (weights/specs/Answers.antt).
-pub use weights::Sum;
-pub use weights::WeightAnswer;
-pub use weights::WeightCheck;
-pub use weights::check_weights;
+pub use keeper::Sum;
+pub use keeper::WeightAnswer;
+pub use keeper::WeightCheck;
+pub use keeper::check_weights;
 
 // The spread. `spreadCall` (spread/specs/Call.antt).
 pub use spread::Spread;

@@ -1,5 +1,4 @@
-pub mod Cases
-pub mod FileLaws
-pub mod LineLaws
-pub mod LayLaws
+pub mod ThreeFiles
+pub mod ListingLines
+pub mod ListingLaid
 pub mod StageLaws

@@ -1,25 +1,25 @@
 -- A listing, stage by stage: what stands in the head, and what is to come behind it.
-use Prim.Native.Nat.{ℕ, _+_, _≤_}
+use Prim.Native.Nat.{ℕ, _≤_}
 use mathlib.Core.Path.{_≡_, ap, sym, _∙_}
 use mathlib.Core.Bool.{true, false}
 use mathlib.Core.List.{List, _++_, append-assoc, append-nil}
 use native.Mathlib.Omega.{arith}
 use lib.ListN.{length, take}
-use Rattle.scan.specs.Bytes.{Text, bytes}
+use Rattle.text.specs.Bytes.{Text, bytes}
 use Rattle.text.specs.Printed.{numberText}
-use Rattle.laying.proofs.LaidLaws.{Laid, laid-then, laid-front}
+use Rattle.text.proofs.LaidLaws.{Laid, laid-then, laid-front}
 use Rattle.eos.specs.Causes.{Refusal}
 use Rattle.model.specs.declared.Model.{Model}
 use Rattle.marking.specs.Held.{tokensOf}
 use Rattle.marking.specs.Printed.{blockText}
 use Rattle.marking.specs.declared.Marking.{Marking}
-use Rattle.reader.specs.Sizes.{sizesFor}
+use Rattle.marking.specs.Sizes.{sizesFor}
 use Rattle.reader.specs.Answers.{readPair}
 use Rattle.reader.specs.declared.ModelReading.{ModelReading}
-use Rattle.running.specs.Running.{stopPair}
-use Rattle.running.specs.declared.Ran.{Ran}
-use Rattle.weights.specs.Answers.{weightPair}
-use Rattle.weights.specs.declared.WeightCheck.{WeightCheck}
+use Rattle.runner_trace.specs.Running.{stopPair}
+use Rattle.runner_trace.specs.declared.Ran.{Ran}
+use Rattle.keeper.specs.Answers.{weightPair}
+use Rattle.keeper.specs.declared.WeightCheck.{WeightCheck}
 use Rattle.listing.specs.Listing.{modelFile, weightsFile, traceFile, pairText, accepted, pairThen, sumText, coverText, runText, afterModel, listingText}
 
 -- a pair that is 0,0, and one that is not

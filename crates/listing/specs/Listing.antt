@@ -5,24 +5,24 @@ use mathlib.Core.List.{[], _∷_, _++_}
 use lib.Dec.{leb, eqb}
 use lib.IntN.{subℕ}
 use lib.ListN.{length}
-use Rattle.scan.specs.Bytes.{Text, bytes}
+use Rattle.text.specs.Bytes.{Text, bytes}
 use Rattle.text.specs.Printed.{numberText, listText, weightsText}
 use Rattle.eos.specs.Causes.{Refusal}
 use Rattle.model.specs.declared.Model.{Model}
 use Rattle.marking.specs.Held.{tokensOf}
 use Rattle.marking.specs.Printed.{blockText}
 use Rattle.marking.specs.declared.Marking.{Marking}
-use Rattle.reader.specs.Sizes.{sizesFor}
+use Rattle.marking.specs.Sizes.{sizesFor}
 use Rattle.reader.specs.Answers.{readPair, noReading, modelReading}
 use Rattle.reader.specs.declared.ReadAnswer.the-variants as read
 use Rattle.reader.specs.declared.ModelReading.{ModelReading}
-use Rattle.running.specs.Running.{stopPair, ran, running}
-use Rattle.running.specs.declared.Stop.the-variants as stop
-use Rattle.running.specs.declared.Ran.{Ran}
-use Rattle.weights.specs.Answers.{weightPair, refusedWeights, weightChecking}
-use Rattle.weights.specs.declared.WeightAnswer.the-variants as weight
-use Rattle.weights.specs.declared.Sum.{Sum}
-use Rattle.weights.specs.declared.WeightCheck.{WeightCheck}
+use Rattle.runner_trace.specs.Running.{stopPair, ran, running}
+use Rattle.runner_trace.specs.declared.Stop.the-variants as stop
+use Rattle.runner_trace.specs.declared.Ran.{Ran}
+use Rattle.keeper.specs.Answers.{weightPair, refusedWeights, weightChecking}
+use Rattle.keeper.specs.declared.WeightAnswer.the-variants as weight
+use Rattle.keeper.specs.declared.Sum.{Sum}
+use Rattle.keeper.specs.declared.WeightCheck.{WeightCheck}
 
 -- ---- the three files: "in the program: file over 65,536" is 1
 

@@ -5,11 +5,11 @@ ghost use lib.ListN.{length};
 ghost use lib.Seq.{sets};
 ghost use Rattle.listing.specs.Listing.{accepted, pairText, sumText, coverText};
 ghost use Rattle.pairs.specs.Pairs.{refusalOf};
-use laying::put_number;
-use laying::put_number_line;
-use laying::put_text;
+use keeper::Sum;
 use pairs::Pair;
-use weights::Sum;
+use text_write::put_number;
+use text_write::put_number_line;
+use text_write::put_text;
 
 // Lays the line of a pair, from `at` on. The answer is the position after it.
 pub fn put_pair(out: &mut [u8], at: usize, key: &[u8], p: Pair) -> usize

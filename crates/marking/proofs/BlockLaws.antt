@@ -7,8 +7,8 @@ use native.Mathlib.Omega.{arith}
 use native.Mathlib.Nat.{sub-zero}
 use lib.Dec.{leb, leb·zero}
 use lib.ListN.{length, length-map, replicate}
-use Rattle.scan.specs.Bytes.{Text, bytes}
-use Rattle.scan.proofs.Basics.{and-true}
+use Rattle.text.specs.Bytes.{Text, bytes}
+use Rattle.text.proofs.Basics.{and-true}
 use Rattle.text.specs.Lines.{Outcome, got, bad, then, many, within, readNumber}
 use Rattle.text.specs.Repeat.{fill, filled}
 use Rattle.text.specs.Token.{Token, readToken, rightToken}
@@ -16,25 +16,25 @@ use Rattle.text.specs.Answers.{endedOf, keptOr, padded, tokenRowOf}
 use Rattle.text.specs.declared.Fault.{Fault}
 use Rattle.text.specs.declared.Ended.the-variants.{Past, Stopped}
 use Rattle.text.specs.declared.TokenRow.{TokenRow}
-use Rattle.encoding.proofs.TestLaws.{within-is}
-use Rattle.encoding.proofs.Loops.{got-of, bad-of, loop-turn, loop-bad, loop-done}
-use Rattle.encoding.proofs.Exactly.{got-is}
-use Rattle.encoding.proofs.LinesExactly.{number-exactly}
-use Rattle.encoding.proofs.TokenExactly.{token-exactly}
+use Rattle.text.proofs.TestLaws.{within-is}
+use Rattle.text.proofs.Loops.{got-of, bad-of, loop-turn, loop-bad, loop-done}
+use Rattle.text.proofs.Exactly.{got-is}
+use Rattle.text.proofs.LinesExactly.{number-exactly}
+use Rattle.text.proofs.TokenExactly.{token-exactly}
 use Rattle.eos.specs.Vector.{lexV}
 use Rattle.eos.specs.Multiset as M
 use Rattle.eos.specs.Model as eos
 use Rattle.eos.proofs.OrderLaws.{insert-sorted}
 use Rattle.eos.proofs.VectorLaws.{lexOrder}
 use Rattle.eos.proofs.FiringLaws.{insertAll, after-in-order}
-use Rattle.rows.specs.Rows.{rowsIn, laid, Kept}
-use Rattle.rows.proofs.KeptLaws.{rows-laid, kept-laid}
+use Rattle.marking.specs.Rows.{rowsIn, laid, Kept}
+use Rattle.marking.proofs.KeptLaws.{rows-laid, kept-laid}
 use Rattle.marking.specs.Held.{Sizes, Roomy, rowOf, holdMarking, noMarking}
 use Rattle.marking.specs.Reading.{Limits, limits, lineToken, readNetToken, readBlock}
 use Rattle.marking.specs.Answers.{blockOf}
 use Rattle.marking.proofs.BlockExactly.{netToken-exactly}
-use Rattle.marking.proofs.OrderLaws.{Fitting, All, none, map-insert, all-insert, rows-wide}
-use Rattle.marking.proofs.HoldLaws.{right-is, fitting}
+use Rattle.marking.proofs.RowOrder.{Fitting, All, none, map-insert, all-insert, rows-wide}
+use Rattle.marking.proofs.HoldMarking.{right-is, fitting}
 
 -- a net-token put where it belongs
 abbrev pub put : ℕ → eos.NetToken → eos.Marking → eos.Marking

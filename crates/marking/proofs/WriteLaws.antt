@@ -9,20 +9,20 @@ use lib.Dec.{leb, eqb}
 use lib.ListN.{length, drop, getD, length-append, length-map}
 use lib.Seq.{sets, drop-length}
 use borrow.Author.Tests.{leb-true, le-leb, lt-leb}
-use Rattle.scan.specs.Bytes.{Text, bytes}
-use Rattle.scan.proofs.Basics.{and-true}
+use Rattle.text.specs.Bytes.{Text, bytes}
+use Rattle.text.proofs.Basics.{and-true}
 use Rattle.text.specs.Lines.{got, every, within}
 use Rattle.text.specs.Printed.{decimal, texts, numberText, tokenText}
 use Rattle.text.specs.Answers.{endedOf, keptOr}
 use Rattle.text.specs.declared.Ended.the-variants.{Past}
-use Rattle.encoding.proofs.TestLaws.{within-is, every-at}
-use Rattle.encoding.proofs.LengthLaws.{texts-length, end-length}
-use Rattle.encoding.proofs.Standing.{Stands}
-use Rattle.print.proofs.WritingLaws.{sets-append}
-use Rattle.laying.proofs.LaidLaws.{Laid, number-line-length}
+use Rattle.text.proofs.TestLaws.{within-is, every-at}
+use Rattle.text.proofs.TextLengths.{texts-length, end-length}
+use Rattle.text.proofs.Standing.{Stands}
+use Rattle.text.proofs.WritingLaws.{sets-append}
+use Rattle.text.proofs.LaidLaws.{Laid, number-line-length}
 use Rattle.eos.specs.Model as eos
-use Rattle.rows.specs.Rows.{Row, rowsIn, ascending}
-use Rattle.rows.proofs.RowLaws.{length-rows, row-at}
+use Rattle.marking.specs.Rows.{Row, rowsIn, ascending}
+use Rattle.marking.proofs.RowLaws.{length-rows, row-at}
 use Rattle.marking.specs.Held.{Sizes, sizesAt, Roomy, holdMarking, tokenOf, tokensOf, rightRow, heldMarking, Sized}
 use Rattle.marking.specs.Reading.{limits, readBlock, rightNetToken, rightBlock}
 use Rattle.marking.specs.Printed.{netTokenText, blockText, markingText, rowText}
@@ -31,9 +31,9 @@ use Rattle.marking.specs.Writing.{lay}
 use Rattle.marking.specs.declared.Marking.{Marking}
 use Rattle.marking.specs.declared.Wrote.the-variants.{Whole, Short}
 use Rattle.marking.proofs.BlockExactly.{block-exactly}
-use Rattle.marking.proofs.HoldLaws.{Right, right-is, Held, held-tokens}
-use Rattle.marking.proofs.TestLaws.{row-front}
-use Rattle.marking.proofs.LayLaws.{few-digits, line-length}
+use Rattle.marking.proofs.HoldMarking.{Right, right-is, Held, held-tokens}
+use Rattle.marking.proofs.HeldRowTests.{row-front}
+use Rattle.marking.proofs.LinesLaid.{few-digits, line-length}
 
 -- ---- how long it is at most
 

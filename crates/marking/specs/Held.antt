@@ -8,7 +8,7 @@ use lib.ListN.{length, take, drop, getD, replicate}
 use Rattle.text.specs.Lines.{within, every}
 use Rattle.text.specs.Answers.{padded}
 use Rattle.eos.specs.Model as eos
-use Rattle.rows.specs.Rows.{Row, rowsIn, laid, ascending}
+use Rattle.marking.specs.Rows.{Row, rowsIn, laid, ascending}
 use Rattle.marking.specs.declared.Marking.{Marking}
 
 -- what the net-tokens of a model depend on: how many places there are, and how many counts a net-token has on each; places are numbered

@@ -1,5 +1,7 @@
+pub mod Rows
 pub mod Held
 pub mod Reading
 pub mod Printed
 pub mod Answers
 pub mod Writing
+pub mod Sizes

@@ -2,9 +2,9 @@
 use Prim.Native.Nat.{ℕ, _-_}
 use mathlib.Core.List.{List, _++_}
 use lib.ListN.{length, take, drop, getD}
-use Rattle.scan.specs.Bytes.{Text, bytes}
+use Rattle.text.specs.Bytes.{Text, bytes}
 use Rattle.text.specs.Printed.{numberText, tokenText, texts}
-use Rattle.rows.specs.Rows.{Row}
+use Rattle.marking.specs.Rows.{Row}
 use Rattle.eos.specs.Model as eos
 use Rattle.marking.specs.Reading.{tokenLine}
 

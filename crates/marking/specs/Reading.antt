@@ -4,7 +4,7 @@ use Prim.Native.Nat.{ℕ, suc, _-_}
 use mathlib.Core.Bool.{Bool, true, _&&_}
 use lib.Dec.{leb}
 use lib.ListN.{length}
-use Rattle.scan.specs.Bytes.{Text, bytes}
+use Rattle.text.specs.Bytes.{Text, bytes}
 use Rattle.text.specs.Lines.{Outcome, got, then, many, every, readNumber}
 use Rattle.text.specs.Token.{Token, readToken, rightToken}
 use Rattle.eos.specs.Model as eos

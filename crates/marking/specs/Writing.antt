@@ -5,7 +5,7 @@ use Prim.Native.Nat.{ℕ, _+_}
 use lib.Dec.{leb}
 use lib.ListN.{length}
 use lib.Seq.{sets}
-use Rattle.scan.specs.Bytes.{Text}
+use Rattle.text.specs.Bytes.{Text}
 use Rattle.marking.specs.declared.Wrote.{Wrote}
 use Rattle.marking.specs.declared.Wrote.the-variants.{Whole, Short}
 

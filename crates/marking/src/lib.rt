@@ -1,9 +1,7 @@
-// The held marking: net-tokens in canonical order, how they are read and written, and their test.
+// The held marking: net-tokens in canonical order, how they are read, held, tested and written. Definitions and laws.
 ghost use mathlib.Core.Path.{_≡_};
 ghost use Rattle.marking.specs.Held.{noMarking};
 use text::Ended;
-
-pub mod held;
 
 // One net-token: its place's number, from 1, and its counts. Unused room is 0.
 pub struct NetToken {

@@ -1,7 +1,14 @@
-pub mod PadLaws
+pub mod RuleLaws
+pub mod RuleLoops
+pub mod PaddedRows
 pub mod SlotLaws
 pub mod TableLaws
-pub mod TestLaws
+pub mod HeldTests
 pub mod UsedLaws
 pub mod RoomLaws
-pub mod TestLoops
+pub mod HeldTestLoops
+pub mod HoldModel
+pub mod HeldBack
+pub mod HoldHeld
+pub mod HeldRight
+pub mod HeldLaws

@@ -10,7 +10,7 @@ use borrow.Author.Tests.{lt-ltb, le-ltb, ltb-true, ltb-false}
 use lib.ListN.{length, getD, replicate, length-replicate, length-set, getD-replicate, List·getD-eq-default}
 use lib.Seq.{getD-set-same, getD-set-other}
 use Rattle.text.specs.Repeat.{fill}
-use Rattle.scan.proofs.Basics.{by-test}
+use Rattle.text.proofs.Basics.{by-test}
 use Rattle.eos.specs.Firing.{allBelow}
 use Rattle.eos.proofs.Basics.{true-is, is-true}
 use Rattle.eos.proofs.FiringLaws.{allBelow-at, all-below}

@@ -8,13 +8,12 @@ use lib.Dec.{ltb}
 use lib.ListN.{length, take, drop, getD, set, replicate, length-replicate, length-drop, List·getD-eq-default}
 use lib.Seq.{sets, length-sets, sets-eq, ext-getD, take-set-le, drop-set-lt, take-add, take-take, drop-at, take-at, length-take-le, getD-take, getD-drop}
 use Rattle.text.specs.Answers.{padded}
-use Rattle.rules.specs.Rules.{nth}
+use Rattle.model.specs.Rules.{nth}
 use Rattle.model.specs.Held.{putRow, tabled, rowIn, listed}
 use Rattle.model.specs.Test.{empty, emptyPast}
 use Rattle.text.proofs.PaddedLaws.{length-padded, take-padded}
-use Rattle.model.proofs.PadLaws.{nth-zeros, nth-taken, nth-padded, padded-past, padded-take, empty-padded, padded-none}
-use Rattle.model.proofs.SlotLaws.{below-at, below-of, cond-below, cond-from, by-index}
-use Rattle.model.proofs.SlotLaws.{listed-at, listed-past, length-listed, Slots, fill-keeps, fill-at, fill-past}
+use Rattle.model.proofs.PaddedRows.{nth-zeros, nth-taken, nth-padded, padded-past, padded-take, empty-padded, padded-none}
+use Rattle.model.proofs.SlotLaws.{below-at, below-of, cond-below, cond-from, by-index, listed-at, listed-past, length-listed, Slots, fill-keeps, fill-at, fill-past}
 
 -- ---- rows
 

@@ -7,17 +7,17 @@ use lib.Dec.{leb, eqb}
 use borrow.Author.Tests.{eqb-true}
 use lib.ListN.{length, drop, getD, List·getD-eq-default}
 use lib.Seq.{getD-drop}
-use Rattle.scan.proofs.Basics.{and-true}
+use Rattle.text.proofs.Basics.{and-true}
 use Rattle.text.specs.Lines.{within}
 use Rattle.model.specs.declared.ObjectNet.{ObjectNet}
 use Rattle.model.specs.declared.Event.{Event}
 use Rattle.model.specs.declared.Model.{Model}
-use Rattle.rules.specs.Rules.{nth}
+use Rattle.model.specs.Rules.{nth}
 use Rattle.model.specs.Held.{noNet, noEvent}
 use Rattle.model.specs.Test.{empty, heldNet, heldEvent, emptyEvent, frameIn}
-use Rattle.model.proofs.PadLaws.{empty-of}
+use Rattle.model.proofs.PaddedRows.{empty-of}
 use Rattle.model.proofs.SlotLaws.{cond-below, cond-from, by-index}
-use Rattle.model.proofs.TestLaws.{Held, EventIn, event-in, most-nets, most-places, most-events, countTest, types-at, nets-at, events-at}
+use Rattle.model.proofs.HeldTests.{Held, EventIn, event-in, most-nets, most-places, most-events, countTest, types-at, nets-at, events-at}
 
 module _ (m : Model) (held : Held m) where
   -- a type that is used is a net's or 0

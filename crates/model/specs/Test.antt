@@ -7,7 +7,7 @@ use lib.Dec.{leb, eqb, ltb}
 use lib.ListN.{drop, getD}
 use Rattle.text.specs.Lines.{within, every}
 use Rattle.eos.specs.Firing.{allBelow}
-use Rattle.rules.specs.Rules.{nth, Frame, monotonous, takesPart}
+use Rattle.model.specs.Rules.{nth, Frame, monotonous, takesPart}
 use Rattle.model.specs.Held.{noNet, noEvent, rowIn}
 use Rattle.model.specs.declared.ObjectNet.{ObjectNet}
 use Rattle.model.specs.declared.Event.{Event}

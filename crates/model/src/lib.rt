@@ -1,8 +1,7 @@
-// The held model: a plant's places, moves, object nets and events in arrays of fixed room. The test of a held model.
+// The held model: a plant's places, moves, object nets and events in arrays of fixed room. The rules for a model, how it is held and the
+// test of a held model: definitions and laws.
 ghost use mathlib.Core.Path.{_≡_};
 ghost use Rattle.model.specs.Held.{noNet, noEvent, noModel};
-
-pub mod held;
 
 // An object net; arcs at transition * 32 + place. Unused room is 0.
 #[repr(C)]

@@ -1,17 +1,17 @@
 // For each answer of a call its number in 01's table, and what stands beside it.
 ghost use mathlib.Core.Path.{_≡_};
 ghost use Rattle.reader.specs.Answers.{readPair, writePair};
-ghost use Rattle.firing.specs.Answers.{stepPair};
-ghost use Rattle.running.specs.Running.{stopPair};
-ghost use Rattle.weights.specs.Answers.{weightPair};
+ghost use Rattle.runner.specs.Answers.{stepPair};
+ghost use Rattle.runner_trace.specs.Running.{stopPair};
+ghost use Rattle.keeper.specs.Answers.{weightPair};
 ghost use Rattle.spread.specs.Call.{spreadPair};
 ghost use Rattle.pairs.specs.Pairs.{refusalOf};
-use firing::StepAnswer;
+use keeper::WeightAnswer;
 use reader::ReadAnswer;
 use reader::WriteAnswer;
-use running::Stop;
+use runner::StepAnswer;
+use runner_trace::Stop;
 use spread::Spread;
-use weights::WeightAnswer;
 
 // A number of 01's table, and what stands beside it.
 pub struct Pair {

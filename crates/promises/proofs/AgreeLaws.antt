@@ -7,9 +7,9 @@ use native.Mathlib.Omega.{arith}
 use lib.Dec.{T, leb}
 use lib.ListN.{length}
 use borrow.Author.Tests.{leb-true, leb-false}
-use Rattle.scan.specs.Bytes.{Text}
-use Rattle.scan.proofs.Basics.{by-test, and-true}
-use Rattle.encoding.proofs.TestLaws.{and-both}
+use Rattle.text.specs.Bytes.{Text}
+use Rattle.text.proofs.Basics.{by-test, and-true}
+use Rattle.text.proofs.TestLaws.{and-both}
 use Rattle.eos.specs.Model as eos
 use Rattle.eos.specs.Firing.{Step, fires, after}
 use Rattle.eos.specs.Causes.{Refusal}
@@ -17,28 +17,28 @@ use Rattle.eos.specs.Weights.{Fits}
 use Rattle.eos.specs.Run.{ruleFires, Answer, hasFired, Holdable, Agrees}
 use Rattle.eos.proofs.Basics.{is-true}
 use Rattle.eos.proofs.FiringLaws.{fires-yes, fires-all}
-use Rattle.rules.specs.Rules.{rightModel}
+use Rattle.model.specs.Rules.{rightModel}
 use Rattle.model.specs.Held.{holdModel}
 use Rattle.model.specs.Test.{heldModel}
 use Rattle.model.specs.declared.Model.{Model}
-use Rattle.holding.proofs.HoldLaws.{modelOf-hold}
-use Rattle.holding.proofs.HoldHeld as holding
+use Rattle.model.proofs.HoldModel.{modelOf-hold}
+use Rattle.model.proofs.HoldHeld as holding
 use Rattle.marking.specs.Held.{Sizes, sizesOf, Roomy, holdMarking, tokensOf}
 use Rattle.marking.specs.Reading.{rightBlock}
 use Rattle.marking.specs.declared.Marking.{Marking}
-use Rattle.marking.proofs.HoldLaws as hold
+use Rattle.marking.proofs.HoldMarking as hold
 use Rattle.reader.specs.Reading.{bounds}
-use Rattle.reader.specs.Sizes.{sizesFor}
+use Rattle.marking.specs.Sizes.{sizesFor}
 use Rattle.reader.specs.Answers.{longest, heldBoth}
-use Rattle.reader.proofs.SizeLaws.{held-roomy, sizes-same}
-use Rattle.steps.specs.Reading.{readStep}
-use Rattle.firing.specs.Answers.{stepPair, stepping}
-use Rattle.firing.specs.declared.Stepped.{Stepped}
-use Rattle.firing.specs.declared.StepAnswer.{StepAnswer}
-use Rattle.firing.specs.declared.StepAnswer.the-variants.{Fired, TooLong, NotHeld, Faulty, Turned}
-use Rattle.firing.proofs.StepLaws.{step-long}
-use Rattle.firing.proofs.FiresExactly.{Brings, fires-exactly}
-use Rattle.firing.proofs.RefusedLeaves.{refused-leaves}
+use Rattle.marking.proofs.SizeLaws.{held-roomy, sizes-same}
+use Rattle.step.specs.Reading.{readStep}
+use Rattle.runner.specs.Answers.{stepPair, stepping}
+use Rattle.runner.specs.declared.Stepped.{Stepped}
+use Rattle.runner.specs.declared.StepAnswer.{StepAnswer}
+use Rattle.runner.specs.declared.StepAnswer.the-variants.{Fired, TooLong, NotHeld, Faulty, Turned}
+use Rattle.runner.proofs.StepAnswers.{step-long}
+use Rattle.runner.proofs.FiresExactly.{Brings, fires-exactly}
+use Rattle.runner.proofs.RefusedStep.{refused-leaves}
 use Rattle.promises.specs.WholeRun.{brings}
 use Rattle.promises.proofs.BringLaws.{read-free, fits-right, brings-read, read-brings, brings-bounds}
 

@@ -8,10 +8,10 @@ use native.Mathlib.Omega.{arith}
 use lib.Dec.{T, leb, ltb}
 use lib.ListN.{length, getD}
 use borrow.Author.Tests.{leb-true, le-leb, ltb-true, lt-ltb}
-use Rattle.scan.specs.Bytes.{Text}
-use Rattle.scan.proofs.Basics.{by-test, and-true}
+use Rattle.text.specs.Bytes.{Text}
+use Rattle.text.proofs.Basics.{by-test, and-true}
 use Rattle.text.specs.Lines.{Outcome, got, bad, every}
-use Rattle.encoding.proofs.TestLaws.{and-both, every-of}
+use Rattle.text.proofs.TestLaws.{and-both, every-of}
 use Rattle.eos.specs.Multiset as M
 use Rattle.eos.specs.Model as eos
 use Rattle.eos.specs.Firing.{Step, StepOf}
@@ -21,14 +21,14 @@ use Rattle.eos.proofs.MultisetLaws.{bit-self}
 use Rattle.eos.proofs.FiringLaws.{alike}
 use Rattle.marking.specs.Held.{Sizes, sizesOf}
 use Rattle.marking.specs.Reading.{Limits, free, rightNetToken, rightBlock}
-use Rattle.marking.proofs.HoldLaws.{is-right}
+use Rattle.marking.proofs.HoldMarking.{is-right}
 use Rattle.reader.specs.Reading.{bounds}
 use Rattle.reader.specs.Answers.{longest}
-use Rattle.steps.specs.Reading.{readStep, rightStep}
-use Rattle.steps.proofs.StepExactly.{step-exactly}
-use Rattle.verdict.proofs.ProjectionLaws.{fit}
-use Rattle.verdict.proofs.SoundLaws.{proper-read}
-use Rattle.firing.proofs.StandsLaws.{any-range}
+use Rattle.step.specs.Reading.{readStep, rightStep}
+use Rattle.step.proofs.StepExactly.{step-exactly}
+use Rattle.step.proofs.ProjectionLaws.{fit}
+use Rattle.step.proofs.SoundLaws.{proper-read}
+use Rattle.runner.proofs.StandsLaws.{any-range}
 use Rattle.promises.specs.WholeRun.{stepIn, brings}
 
 -- ---- a step read for some limits, read for others

@@ -8,39 +8,39 @@ use lib.Dec.{T, leb}
 use lib.IntN.{ℤ, pos, natAbs}
 use lib.ListN.{length}
 use borrow.Author.Tests.{leb-true, leb-false}
-use Rattle.scan.specs.Bytes.{Text}
-use Rattle.scan.proofs.Basics.{by-test, and-true}
+use Rattle.text.specs.Bytes.{Text}
+use Rattle.text.proofs.Basics.{by-test, and-true}
 use Rattle.text.specs.Lines.{got}
-use Rattle.numbers.specs.Answers.{above, below}
+use Rattle.text.specs.Capped.{above, below}
 use Rattle.eos.specs.Multiset as M
 use Rattle.eos.specs.Model as eos
 use Rattle.eos.specs.Weights.{Weights, Shaped, weigh, Passing, covers}
 use Rattle.eos.proofs.Basics.{true-is}
 use Rattle.eos.proofs.WeightLaws.{weigh-canonical}
 use Rattle.eos.proofs.BoundLaws.{cover-out, cover-in, weigh-positive}
-use Rattle.rules.specs.Rules.{rightModel}
+use Rattle.model.specs.Rules.{rightModel}
 use Rattle.model.specs.Held.{holdModel, modelOf}
 use Rattle.model.specs.declared.Model.{Model}
-use Rattle.holding.proofs.HoldLaws.{modelOf-hold}
-use Rattle.holding.proofs.HoldHeld as holding
+use Rattle.model.proofs.HoldModel.{modelOf-hold}
+use Rattle.model.proofs.HoldHeld as holding
 use Rattle.marking.specs.Held.{Sizes, sizesOf, holdMarking, tokensOf}
 use Rattle.marking.specs.Reading.{rightBlock}
 use Rattle.marking.specs.declared.Marking.{Marking}
-use Rattle.marking.proofs.HoldLaws as hold
+use Rattle.marking.proofs.HoldMarking as hold
 use Rattle.reader.specs.Reading.{bounds, Loaded, rightLoaded}
-use Rattle.reader.specs.Sizes.{sizesFor}
+use Rattle.marking.specs.Sizes.{sizesFor}
 use Rattle.reader.specs.Answers.{longest, heldBoth}
-use Rattle.reader.proofs.SizeLaws.{held-roomy, sizes-same}
+use Rattle.marking.proofs.SizeLaws.{held-roomy, sizes-same}
 use Rattle.reader.proofs.HeldExactly.{canonical-held, right-parts}
-use Rattle.verdict.proofs.SoundLaws.{proper-read}
-use Rattle.weights.specs.Reading.{readWeightFile}
-use Rattle.weights.specs.Answers.{sumOf, weightChecking}
-use Rattle.weights.specs.declared.Sum.{Sum}
-use Rattle.weights.specs.declared.WeightCheck.{WeightCheck}
-use Rattle.weights.specs.declared.WeightAnswer.the-variants.{Passed, TooLong, NotHeld}
-use Rattle.weights.proofs.ReadsWhatItSays.{weights-were-printed, weights-read-what-they-say, right-shaped}
-use Rattle.weights.proofs.CheckLaws.{check-long, check-unheld}
-use Rattle.weights.proofs.WeightsExactly.{covers-parts, weights-exactly, sum-exactly, cover-exactly}
+use Rattle.step.proofs.SoundLaws.{proper-read}
+use Rattle.keeper.specs.Reading.{readWeightFile}
+use Rattle.keeper.specs.Answers.{sumOf, weightChecking}
+use Rattle.keeper.specs.declared.Sum.{Sum}
+use Rattle.keeper.specs.declared.WeightCheck.{WeightCheck}
+use Rattle.keeper.specs.declared.WeightAnswer.the-variants.{Passed, TooLong, NotHeld}
+use Rattle.keeper.proofs.WeightsReadBack.{weights-were-printed, weights-read-what-they-say, right-shaped}
+use Rattle.keeper.proofs.CheckLaws.{from-long, from-unheld}
+use Rattle.keeper.proofs.WeightsExactly.{covers-parts, weights-exactly, sum-exactly, cover-exactly}
 
 -- weights of a model that balance, and cover with the sum of a marking, which is the sum reported
 pub record Balances (d : eos.Model) (μ : eos.Marking) (file : Text) (sum : Sum) : Type 0 where
@@ -78,12 +78,12 @@ module _ (m : Model) (k : Marking) (file : Text) (sum : Sum) (passed : weightChe
   short : length file ≤ longest
   short =
       by-test (leb (length file) longest) (leb-true (length file) longest)
-      (λ h. absurd (long≢passed (ap (λ (c : WeightCheck). c .answer) (check-long m k file (leb-false (length file) longest h)) ∙ answered)))
+      (λ h. absurd (long≢passed (ap (λ (c : WeightCheck). c .answer) (from-long m k file 0 (leb-false (length file) longest h)) ∙ answered)))
 
   passed-held : heldBoth m k ≡ true
   passed-held =
       by-test (heldBoth m k) (λ h. h)
-      (λ h. absurd (unheld≢passed (ap (λ (c : WeightCheck). c .answer) (check-unheld m k file short h) ∙ answered)))
+      (λ h. absurd (unheld≢passed (ap (λ (c : WeightCheck). c .answer) (from-unheld m k file 0 short h) ∙ answered)))
 
   passed-balances : Balances (modelOf m) (tokensOf (sizesFor m) k) file sum
   passed-balances =

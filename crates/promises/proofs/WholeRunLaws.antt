@@ -6,7 +6,7 @@ use mathlib.Core.List.{List, [], _∷_, map}
 use native.Mathlib.Omega.{arith}
 use lib.IntN.{pos, natAbs}
 use lib.ListN.{length, getD, List·getD-map}
-use Rattle.scan.specs.Bytes.{Text}
+use Rattle.text.specs.Bytes.{Text}
 use Rattle.text.specs.Lines.{got}
 use Rattle.eos.specs.Model as eos
 use Rattle.eos.specs.Firing.{outer, inner}
@@ -16,19 +16,19 @@ use Rattle.eos.proofs.Basics.{true-is}
 use Rattle.eos.proofs.RunLaws.{demand-3}
 use Rattle.model.specs.Held.{holdModel, modelOf}
 use Rattle.model.specs.declared.Model.{Model}
-use Rattle.holding.proofs.HoldLaws.{modelOf-hold}
+use Rattle.model.proofs.HoldModel.{modelOf-hold}
 use Rattle.marking.specs.Held.{holdMarking}
 use Rattle.marking.specs.declared.Marking.{Marking}
 use Rattle.reader.specs.Reading.{Loaded, readModel, rightLoaded}
 use Rattle.reader.proofs.ReadsWhatItSays.{reads-what-it-says}
 use Rattle.reader.proofs.HeldExactly.{accepted-is-printed}
-use Rattle.firing.specs.Answers.{stepPair, stepping}
-use Rattle.firing.specs.declared.StepAnswer.{StepAnswer}
-use Rattle.firing.specs.declared.StepAnswer.the-variants.{Fired, TooLong, NotHeld, Faulty, Turned}
-use Rattle.weights.specs.Answers.{weightChecking}
-use Rattle.weights.specs.declared.Sum.{Sum}
-use Rattle.weights.specs.declared.WeightAnswer.the-variants.{Passed}
-use Rattle.weights.proofs.WeightsExactly.{covers-parts}
+use Rattle.runner.specs.Answers.{stepPair, stepping}
+use Rattle.runner.specs.declared.StepAnswer.{StepAnswer}
+use Rattle.runner.specs.declared.StepAnswer.the-variants.{Fired, TooLong, NotHeld, Faulty, Turned}
+use Rattle.keeper.specs.Answers.{weightChecking}
+use Rattle.keeper.specs.declared.Sum.{Sum}
+use Rattle.keeper.specs.declared.WeightAnswer.the-variants.{Passed}
+use Rattle.keeper.proofs.WeightsExactly.{covers-parts}
 use Rattle.promises.specs.WholeRun.{brings, ownRun, ownFired, leftBy, answersOf, saysFired, racks, Covered, WholeRun}
 use Rattle.promises.proofs.BringLaws.{brings-known}
 use Rattle.promises.proofs.AgreeLaws.{causeOf, call, holdable-tokens, agrees}

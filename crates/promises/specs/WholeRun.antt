@@ -9,7 +9,7 @@ use Prim.Native.Nat.{ℕ, _/_, _≤_, _<_}
 use lib.Dec.{leb}
 use lib.IntN.{pos, natAbs}
 use lib.ListN.{length, getD}
-use Rattle.scan.specs.Bytes.{Text}
+use Rattle.text.specs.Bytes.{Text}
 use Rattle.text.specs.Lines.{Outcome, got, bad}
 use Rattle.eos.specs.Model as eos
 use Rattle.eos.specs.Firing.{Step, outer, inner}
@@ -21,18 +21,18 @@ use Rattle.marking.specs.Held.{sizesOf, holdMarking, tokensOf}
 use Rattle.marking.specs.Reading.{free}
 use Rattle.marking.specs.declared.Marking.{Marking}
 use Rattle.reader.specs.Reading.{Loaded, readModel}
-use Rattle.reader.specs.Sizes.{sizesFor}
+use Rattle.marking.specs.Sizes.{sizesFor}
 use Rattle.reader.specs.Answers.{longest, modelReading}
 use Rattle.reader.specs.declared.ReadAnswer.the-variants.{Accepted}
-use Rattle.steps.specs.Reading.{readStep}
-use Rattle.firing.specs.Answers.{stepPair, stepping}
-use Rattle.firing.specs.declared.StepAnswer.{StepAnswer}
-use Rattle.firing.specs.declared.StepAnswer.the-variants.{Fired, TooLong, NotHeld, Faulty, Turned}
-use Rattle.weights.specs.Reading.{readWeightFile}
-use Rattle.weights.specs.Answers.{weightChecking}
-use Rattle.weights.specs.Covering.{Covering}
-use Rattle.weights.specs.declared.Sum.{Sum}
-use Rattle.weights.specs.declared.WeightAnswer.the-variants.{Passed}
+use Rattle.step.specs.Reading.{readStep}
+use Rattle.runner.specs.Answers.{stepPair, stepping}
+use Rattle.runner.specs.declared.StepAnswer.{StepAnswer}
+use Rattle.runner.specs.declared.StepAnswer.the-variants.{Fired, TooLong, NotHeld, Faulty, Turned}
+use Rattle.keeper.specs.Reading.{readWeightFile}
+use Rattle.keeper.specs.Answers.{weightChecking}
+use Rattle.keeper.specs.Covering.{Covering}
+use Rattle.keeper.specs.declared.Sum.{Sum}
+use Rattle.keeper.specs.declared.WeightAnswer.the-variants.{Passed}
 
 -- ---- the rule's own run
 

@@ -7,11 +7,11 @@ use lib.Dec.{leb}
 use lib.ListN.{length, take}
 use lib.Seq.{sets, length-sets, length-take-le}
 use borrow.Author.Tests.{leb-true, leb-false}
-use Rattle.scan.proofs.Basics.{by-test}
+use Rattle.text.proofs.Basics.{by-test}
 use Rattle.reader.specs.Answers.{Lent, layWhole}
 use Rattle.reader.specs.declared.WriteAnswer.{WriteAnswer}
 use Rattle.reader.specs.declared.WriteAnswer.the-variants.{Written, TooSmall}
-use Rattle.reader.proofs.WritingLaws.{whole-fits, whole-short}
+use Rattle.reader.proofs.WriteAnswers.{whole-fits, whole-short}
 
 pub written-counts : (text out : List ℕ) {r : WriteAnswer} {n : ℕ} {after : List ℕ} → record { answer = r; bytes = after } ≡ layWhole text out
     → r ≡ Written n → (n ≤ length after) × (n ≡ length (take n after))

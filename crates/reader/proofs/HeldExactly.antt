@@ -9,42 +9,42 @@ use native.Mathlib.Omega.{arith}
 use lib.Dec.{leb}
 use lib.ListN.{length, length-append}
 use borrow.Author.Tests.{le-leb, leb-true}
-use Rattle.scan.specs.Bytes.{Text}
-use Rattle.scan.proofs.Basics.{by-test, and-true}
+use Rattle.text.specs.Bytes.{Text}
+use Rattle.text.proofs.Basics.{by-test, and-true}
 use Rattle.text.specs.Lines.{Outcome, got, bad, every}
-use Rattle.encoding.proofs.TestLaws.{and-both}
-use Rattle.encoding.proofs.Unique.{was-printed}
+use Rattle.text.proofs.TestLaws.{and-both}
+use Rattle.text.proofs.Unique.{was-printed}
 use Rattle.eos.specs.Model as eos
 use Rattle.eos.proofs.MultisetLaws.{Monoid, sumOf, ℕ+}
 use Rattle.eos.proofs.OrderLaws.{sort-again, sum-sort}
 use Rattle.eos.proofs.FiringLaws.{tokenOrder}
-use Rattle.rules.specs.Rules.{rightModel}
+use Rattle.model.specs.Rules.{rightModel}
 use Rattle.model.specs.Held.{holdModel}
 use Rattle.model.specs.Held as model
 use Rattle.model.specs.Test.{heldModel}
 use Rattle.model.specs.declared.Model.{Model}
-use Rattle.holding.proofs.HoldHeld.{hold-held}
-use Rattle.holding.proofs.HeldLaws as laws
-use Rattle.rules.proofs.RuleLaws.{right-is, few-places}
-use Rattle.model.proofs.TestLaws.{held-is, most-places}
-use Rattle.plant.specs.Printed.{plantText}
-use Rattle.plant.proofs.LengthLaws.{plant-length}
+use Rattle.model.proofs.HoldHeld.{hold-held}
+use Rattle.model.proofs.HeldLaws as laws
+use Rattle.model.proofs.RuleLaws.{right-is, few-places}
+use Rattle.model.proofs.HeldTests.{held-is, most-places}
+use Rattle.model_text.specs.Printed.{plantText}
+use Rattle.model_text.proofs.ModelLength.{plant-length}
 use Rattle.marking.specs.Held.{Sizes, sizesOf, Roomy, holdMarking, tokensOf, heldMarking}
 use Rattle.marking.specs.Held as marking
 use Rattle.marking.specs.Reading.{rightNetToken, rightBlock}
 use Rattle.marking.specs.Printed.{markingText}
 use Rattle.marking.specs.declared.Marking.{Marking}
-use Rattle.marking.proofs.HoldLaws as hold
+use Rattle.marking.proofs.HoldMarking as hold
 use Rattle.marking.proofs.WriteLaws.{marking-length}
-use Rattle.reader.specs.Reading.{bounds, Loaded, readLines, readModel, readMarking, rightLoaded}
+use Rattle.reader.specs.Reading.{bounds, Loaded, readLines, readModel, readMarking, rightLoaded, readModelAt}
 use Rattle.reader.specs.Printed.{modelText}
-use Rattle.reader.specs.Sizes.{sizesFor}
-use Rattle.reader.specs.Answers.{longest, loaded, modelReading, restored, forHeld, markingReading, heldBoth}
+use Rattle.marking.specs.Sizes.{sizesFor}
+use Rattle.reader.specs.Answers.{longest, loaded, modelReading, restored, markingOr, markingReading, heldBoth, modelFrom, markingFrom}
 use Rattle.reader.specs.declared.ReadAnswer.the-variants.{Accepted, TooLong, Faulty}
 use Rattle.reader.specs.declared.ModelReading.{ModelReading}
 use Rattle.reader.specs.declared.MarkingReading.{MarkingReading}
 use Rattle.reader.proofs.ReadsWhatItSays.{ended, lines-exactly, reads-what-it-says, reads-what-marking-says}
-use Rattle.reader.proofs.SizeLaws.{held-roomy, sizes-same}
+use Rattle.marking.proofs.SizeLaws.{held-roomy, sizes-same}
 
 -- ---- accepted is printed
 
@@ -75,7 +75,7 @@ accepts-as s m n k l p q h = rw (p, q) h
 
 module _ (s : Text) (m : Model) (k : Marking) where
   got-printed : (o : Outcome Loaded) → readModel s ≡ o → length s ≤ longest → loaded s o ≡ accepted m k → Printed s m k
-  unfolding readModel loaded
+  unfolding readModelAt loaded
   got-printed (got l x) e h f =
       let p = ended (readLines s 0) s l x e in
       let w = was-printed readLines modelText rightLoaded lines-exactly s l x (p .0) (p .1) in
@@ -83,17 +83,17 @@ module _ (s : Text) (m : Model) (k : Marking) where
   got-printed (bad d) e h f = absurd (faulty≢accepted (ap (λ (r : ModelReading). r .answer) f))
 
   accepted-printed : Accepts s m k → Printed s m k
-  unfolding modelReading
+  unfolding modelFrom
   accepted-printed e =
       by-test (leb (length s) longest)
-      (λ h. got-printed (readModel s) refl (leb-true (length s) longest h) (rw (h, modelReading) at e))
-      (λ h. absurd (long≢accepted (ap (λ (r : ModelReading). r .answer) (rw (h, modelReading) at e))))
+      (λ h. got-printed (readModel s) refl (leb-true (length s) longest h) (rw (h, modelFrom) at e))
+      (λ h. absurd (long≢accepted (ap (λ (r : ModelReading). r .answer) (rw (h, modelFrom) at e))))
 
   printed-accepted : Printed s m k → Accepts s m k
-  unfolding modelReading loaded
+  unfolding modelFrom loaded
   printed-accepted (l, text, right, short, model-is, start-is) =
       let r = reads-what-it-says s l .1 (text, right) in
-      rw (le-leb (length s) longest short, modelReading) (ap (loaded s) r ∙ rw (model-is, start-is))
+      rw (le-leb (length s) longest short, modelFrom) (ap (loaded s) r ∙ rw (model-is, start-is))
 
   -- a model's text is accepted with a held model and a held start exactly where it is printed and this is how they are held
   pub accepted-is-printed : Accepts s m k ↔ Printed s m k
@@ -203,7 +203,7 @@ module _ (m : Model) (sized : model.Sized m) where
 -- the text of a held marking of a held model is accepted, and the marking is given back
 pub written-reads-back : (m : Model) (k : Marking) → marking.Sized k → heldBoth m k ≡ true
     → markingReading m (markingText (tokensOf (sizesFor m) k)) ≡ record { answer = Accepted; marking = k }
-unfolding heldBoth markingReading forHeld restored
+unfolding heldBoth markingFrom markingOr restored
 written-reads-back m k small h =
     let a = and-true (heldModel m) _ h in
     let z = sizesFor m in
@@ -214,4 +214,4 @@ written-reads-back m k small h =
     let r = reads-what-marking-says z s μ .1 (refl, b .0 .right) in
     let q : restored s (readMarking z s) ≡ record { answer = Accepted; marking = k } =
     ap (restored s) r ∙ ap {B = MarkingReading} (λ k. record { answer = Accepted; marking = k }) (ap holdMarking (b .0 .ordered) ∙ sym (b .1)) in
-    rw (le-leb (length s) longest (omega arith), markingReading, a .0) q
+    rw (le-leb (length s) longest (omega arith), markingFrom, a .0) q

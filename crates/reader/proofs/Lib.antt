@@ -1,8 +1,6 @@
 pub mod ReadsWhatItSays
-pub mod SizeLaws
 pub mod ReadingLaws
-pub mod WritingLaws
+pub mod WriteAnswers
 pub mod HeldExactly
 pub mod RefusedLeaves
 pub mod Passing
-pub mod Cases

@@ -1,5 +1,5 @@
 -- What the calls over a text pass and answer, as the walks over the reader of a file take it.
-use Rattle.file.proofs.Walks.{Passed, struct}
+use Rattle.text_reader.proofs.ReaderWalks.{Passed, struct}
 use Rattle.model.proofs.Model as M
 use Rattle.model.proofs.Model.Laws as M′
 use Rattle.marking.proofs.Marking as K

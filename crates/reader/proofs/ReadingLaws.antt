@@ -6,36 +6,36 @@ use mathlib.Core.Bool.{Bool, true, false}
 use lib.Dec.{leb}
 use lib.ListN.{length}
 use borrow.Author.Tests.{le-leb, lt-leb}
-use Rattle.scan.specs.Bytes.{Text, bytes}
-use Rattle.scan.proofs.Basics.{by-test, and-true}
+use Rattle.text.specs.Bytes.{Text, bytes}
+use Rattle.text.proofs.Basics.{by-test, and-true}
 use Rattle.text.specs.Lines.{Outcome, got, bad, then, need, fault}
 use Rattle.text.specs.Answers.{endedOf, keptOr}
 use Rattle.text.specs.declared.Fault.{Fault}
 use Rattle.text.specs.declared.Ended.the-variants.{Past, Stopped}
-use Rattle.encoding.proofs.Loops.{Got, got-of, bad-of}
+use Rattle.text.proofs.Loops.{Got, got-of, bad-of}
 use Rattle.eos.specs.Model as eos
-use Rattle.rules.specs.Rules.{rightModel}
+use Rattle.model.specs.Rules.{rightModel}
 use Rattle.model.specs.Held.{holdModel}
 use Rattle.model.specs.Test.{heldModel}
 use Rattle.model.specs.declared.Model.{Model}
-use Rattle.holding.proofs.HoldHeld.{hold-held}
-use Rattle.plant.specs.Reading.{readPlant}
-use Rattle.plant.specs.Answers.{readingOf}
-use Rattle.plant.specs.declared.Reading.{Reading}
-use Rattle.plant.proofs.PlantExactly.{plant-exactly}
+use Rattle.model.proofs.HoldHeld.{hold-held}
+use Rattle.model_text.specs.Reading.{readPlant}
+use Rattle.model_text.specs.Answers.{readingOf}
+use Rattle.model_text.specs.declared.Reading.{Reading}
+use Rattle.model_text.proofs.PlantExactly.{plant-exactly}
 use Rattle.marking.specs.Held.{Sizes, sizesOf, sizesAt, Roomy, holdMarking, noMarking, heldMarking}
 use Rattle.marking.specs.Reading.{readBlock}
 use Rattle.marking.specs.Answers.{blockOf}
 use Rattle.marking.specs.declared.Marking.{Marking}
 use Rattle.marking.specs.declared.Block.{Block}
-use Rattle.reader.specs.Reading.{bounds, Loaded, readEnd, readTokens, readLines, readModel, readMarking}
-use Rattle.reader.specs.Sizes.{sizesIn, sizesFor}
-use Rattle.reader.specs.Parts.{modelFrom, heldFrom, markingFrom}
-use Rattle.reader.specs.Answers.{longest, faulty, noReading, loaded, modelReading, noTokens, restored, forHeld, markingReading, heldBoth}
+use Rattle.reader.specs.Reading.{bounds, Loaded, readEnd, readMarkingAt, readLines, readModelAt}
+use Rattle.marking.specs.Sizes.{sizesIn, sizesFor}
+
+use Rattle.reader.specs.Answers.{longest, faulty, noReading, loaded, noTokens, restored, heldBoth, modelFrom, markingFrom, markingOr}
 use Rattle.reader.specs.declared.ReadAnswer.the-variants.{Accepted, TooLong, NotHeld}
 use Rattle.reader.specs.declared.ModelReading.{ModelReading}
 use Rattle.reader.specs.declared.MarkingReading.{MarkingReading}
-use Rattle.reader.proofs.SizeLaws.{held-roomy, sizes-same}
+use Rattle.marking.proofs.SizeLaws.{held-roomy, sizes-same}
 
 -- ---- net-tokens, by what the code has of them
 module _ (o : Outcome eos.Marking) (b : Block) (is : b ≡ blockOf o) where
@@ -102,11 +102,6 @@ module _ (m : Model) (k : Marking) where
 
 -- ---- a model
 
--- from its first byte on
-pub model-start : (s : Text) → modelFrom s 0 ≡ modelReading s
-unfolding modelFrom modelReading readModel
-model-start s = refl
-
 pub model-long : (s : Text) (at : ℕ) (r : ModelReading) → r ≡ noReading TooLong → longest < length s → r ≡ modelFrom s at
 unfolding modelFrom
 model-long s at r e h = e ∙ rw (lt-leb (length s) longest h, modelFrom)
@@ -124,7 +119,7 @@ join-end d s (bad e) = refl
 
 module _ (s : Text) (at : ℕ) (few : length s ≤ longest) (p : Reading) (is : p ≡ readingOf (readPlant s at)) where
   abbrev all : Outcome Loaded
-  all = then (readLines s at) (readEnd s)
+  all = readModelAt s at
 
   short : modelFrom s at ≡ loaded s all
   unfolding modelFrom
@@ -136,7 +131,7 @@ module _ (s : Text) (at : ℕ) (few : length s ≤ longest) (p : Reading) (is : 
 
   -- its lines are refused
   pub model-stopped : (d : Fault) → p .ended ≡ Stopped d → noReading (faulty s d) ≡ modelFrom s at
-  unfolding readLines then loaded
+  unfolding readModelAt readLines then loaded
   model-stopped d e = sym (short ∙ rw (bad-of (readPlant s at) (p .ended) d lines-ended e))
 
   module _ (next : ℕ) (e : p .ended ≡ Past next) where
@@ -157,43 +152,32 @@ module _ (s : Text) (at : ℕ) (few : length s ≤ longest) (p : Reading) (is : 
     pub read-held : heldModel (p .model) ≡ true
     read-held = rw model-is (hold-held said said-right)
 
-    module _ (z : List ℕ) (sizes-are : z ≡ sizesIn (p .model)) (b : Block) (start-is : b ≡ blockOf (readTokens (sizesAt (p .model .places) z) s next)) where
-      start-of : b ≡ blockOf (readTokens (sizesOf said) s next)
+    module _ (z : List ℕ) (sizes-are : z ≡ sizesIn (p .model)) (b : Block) (start-is : b ≡ blockOf (readMarkingAt (sizesAt (p .model .places) z) s next)) where
+      start-of : b ≡ blockOf (readMarkingAt (sizesOf said) s next)
       start-of =
           let k : sizesAt (p .model .places) z ≡ sizesOf said = ap (sizesAt (p .model .places)) sizes-are ∙ ap sizesFor model-is ∙ sizes-same said said-right in
-          start-is ∙ ap (λ (z : Sizes). blockOf (readTokens z s next)) k
+          start-is ∙ ap (λ (z : Sizes). blockOf (readMarkingAt z s next)) k
 
-      read-is : all ≡ then (readTokens (sizesOf said) s next) (with said)
-      unfolding readLines then
+      read-is : all ≡ then (readMarkingAt (sizesOf said) s next) (with said)
+      unfolding readModelAt readLines then
       read-is = rw (plant-got .is) (join-end said s (readBlock (bytes "start=") bounds (sizesOf said) s next))
 
       -- the net-tokens of its start are refused
       pub start-stopped : (d : Fault) → b .ended ≡ Stopped d → noReading (faulty s d) ≡ modelFrom s at
       unfolding then loaded
       start-stopped d f =
-          let l : all ≡ bad d = read-is ∙ rw (block-bad (readTokens (sizesOf said) s next) b start-of d f) in
+          let l : all ≡ bad d = read-is ∙ rw (block-bad (readMarkingAt (sizesOf said) s next) b start-of d f) in
           sym (short ∙ ap (loaded s) l)
 
       -- all of it is read
       pub model-read : (end : ℕ) → b .ended ≡ Past end → record { answer = Accepted; model = p .model; start = b .marking } ≡ modelFrom s at
       unfolding then loaded
       model-read end f =
-          let t = block-got (readTokens (sizesOf said) s next) b start-of end f in
+          let t = block-got (readMarkingAt (sizesOf said) s next) b start-of end f in
           let l : all ≡ with said (t .tokens) end = read-is ∙ ap (λ (o : Outcome eos.Marking). then o (with said)) (t .read) in
           ap₂ {C = ModelReading} (λ m k. record { answer = Accepted; model = m; start = k }) model-is (t .held) ∙ sym (short ∙ ap (loaded s) l)
 
 -- ---- a marking
-module _ (m : Model) (s : Text) where
-  held-start : (b : Bool) → heldFrom b m s 0 ≡ forHeld b m s
-  unfolding heldFrom forHeld readMarking
-  held-start true = refl
-  held-start false = refl
-
-  -- from its first byte on
-  pub marking-start : markingFrom m s 0 ≡ markingReading m s
-  unfolding markingFrom markingReading
-  marking-start = ap (λ (r : MarkingReading). elim (leb (length s) longest) [ true ↦ r | false ↦ noTokens TooLong ]) (held-start (heldModel m))
-
 module _ (m : Model) (s : Text) (at : ℕ) where
   pub marking-long : (r : MarkingReading) → r ≡ noTokens TooLong → longest < length s → r ≡ markingFrom m s at
   unfolding markingFrom
@@ -202,25 +186,25 @@ module _ (m : Model) (s : Text) (at : ℕ) where
   module _ (few : length s ≤ longest) where
     -- the model is not held
     pub marking-unheld : (r : MarkingReading) → r ≡ noTokens NotHeld → heldModel m ≡ false → r ≡ markingFrom m s at
-    unfolding markingFrom heldFrom
+    unfolding markingFrom markingOr
     marking-unheld r e h = e ∙ rw (le-leb (length s) longest few, markingFrom, h)
 
-    module _ (held : heldModel m ≡ true) (z : List ℕ) (sizes-are : z ≡ sizesIn m) (b : Block) (is : b ≡ blockOf (readTokens (sizesAt (m .places) z) s at)) where
-      tokens-of : b ≡ blockOf (readTokens (sizesFor m) s at)
-      tokens-of = is ∙ ap (λ (z : List ℕ). blockOf (readTokens (sizesAt (m .places) z) s at)) sizes-are
+    module _ (held : heldModel m ≡ true) (z : List ℕ) (sizes-are : z ≡ sizesIn m) (b : Block) (is : b ≡ blockOf (readMarkingAt (sizesAt (m .places) z) s at)) where
+      tokens-of : b ≡ blockOf (readMarkingAt (sizesFor m) s at)
+      tokens-of = is ∙ ap (λ (z : List ℕ). blockOf (readMarkingAt (sizesAt (m .places) z) s at)) sizes-are
 
-      for-held : markingFrom m s at ≡ restored s (readTokens (sizesFor m) s at)
-      unfolding markingFrom heldFrom
+      for-held : markingFrom m s at ≡ restored s (readMarkingAt (sizesFor m) s at)
+      unfolding markingFrom markingOr
       for-held = rw (le-leb (length s) longest few, markingFrom, held)
 
       -- its lines are refused
       pub marking-stopped : (d : Fault) → b .ended ≡ Stopped d → noTokens (faulty s d) ≡ markingFrom m s at
       unfolding restored
-      marking-stopped d e = sym (for-held ∙ rw (block-bad (readTokens (sizesFor m) s at) b tokens-of d e))
+      marking-stopped d e = sym (for-held ∙ rw (block-bad (readMarkingAt (sizesFor m) s at) b tokens-of d e))
 
       -- all of it is read
       pub marking-read : (end : ℕ) → b .ended ≡ Past end → record { answer = Accepted; marking = b .marking } ≡ markingFrom m s at
       unfolding restored
       marking-read end e =
-          let t = block-got (readTokens (sizesFor m) s at) b tokens-of end e in
+          let t = block-got (readMarkingAt (sizesFor m) s at) b tokens-of end e in
           ap {B = MarkingReading} (λ k. record { answer = Accepted; marking = k }) (t .held) ∙ sym (for-held ∙ ap (restored s) (t .read))

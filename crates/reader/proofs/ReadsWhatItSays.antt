@@ -8,21 +8,21 @@ use native.Mathlib.Nat.{le-refl}
 use lib.Dec.{leb}
 use lib.ListN.{length}
 use borrow.Author.Tests.{leb-true, le-leb}
-use Rattle.scan.specs.Bytes.{Text, bytes}
-use Rattle.scan.proofs.Basics.{and-true}
+use Rattle.text.specs.Bytes.{Text, bytes}
+use Rattle.text.proofs.Basics.{and-true}
 use Rattle.text.specs.Lines.{Outcome, got, then, need}
-use Rattle.encoding.proofs.TestLaws.{and-both}
-use Rattle.encoding.proofs.Exactly.{Exactly, got-is, need-got, then-got}
-use Rattle.encoding.proofs.ChainExactly.{exactly-by, first-makes, last-makes}
-use Rattle.encoding.proofs.Unique.{reads-back, was-printed}
+use Rattle.text.proofs.TestLaws.{and-both}
+use Rattle.text.proofs.Exactly.{Exactly, got-is, need-got, then-got}
+use Rattle.text.proofs.ChainExactly.{exactly-by, first-makes, last-makes}
+use Rattle.text.proofs.Unique.{reads-back, was-printed}
 use Rattle.eos.specs.Model as eos
-use Rattle.rules.specs.Rules.{rightModel}
-use Rattle.plant.proofs.PlantExactly.{plant-exactly}
+use Rattle.model.specs.Rules.{rightModel}
+use Rattle.model_text.proofs.PlantExactly.{plant-exactly}
 use Rattle.marking.specs.Held.{Sizes, sizesOf}
 use Rattle.marking.specs.Reading.{readBlock, rightBlock}
 use Rattle.marking.specs.Printed.{markingText}
 use Rattle.marking.proofs.BlockExactly.{block-exactly}
-use Rattle.reader.specs.Reading.{bounds, Loaded, readEnd, readLines, readModel, readMarking, rightLoaded}
+use Rattle.reader.specs.Reading.{bounds, Loaded, readEnd, readLines, readModel, readMarking, rightLoaded, readModelAt}
 use Rattle.reader.specs.Printed.{modelText}
 
 -- ---- a text, whole
@@ -63,12 +63,12 @@ lines-exactly s =
 
 -- a model text is accepted with a model and its start exactly where it is their printed text and they are right
 pub reads-what-it-says : (s : Text) (l : Loaded) → (readModel s ≡ got l (length s)) ↔ ((s ≡ modelText l) × (rightLoaded l ≡ true))
-unfolding readModel
+unfolding readModelAt
 reads-what-it-says s l = whole readLines modelText rightLoaded lines-exactly s l
 
 -- and a marking's text exactly where it is the printed text of right net-tokens
 pub reads-what-marking-says : (z : Sizes) (s : Text) (μ : eos.Marking)
     → (readMarking z s ≡ got μ (length s)) ↔ ((s ≡ markingText μ) × (rightBlock bounds z μ ≡ true))
-unfolding readMarking markingText
+unfolding markingText
 reads-what-marking-says z s μ =
     whole (λ s. readBlock (bytes "start=") bounds z s) (λ μ. markingText μ) (rightBlock bounds z) (λ s. block-exactly bounds z s (bytes "start=")) s μ

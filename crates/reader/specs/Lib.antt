@@ -1,5 +1,4 @@
 pub mod Reading
 pub mod Printed
-pub mod Sizes
 pub mod Answers
 pub mod Parts

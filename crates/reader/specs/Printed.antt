@@ -1,7 +1,7 @@
 -- The text of a model file (01, "Files"): a model with its start.
 use mathlib.Core.List.{_++_}
-use Rattle.scan.specs.Bytes.{Text}
-use Rattle.plant.specs.Printed.{plantText}
+use Rattle.text.specs.Bytes.{Text}
+use Rattle.model_text.specs.Printed.{plantText}
 use Rattle.marking.specs.Printed.{markingText}
 use Rattle.reader.specs.Reading.{Loaded}
 

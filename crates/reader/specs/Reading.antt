@@ -3,11 +3,11 @@ use Prim.Native.Nat.{ℕ}
 use mathlib.Core.Bool.{Bool, _&&_}
 use lib.Dec.{leb}
 use lib.ListN.{length}
-use Rattle.scan.specs.Bytes.{Text, bytes}
+use Rattle.text.specs.Bytes.{Text, bytes}
 use Rattle.text.specs.Lines.{Outcome, got, then, need}
 use Rattle.eos.specs.Model as eos
-use Rattle.rules.specs.Rules.{rightModel}
-use Rattle.plant.specs.Reading.{readPlant}
+use Rattle.model.specs.Rules.{rightModel}
+use Rattle.model_text.specs.Reading.{readPlant}
 use Rattle.marking.specs.Held.{Sizes, sizesOf}
 use Rattle.marking.specs.Reading.{Limits, limits, readBlock, rightBlock}
 
@@ -28,16 +28,19 @@ unfoldable pub readLines : Text → ℕ → Outcome Loaded
 readLines s at =
     then (readPlant s at) λ m x. then (readBlock (bytes "start=") bounds (sizesOf m) s x) λ μ y. got (record { model = m; start = μ }) y
 
-unfoldable pub readModel : Text → Outcome Loaded
-readModel s = then (readLines s 0) (readEnd s)
+-- a model from a position to the end of the text; the whole text is read from position 0
+unfoldable pub readModelAt : Text → ℕ → Outcome Loaded
+readModelAt s at = then (readLines s at) (readEnd s)
 
--- the net-tokens from a position to the end of the text
-abbrev pub readTokens : Sizes → Text → ℕ → Outcome eos.Marking
-readTokens z s at = then (readBlock (bytes "start=") bounds z s at) (readEnd s)
+abbrev pub readModel : Text → Outcome Loaded
+readModel s = readModelAt s 0
 
--- the text of a marking, whole
-unfoldable pub readMarking : Sizes → Text → Outcome eos.Marking
-readMarking z s = readTokens z s 0
+-- the same of a marking
+abbrev pub readMarkingAt : Sizes → Text → ℕ → Outcome eos.Marking
+readMarkingAt z s at = then (readBlock (bytes "start=") bounds z s at) (readEnd s)
+
+abbrev pub readMarking : Sizes → Text → Outcome eos.Marking
+readMarking z s = readMarkingAt z s 0
 
 -- a model within 01's rules, and net-tokens of it
 unfoldable pub rightLoaded : Loaded → Bool

@@ -3,23 +3,21 @@ ghost use mathlib.Core.Path.{_≡_};
 ghost use Rattle.model.specs.Test.{heldModel};
 ghost use Rattle.marking.specs.Held.{sizesAt, Roomy};
 ghost use Rattle.marking.specs.Answers.{blockOf};
-ghost use Rattle.reader.specs.Reading.{readTokens};
-ghost use Rattle.reader.specs.Parts.{answerOf, modelFrom, markingFrom};
-ghost use Rattle.reader.specs.Answers.{noReading, modelReading, noTokens, markingReading, heldBoth, writtenAs, markingWriting};
-use blocks::block_at;
-use file::Reader;
+ghost use Rattle.reader.specs.Reading.{readMarkingAt};
+ghost use Rattle.reader.specs.Parts.{answerOf};
+ghost use Rattle.reader.specs.Answers.{noReading, modelFrom, modelReading, noTokens, markingFrom, markingReading, heldBoth, writtenAs, markingWriting};
 use marking::Block;
 use marking::Marking;
 use marking::Wrote;
+use marking_read::block_at;
+use marking_test::sizes;
+use marking_write::write;
 use model::Model;
-use plantreader::read_plant;
-use scan::line_at;
-use sizes::sizes;
+use model_read::read_plant;
 use text::Ended;
 use text::Fault;
-use writing::write;
-
-pub mod sizes;
+use text_reader::Reader;
+use text_scan::line_at;
 
 // How the reading of a text ended.
 pub enum ReadAnswer {
@@ -65,7 +63,7 @@ fn answer_of(s: &[u8], ended: Ended) -> ReadAnswer
 // The net-tokens from `at` to the end of the text; `sizes` says for each place how many counts its net-tokens have.
 fn tokens_at(s: &[u8], at: usize, places: u16, sizes: [u8; 32]) -> Block
     requires { ⌜ Roomy (sizesAt places sizes) ⌝ }
-    ensures { λ r. ⌜ r ≡ blockOf (readTokens (sizesAt places sizes) (now (s .entry)) at) ⌝ }
+    ensures { λ r. ⌜ r ≡ blockOf (readMarkingAt (sizesAt places sizes) (now (s .entry)) at) ⌝ }
 {
     let block = block_at(s, at, b"start=", places, sizes);
     let ended = block.ended;
@@ -151,7 +149,7 @@ fn marking_at(m: Model, s: &[u8], at: usize) -> MarkingReading
     if Model::LONGEST < s.len() {
         return no_tokens(ReadAnswer::TooLong);
     }
-    if !model::held::test(m) {
+    if !model_test::is_held(m) {
         return no_tokens(ReadAnswer::NotHeld);
     }
     let block = tokens_at(s, at, m.places as u16, sizes(m));
@@ -184,17 +182,17 @@ pub fn read_marking(m: Model, s: &[u8]) -> MarkingReading
 pub fn test_model(m: Model) -> bool
     ensures { λ r. ⌜ r ≡ heldModel m ⌝ }
 {
-    model::held::test(m)
+    model_test::is_held(m)
 }
 
 // Whether m is held as a model is, and k as a marking of it.
 pub fn test_marking(m: Model, k: Marking) -> bool
     ensures { λ r. ⌜ r ≡ heldBoth m k ⌝ }
 {
-    if !model::held::test(m) {
+    if !model_test::is_held(m) {
         return false;
     }
-    marking::held::test(k, m.places as u16, sizes(m))
+    marking_test::is_held(k, m.places as u16, sizes(m))
 }
 
 // The answer for how the writing of a text ended.

@@ -1,2 +1,2 @@
-pub mod SpreadLaws
+pub mod PascalRows
 pub mod Cases

@@ -7,15 +7,15 @@ use native.Mathlib.Omega.{arith}
 use lib.Dec.{eqb, leb}
 use borrow.Author.Tests.{eqb-true, eqb-false, leb-true, leb-false, le-leb, lt-leb}
 use lib.ListN.{length, drop}
-use Rattle.scan.specs.Bytes.{Text, lf, starts}
-use Rattle.scan.proofs.Basics.{by-test, and-true}
-use Rattle.numbers.specs.Number.{Read, missing, found, number, item}
+use Rattle.text.specs.Bytes.{Text, lf, starts}
+use Rattle.text.proofs.Basics.{by-test, and-true}
+use Rattle.text.specs.Number.{Read, missing, found, number, item}
 use Rattle.text.specs.Lines.{Outcome, got, bad, fault, then, need, judged, every, within, behind, readNumber, readHead}
 use Rattle.text.specs.Answers.{lineOf}
 use Rattle.text.specs.declared.Fault.{Fault}
 use Rattle.text.specs.declared.Line.{Line}
 use Rattle.text.specs.declared.Line.the-variants.{Value, Refused}
-use Rattle.numbers.proofs.NumberLaws.{Exact, Capped}
+use Rattle.text.proofs.NumberLaws.{Exact, Capped}
 
 -- ---- a range
 

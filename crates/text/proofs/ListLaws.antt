@@ -11,17 +11,17 @@ use lib.IntN.{ℤ, pos, negsuc}
 use borrow.Author.Tests.{leb-true, le-leb, eq-eqb, ne-eqb}
 use lib.ListN.{replicate, length, set, getD}
 use lib.Seq.{sets}
-use Rattle.scan.specs.Bytes.{Text, lf, comma}
-use Rattle.scan.proofs.Basics.{by-test, and-true}
-use Rattle.numbers.specs.Number.{Read, missing, found, number, signed, ended, item}
+use Rattle.text.specs.Bytes.{Text, lf, comma}
+use Rattle.text.proofs.Basics.{by-test, and-true}
+use Rattle.text.specs.Number.{Read, missing, found, number, signed, ended, item}
 use Rattle.text.specs.Lists.{stopOf, before, items, listEnd, anyItems, anyList}
 use Rattle.text.specs.Lines.{Outcome, got, bad, fault, need, judged, every, modest}
-use Rattle.numbers.specs.Answers.{above, below}
+use Rattle.text.specs.Capped.{above, below}
 use Rattle.text.specs.Answers.{endedOf, keptOr, padded, rowOf, weightRowOf}
 use Rattle.text.specs.declared.Fault.{Fault}
 use Rattle.text.specs.declared.Ended.the-variants.{Past}
-use Rattle.numbers.proofs.Basics.{by-read, past-other}
-use Rattle.numbers.proofs.NumberLaws.{Exact, Capped, CappedSigned, number-end, number-forward, ended-here, ended-other, ended-past}
+use Rattle.text.proofs.ReadLaws.{by-read, past-other}
+use Rattle.text.proofs.NumberLaws.{Exact, Capped, CappedSigned, number-end, number-forward, ended-here, ended-other, ended-past}
 use Rattle.text.proofs.LineLaws.{capped-most}
 
 -- ---- what ends a value

@@ -5,7 +5,7 @@ use mathlib.Core.List.{List, map}
 use lib.IntN.{ℤ}
 use lib.ListN.{replicate}
 use lib.Seq.{sets}
-use Rattle.numbers.specs.Answers.{above, below}
+use Rattle.text.specs.Capped.{above, below}
 use Rattle.text.specs.Lines.{Outcome, got, bad}
 use Rattle.text.specs.Token.{Token}
 use Rattle.text.specs.declared.Ended.{Ended}

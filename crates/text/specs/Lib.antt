@@ -1,6 +1,10 @@
+pub mod Bytes
+pub mod Number
+pub mod Capped
 pub mod Lists
 pub mod Lines
 pub mod Repeat
 pub mod Token
 pub mod Printed
 pub mod Answers
+pub mod Writing

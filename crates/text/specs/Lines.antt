@@ -5,8 +5,8 @@ use mathlib.Core.Bool.{Bool, true, false, _&&_}
 use lib.Dec.{leb, eqb}
 use lib.IntN.{ℤ, natAbs}
 use lib.ListN.{length, drop}
-use Rattle.scan.specs.Bytes.{Text, lf, starts}
-use Rattle.numbers.specs.Number.{Read, missing, found, number, signed, item}
+use Rattle.text.specs.Bytes.{Text, lf, starts}
+use Rattle.text.specs.Number.{Read, missing, found, number, signed, item}
 use Rattle.text.specs.Lists.{listEnd}
 use Rattle.text.specs.declared.Fault.{Fault}
 

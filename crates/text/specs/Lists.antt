@@ -4,8 +4,8 @@ use mathlib.Core.List.{List, [], _∷_}
 use mathlib.Core.Bool.{Bool, false, _&&_, _||_}
 use lib.Dec.{eqb}
 use lib.ListN.{length, getD}
-use Rattle.scan.specs.Bytes.{Text, lf, comma}
-use Rattle.numbers.specs.Number.{Read, missing, found, number, ended, item}
+use Rattle.text.specs.Bytes.{Text, lf, comma}
+use Rattle.text.specs.Number.{Read, missing, found, number, ended, item}
 
 -- what ends a value with n more to come: LF after the last, else a comma
 unfoldable pub stopOf : ℕ → ℕ

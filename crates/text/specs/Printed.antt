@@ -5,7 +5,7 @@ use mathlib.Core.Bool.{true, false}
 use lib.Dec.{ltb}
 use lib.IntN.{ℤ, pos, negsuc}
 use lib.ListN.{length}
-use Rattle.scan.specs.Bytes.{Text, lf, colon, minus}
+use Rattle.text.specs.Bytes.{Text, lf, colon, minus}
 use Rattle.text.specs.Lists.{stopOf}
 use Rattle.text.specs.Token.{Token}
 

@@ -4,8 +4,8 @@ use mathlib.Core.List.{List}
 use mathlib.Core.Bool.{Bool, true, false, _&&_}
 use lib.Dec.{eqb}
 use lib.ListN.{length}
-use Rattle.scan.specs.Bytes.{Text, colon}
-use Rattle.numbers.specs.Number.{Read, missing, found, number, item}
+use Rattle.text.specs.Bytes.{Text, colon}
+use Rattle.text.specs.Number.{Read, missing, found, number, item}
 use Rattle.text.specs.Lists.{listEnd, anyList}
 use Rattle.text.specs.Lines.{Outcome, got, bad, fault, then, need, judged, every, within, behind}
 

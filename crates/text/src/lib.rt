@@ -1,7 +1,19 @@
-// What the lines of the file formats say, and how they are read and printed. Every reader goes from a position of a text, and its answer
-// says the position after what it read or the one fault that ends the reading.
-ghost use mathlib.Core.Path.{_≡_};
-ghost use Rattle.text.specs.Lists.{stopOf};
+// What the lines of the file formats say, and how they are read and printed: definitions and laws. Every reader goes from a position of a
+// text, and its answer says the position after what it read or the one fault that ends the reading.
+ghost use Prim.Native.Nat.{_-_};
+ghost use Rattle.text.specs.Number.{number, signed};
+
+// A number in a line, 65,536 for each that is larger, and the position after it.
+pub enum Decimal {
+    Found { value: u32, end: usize },
+    Missing,
+}
+
+// A signed number in a line, as its parts above and below 0.
+pub enum Signed {
+    Weight { above: u32, below: u32, end: usize },
+    Unsaid,
+}
 
 // A fault: the number of its cause, and the position at which the line at fault begins.
 pub struct Fault {
@@ -41,9 +53,8 @@ pub struct TokenRow {
     pub counts: [u16; 32],
 }
 
-// What ends a number of a list with `left` more to come: LF after the last, else a comma.
-pub fn stop_of(left: usize) -> u8
-    ensures { λ r. ⌜ r ≡ stopOf left ⌝ }
-{
-    if left == 0 { 10 } else { 44 }
+// How writing into a lent buffer ended: up to a position, or not at all for want of room.
+pub enum Written {
+    Upto { next: usize },
+    Full,
 }

@@ -6,7 +6,7 @@ use mathlib.Core.Path.{ap, sym, _∙_}
 use native.Mathlib.Omega.{arith}
 use lib.Seq.{length-take-le}
 use borrow.Author.Tests.{not-true, not-false}
-use Rattle.scan.specs.Bytes.{Text}
+use Rattle.text.specs.Bytes.{Text}
 use Rattle.reader.specs.Answers.{layWhole}
 use Rattle.listing.proofs.StageLaws.{weights-end, weights-listed}
 

@@ -8,11 +8,11 @@ use mathlib.Core.Bool.{true}
 use native.Mathlib.Omega.{arith}
 use lib.ListN.{length}
 use lib.Seq.{length-take-le}
-use Rattle.scan.specs.Bytes.{Text, bytes}
+use Rattle.text.specs.Bytes.{Text, bytes}
 use Rattle.text.specs.Printed.{numberText}
 use Rattle.reader.specs.Answers.{heldBoth, layWhole}
-use Rattle.listing.proofs.FileLaws.{trace-held}
-use Rattle.listing.proofs.LineLaws.{long-line}
+use Rattle.listing.proofs.ThreeFiles.{trace-held}
+use Rattle.listing.proofs.ListingLines.{long-line}
 use Rattle.listing.proofs.StageLaws.{run-listed}
 
 rows-long : (c : tie.Start) → length (c .args .k .rows) ≡ 8448

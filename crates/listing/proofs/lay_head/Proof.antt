@@ -3,7 +3,7 @@ use borrow.Author.Needs.{needs}
 use Rattle.listing.proofs.lay_head.Statement.{statement}
 use Rattle.listing.proofs.lay_head.Tie as tie
 use mathlib.Core.Path.{refl}
-use Rattle.listing.proofs.LayLaws.{head-whole, head-short}
+use Rattle.listing.proofs.ListingLaid.{head-whole, head-short}
 
 write-text-requires : tie.Need-write-text-requires
 write-text-requires c κs = search needs

@@ -4,10 +4,10 @@ use Rattle.listing.proofs.lay_with_held.Statement.{statement}
 use Rattle.listing.proofs.lay_with_held.Tie as tie
 use mathlib.Core.Path.{_∙_}
 use native.Mathlib.Omega.{arith}
-use Rattle.model.proofs.TestLaws.{held-is, most-places}
+use Rattle.model.proofs.HeldTests.{held-is, most-places}
 use Rattle.reader.proofs.ReadingLaws.{both-model}
-use Rattle.reader.proofs.WritingLaws.{write-asks}
-use Rattle.listing.proofs.LayLaws.{head-room, held-whole, held-short, by-sizes}
+use Rattle.reader.proofs.WriteAnswers.{write-asks}
+use Rattle.listing.proofs.ListingLaid.{head-room, held-whole, held-short, by-sizes}
 
 cast-write : tie.Need-cast-write
 cast-write c = omega (arith, most-places _ (held-is _ (both-model _ _ (c .before .before .before .pre .0))))

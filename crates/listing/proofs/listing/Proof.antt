@@ -8,9 +8,9 @@ use native.Mathlib.Omega.{arith}
 use lib.ListN.{length, replicate}
 use lib.Seq.{length-take-le}
 use borrow.Author.Tests.{not-true, not-false}
-use Rattle.scan.specs.Bytes.{Text}
+use Rattle.text.specs.Bytes.{Text}
 use Rattle.reader.specs.Answers.{layWhole}
-use Rattle.listing.proofs.FileLaws.{model-held}
+use Rattle.listing.proofs.ThreeFiles.{model-held}
 use Rattle.listing.proofs.StageLaws.{model-end, model-listed}
 
 model-file-requires : tie.Need-model-file-requires

@@ -3,7 +3,7 @@ use borrow.Author.Needs.{needs}
 use Rattle.pairs.proofs.step_pair.Statement.{statement}
 use Rattle.pairs.proofs.step_pair.Tie as tie
 use mathlib.Core.Path.{ap, sym, _∙_}
-use Rattle.firing.specs.Answers.{stepPair}
+use Rattle.runner.specs.Answers.{stepPair}
 use Rattle.pairs.specs.Pairs.{refusalOf}
 
 enum-told : tie.Need-enum-told

@@ -3,7 +3,7 @@ use borrow.Author.Needs.{needs}
 use Rattle.pairs.proofs.stop_pair.Statement.{statement}
 use Rattle.pairs.proofs.stop_pair.Tie as tie
 use mathlib.Core.Path.{ap, sym, _∙_}
-use Rattle.running.specs.Running.{stopPair}
+use Rattle.runner_trace.specs.Running.{stopPair}
 use Rattle.pairs.specs.Pairs.{refusalOf}
 
 enum-told : tie.Need-enum-told

@@ -3,7 +3,7 @@ use borrow.Author.Needs.{needs}
 use Rattle.pairs.proofs.weight_pair.Statement.{statement}
 use Rattle.pairs.proofs.weight_pair.Tie as tie
 use mathlib.Core.Path.{ap, sym, _∙_}
-use Rattle.weights.specs.Answers.{weightPair}
+use Rattle.keeper.specs.Answers.{weightPair}
 use Rattle.pairs.specs.Pairs.{refusalOf}
 
 enum-told : tie.Need-enum-told

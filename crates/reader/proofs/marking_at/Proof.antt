@@ -7,14 +7,14 @@ use mathlib.Core.Bool.{true}
 use native.Mathlib.Omega.{arith}
 use borrow.Author.Tests.{not-true, not-false}
 use Rattle.model.specs.Test.{heldModel}
-use Rattle.model.proofs.TestLaws.{held-is, most-places}
+use Rattle.model.proofs.HeldTests.{held-is, most-places}
 use Rattle.reader.specs.Parts.{answerOf}
 use Rattle.reader.specs.Answers.{noTokens}
 use Rattle.reader.proofs.ReadingLaws.{marking-long, marking-unheld, roomy-of, marking-stopped, marking-read}
 
 -- the model passed its test
 passed : (c : tie.Else2) → heldModel (c .before .before .before .before .args .m) ≡ true
-passed c = sym (c .before .test .ensures) ∙ not-false _ (c .if2 .left)
+passed c = sym (c .before .is-held .ensures) ∙ not-false _ (c .if2 .left)
 
 no-tokens-requires : tie.Need-no-tokens-requires
 no-tokens-requires c κs = search needs
@@ -22,8 +22,8 @@ no-tokens-requires c κs = search needs
 returns : tie.Need-returns
 returns c = marking-long _ _ _ _ (c .no-tokens .ensures) (c .before .if1 .taken)
 
-test-requires : tie.Need-test-requires
-test-requires c κs = search needs
+is-held-requires : tie.Need-is-held-requires
+is-held-requires c κs = search needs
 
 no-tokens-requires-2 : tie.Need-no-tokens-requires-2
 no-tokens-requires-2 c κs = search needs
@@ -31,7 +31,7 @@ no-tokens-requires-2 c κs = search needs
 returns-2 : tie.Need-returns-2
 returns-2 c =
     let t = c .before .before in
-    marking-unheld _ _ _ (t .before .if1 .left) _ (c .no-tokens2 .ensures) (sym (t .test .ensures) ∙ not-true _ (c .before .if2 .taken))
+    marking-unheld _ _ _ (t .before .if1 .left) _ (c .no-tokens2 .ensures) (sym (t .is-held .ensures) ∙ not-true _ (c .before .if2 .taken))
 
 cast-tokens-at : tie.Need-cast-tokens-at
 cast-tokens-at c = omega (arith, most-places _ (held-is _ (passed (c .before))))
@@ -77,7 +77,7 @@ marking-at-spec =
     (tie.spec
     no-tokens-requires
     returns
-    test-requires
+    is-held-requires
     no-tokens-requires-2
     returns-2
     cast-tokens-at

@@ -2,8 +2,8 @@
 use mathlib.Core.List.{[], _∷_}
 use base.Logic.{emp}
 use contract.Monad.{factI}
-use Rattle.file.proofs.Walks.{takes-apart}
-use Rattle.reader.specs.Parts.{markingFrom}
+use Rattle.text_reader.proofs.ReaderWalks.{takes-apart}
+use Rattle.reader.specs.Answers.{markingFrom}
 use Rattle.reader.proofs.Passing.{model, marking-reading}
 use Rattle.reader.proofs.marking_at.Symbol as at
 use Rattle.reader.proofs.marking_at.Met as proved

@@ -6,7 +6,7 @@ use mathlib.Core.Path.{_≡_, ap, _∙_}
 use mathlib.Core.Bool.{true}
 use native.Mathlib.Omega.{arith}
 use Rattle.model.specs.Test.{heldModel}
-use Rattle.model.proofs.TestLaws.{held-is, most-places}
+use Rattle.model.proofs.HeldTests.{held-is, most-places}
 use Rattle.reader.specs.Parts.{answerOf}
 use Rattle.reader.specs.Answers.{noReading}
 use Rattle.reader.proofs.ReadingLaws.{model-long, model-stopped, read-held, roomy-of, start-stopped, model-read}

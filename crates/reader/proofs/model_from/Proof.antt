@@ -2,8 +2,8 @@
 use mathlib.Core.List.{[]}
 use base.Logic.{emp}
 use contract.Monad.{factI}
-use Rattle.file.proofs.Walks.{takes-apart}
-use Rattle.reader.specs.Parts.{modelFrom}
+use Rattle.text_reader.proofs.ReaderWalks.{takes-apart}
+use Rattle.reader.specs.Answers.{modelFrom}
 use Rattle.reader.proofs.Passing.{model-reading}
 use Rattle.reader.proofs.model_at.Symbol as at
 use Rattle.reader.proofs.model_at.Met as proved

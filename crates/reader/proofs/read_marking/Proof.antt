@@ -1,12 +1,9 @@
 -- `read_marking` meets its contract: it makes a reader of the text and calls `marking_from`, which reads a marking from the text's first byte on.
-use mathlib.Core.Path.{_∙_}
 use mathlib.Core.List.{[], _∷_}
 use base.Logic.{emp}
 use contract.Monad.{factI}
-use denote.Ref.{now}
-use Rattle.file.proofs.Walks.{makes}
-use Rattle.reader.specs.Parts.{markingFrom}
-use Rattle.reader.proofs.ReadingLaws.{marking-start}
+use Rattle.text_reader.proofs.ReaderWalks.{makes}
+use Rattle.reader.specs.Answers.{markingFrom}
 use Rattle.reader.proofs.Passing.{model, marking-reading}
 use Rattle.reader.proofs.marking_from.Symbol as from
 use Rattle.reader.proofs.marking_from.Met as proved
@@ -19,5 +16,5 @@ pub read-marking-spec : {M : Type 1} → statement M
 unfolding code.routine
 read-marking-spec 𝓤 H 𝓜 𝓖 𝓡 =
     makes (model ∷ []) marking-reading (λ κs. markingFrom) 𝓤 H 𝓜 𝓖 𝓡 code.env key.name from.name from.routine
-    (call.clauses 𝓤 H (𝓖 .A) (𝓜 .mem) (𝓡 .run)) (λ κs a y r e p. factI 𝓤 _ (emp 𝓤) (p ∙ marking-start (a .0) (now (a .1 .0))))
+    (call.clauses 𝓤 H (𝓖 .A) (𝓜 .mem) (𝓡 .run)) (λ κs a y r e p. factI 𝓤 _ (emp 𝓤) p)
     (code.unfolded 𝓤 H 𝓜 𝓡) code.calls-reader·marking-from (proved.met 𝓤 H 𝓜 𝓖 𝓡)

@@ -1,12 +1,9 @@
 -- `read_model` meets its contract: it makes a reader of the text and calls `model_from`, which reads a model from the text's first byte on.
-use mathlib.Core.Path.{_∙_}
 use mathlib.Core.List.{[]}
 use base.Logic.{emp}
 use contract.Monad.{factI}
-use denote.Ref.{now}
-use Rattle.file.proofs.Walks.{makes}
-use Rattle.reader.specs.Parts.{modelFrom}
-use Rattle.reader.proofs.ReadingLaws.{model-start}
+use Rattle.text_reader.proofs.ReaderWalks.{makes}
+use Rattle.reader.specs.Answers.{modelFrom}
 use Rattle.reader.proofs.Passing.{model-reading}
 use Rattle.reader.proofs.model_from.Symbol as from
 use Rattle.reader.proofs.model_from.Met as proved
@@ -19,5 +16,5 @@ pub read-model-spec : {M : Type 1} → statement M
 unfolding code.routine
 read-model-spec 𝓤 H 𝓜 𝓖 𝓡 =
     makes [] model-reading (λ κs. modelFrom) 𝓤 H 𝓜 𝓖 𝓡 code.env key.name from.name from.routine
-    (call.clauses 𝓤 H (𝓖 .A) (𝓜 .mem) (𝓡 .run)) (λ κs a y r e p. factI 𝓤 _ (emp 𝓤) (p ∙ model-start (now (a .0))))
+    (call.clauses 𝓤 H (𝓖 .A) (𝓜 .mem) (𝓡 .run)) (λ κs a y r e p. factI 𝓤 _ (emp 𝓤) p)
     (code.unfolded 𝓤 H 𝓜 𝓡) code.calls-reader·model-from (proved.met 𝓤 H 𝓜 𝓖 𝓡)

@@ -6,11 +6,11 @@ use mathlib.Core.Path.{_≡_, sym, _∙_}
 use mathlib.Core.Bool.{true}
 use native.Mathlib.Omega.{arith}
 use borrow.Author.Tests.{not-true, not-false}
-use Rattle.model.proofs.TestLaws.{held-is, most-places}
+use Rattle.model.proofs.HeldTests.{held-is, most-places}
 use Rattle.marking.specs.Printed.{markingText}
 use Rattle.reader.specs.Answers.{heldBoth}
 use Rattle.reader.proofs.ReadingLaws.{both-model}
-use Rattle.reader.proofs.WritingLaws.{write-asks, write-unheld, write-laid}
+use Rattle.reader.proofs.WriteAnswers.{write-asks, write-unheld, write-laid}
 
 -- the two passed their tests
 passed : (c : tie.Else1) → let a = c .before .before .before .args in heldBoth (a .m) (a .k) ≡ true

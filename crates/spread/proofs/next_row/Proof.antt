@@ -7,7 +7,7 @@ use native.Mathlib.Omega.{arith}
 use borrow.Author.Needs.{needs}
 use lib.ListN.{length, getD}
 use Rattle.eos.specs.Spread.{spread}
-use Rattle.spread.proofs.SpreadLaws.{spread-bound, row-is, start-row, turn-sum, turn-keeps}
+use Rattle.spread.proofs.PascalRows.{spread-bound, row-is, start-row, turn-sum, turn-keeps}
 
 abbrev Inv-loop : tie.InvT-loop
 Inv-loop t row next₀ j₀ next j = (1 ≤ j) × (j ≤ 17) × (length next ≡ 17) × ((i : ℕ) → i < j → getD next i 0 ≡ spread (t + 1) i)

@@ -6,7 +6,7 @@ use mathlib.Core.Path.{_≡_, ap, _∙_}
 use native.Mathlib.Omega.{arith}
 use borrow.Author.Needs.{needs}
 use Rattle.spread.specs.Call.{rowOf}
-use Rattle.spread.proofs.SpreadLaws.{first-row}
+use Rattle.spread.proofs.PascalRows.{first-row}
 
 abbrev Inv-loop : tie.InvT-loop
 Inv-loop n row₀ t₀ row t = (t ≤ n) × (row ≡ rowOf t)

@@ -3,7 +3,7 @@ use borrow.Author.Needs.{needs}
 use Rattle.spread.proofs.ways.Statement.{statement}
 use Rattle.spread.proofs.ways.Tie as tie
 use native.Mathlib.Omega.{arith}
-use Rattle.spread.proofs.SpreadLaws.{call-tokens, call-racks, call-ways}
+use Rattle.spread.proofs.PascalRows.{call-tokens, call-racks, call-ways}
 
 returns : tie.Need-returns
 returns c = call-tokens _ _ (omega arith)

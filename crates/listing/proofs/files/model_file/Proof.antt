@@ -3,7 +3,7 @@ use borrow.Author.Needs.{needs}
 use Rattle.listing.proofs.files.model_file.Statement.{statement}
 use Rattle.listing.proofs.files.model_file.Tie as tie
 use mathlib.Core.Path.{_∙_}
-use Rattle.listing.proofs.FileLaws.{model-long, model-short}
+use Rattle.listing.proofs.ThreeFiles.{model-long, model-short}
 
 no-reading-requires : tie.Need-no-reading-requires
 no-reading-requires c κs = search needs

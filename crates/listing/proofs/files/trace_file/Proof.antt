@@ -3,7 +3,7 @@ use borrow.Author.Needs.{needs}
 use Rattle.listing.proofs.files.trace_file.Statement.{statement}
 use Rattle.listing.proofs.files.trace_file.Tie as tie
 use mathlib.Core.Path.{_∙_}
-use Rattle.listing.proofs.FileLaws.{trace-long, trace-short}
+use Rattle.listing.proofs.ThreeFiles.{trace-long, trace-short}
 
 refused-requires : tie.Need-refused-requires
 refused-requires c κs = search needs

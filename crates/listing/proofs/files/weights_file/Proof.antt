@@ -3,7 +3,7 @@ use borrow.Author.Needs.{needs}
 use Rattle.listing.proofs.files.weights_file.Statement.{statement}
 use Rattle.listing.proofs.files.weights_file.Tie as tie
 use mathlib.Core.Path.{_∙_}
-use Rattle.listing.proofs.FileLaws.{weights-long, weights-short}
+use Rattle.listing.proofs.ThreeFiles.{weights-long, weights-short}
 
 refused-requires : tie.Need-refused-requires
 refused-requires c κs = search needs

@@ -3,7 +3,7 @@ use borrow.Author.Needs.{needs}
 use Rattle.listing.proofs.head.put_cover.Statement.{statement}
 use Rattle.listing.proofs.head.put_cover.Tie as tie
 use native.Mathlib.Omega.{arith}
-use Rattle.listing.proofs.LineLaws.{laid-as, cover-length, cover-is}
+use Rattle.listing.proofs.ListingLines.{laid-as, cover-length, cover-is}
 
 slice-aggregate-put-number-line : tie.Need-slice-aggregate-put-number-line
 slice-aggregate-put-number-line c = search needs

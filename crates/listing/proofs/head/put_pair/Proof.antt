@@ -3,10 +3,10 @@ use borrow.Author.Needs.{needs}
 use Rattle.listing.proofs.head.put_pair.Statement.{statement}
 use Rattle.listing.proofs.head.put_pair.Tie as tie
 use native.Mathlib.Omega.{arith}
-use Rattle.scan.specs.Bytes.{bytes}
-use Rattle.encoding.proofs.DecimalLaws.{length-below}
+use Rattle.text.specs.Bytes.{bytes}
+use Rattle.text.proofs.DecimalLaws.{length-below}
 use Rattle.pairs.specs.Pairs.{refusalOf}
-use Rattle.listing.proofs.LineLaws.{long-line, pair-length, lay-pair}
+use Rattle.listing.proofs.ListingLines.{long-line, pair-length, lay-pair}
 
 put-text-requires : tie.Need-put-text-requires
 put-text-requires c κs = search needs

@@ -4,8 +4,8 @@ use Rattle.listing.proofs.head.put_sum.Statement.{statement}
 use Rattle.listing.proofs.head.put_sum.Tie as tie
 use Prim.Native.Nat.{_-_}
 use native.Mathlib.Omega.{arith}
-use Rattle.scan.specs.Bytes.{bytes}
-use Rattle.listing.proofs.LineLaws.{long-line, laid-as, sum-below, sum-above}
+use Rattle.text.specs.Bytes.{bytes}
+use Rattle.listing.proofs.ListingLines.{long-line, laid-as, sum-below, sum-above}
 
 slice-aggregate-put-number-line : tie.Need-slice-aggregate-put-number-line
 slice-aggregate-put-number-line c = search needs

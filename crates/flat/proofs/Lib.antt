@@ -1,3 +1,0 @@
-pub mod SizedLaws
-pub mod LayLaws
-pub mod FlatLaws

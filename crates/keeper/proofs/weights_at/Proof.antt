@@ -1,0 +1,97 @@
+-- `weights_at` meets its contract: a text that is too long, a model or marking that is not held, weights that are judged, or a line at
+-- fault.
+use borrow.Author.Needs.{needs}
+use Rattle.keeper.proofs.weights_at.Statement.{statement}
+use Rattle.keeper.proofs.weights_at.Tie as tie
+use mathlib.Core.Path.{_≡_, ap, sym, _∙_}
+use mathlib.Core.Bool.{true}
+use borrow.Author.Tests.{not-true, not-false}
+use denote.Ref.{now}
+use Rattle.reader.specs.Answers.{heldBoth}
+use Rattle.keeper.specs.Answers.{refusedWeights}
+use Rattle.keeper.proofs.JudgeLaws.{model-held}
+use Rattle.keeper.proofs.CheckLaws.{from-long, from-unheld, from-stopped, from-past}
+
+-- the model and the marking are held
+both : (c : tie.Else2) → heldBoth (c .before .before .before .before .args .m) (c .before .before .before .before .args .k) ≡ true
+both c = sym (c .before .test-marking .ensures) ∙ not-false _ (c .if2 .left)
+
+abbrev start : tie.Else2 → tie.Start
+start c = c .before .before .before .before
+
+refused-requires : tie.Need-refused-requires
+refused-requires c κs = search needs
+
+returns : tie.Need-returns
+returns c =
+    let t = c .before in
+    let a = t .before .before in
+    c .refused .ensures ∙ from-long (a .args .m) (a .args .k) (now (a .args .s)) (a .args .at) (t .if1 .taken)
+
+test-marking-requires : tie.Need-test-marking-requires
+test-marking-requires c κs = search needs
+
+refused-requires-2 : tie.Need-refused-requires-2
+refused-requires-2 c κs = search needs
+
+returns-2 : tie.Need-returns-2
+returns-2 c =
+    let t = c .before in
+    let b = t .before in
+    let a = b .before .before .before in
+    c .refused2 .ensures
+    ∙ from-unheld (a .args .m) (a .args .k) (now (a .args .s)) (a .args .at) (b .before .if1 .left) (sym (b .test-marking .ensures) ∙ not-true _ (t .if2 .taken))
+
+weight-lines-requires : tie.Need-weight-lines-requires
+weight-lines-requires c κs = model-held _ _ (both c)
+
+enum-known-ended : tie.Need-enum-known-ended
+enum-known-ended c = search needs
+
+enum-told : tie.Need-enum-told
+enum-told c = search needs
+
+judged-requires : tie.Need-judged-requires
+judged-requires c κs = both (c .before .before .before .before)
+
+returns-3 : tie.Need-returns-3
+returns-3 c =
+    let o = c .before in
+    let l = o .before .before .before in
+    let e = l .before in
+    let a = start e in
+    from-past (a .args .m) (a .args .k) (now (a .args .s)) (a .args .at) (e .before .before .if1 .left) (both e) _ (l .weight-lines .ensures) _ (o .enum-told .given .1) _
+    (c .judged .ensures)
+
+fault-answer-requires : tie.Need-fault-answer-requires
+fault-answer-requires c κs = search needs
+
+refused-requires-3 : tie.Need-refused-requires-3
+refused-requires-3 c κs = search needs
+
+returns-4 : tie.Need-returns-4
+returns-4 c =
+    let k = c .before .before in
+    let l = k .before .before .before .before in
+    let e = l .before in
+    let a = start e in
+    c .refused3 .ensures ∙ ap refusedWeights (c .before .fault-answer .ensures)
+    ∙ from-stopped (a .args .m) (a .args .k) (now (a .args .s)) (a .args .at) (e .before .before .if1 .left) (both e) _ (l .weight-lines .ensures) _ (k .before .ended .given .1)
+
+pub weights-at-spec : {M : Type 1} → statement M
+weights-at-spec =
+    tie.close
+    (tie.spec
+    refused-requires
+    returns
+    test-marking-requires
+    refused-requires-2
+    returns-2
+    weight-lines-requires
+    enum-known-ended
+    enum-told
+    judged-requires
+    returns-3
+    fault-answer-requires
+    refused-requires-3
+    returns-4)

@@ -1,0 +1,74 @@
+-- What the weight check answers, for every input; and the numbers of 01's table for each answer.
+use Prim.Native.Nat.{ℕ, _+_}
+use mathlib.Core.Bool.{Bool, true, false}
+use mathlib.Core.Option.{Option, none, some}
+use lib.Dec.{leb}
+use lib.IntN.{ℤ, natAbs}
+use lib.ListN.{length}
+use Rattle.text.specs.Bytes.{Text, lineAt}
+use Rattle.text.specs.Lines.{Outcome, got, bad}
+use Rattle.text.specs.Capped.{above, below}
+use Rattle.text.specs.declared.Fault.{Fault}
+use Rattle.eos.specs.Model as eos
+use Rattle.eos.specs.Causes.{Refusal}
+use Rattle.eos.specs.Weights.{Weights, weigh, weightRefusal, covers}
+use Rattle.model.specs.Held.{modelOf}
+use Rattle.model.specs.declared.Model.{Model}
+use Rattle.marking.specs.Held.{tokensOf}
+use Rattle.marking.specs.declared.Marking.{Marking}
+use Rattle.reader.specs.Answers.{pair, longest, heldBoth}
+use Rattle.marking.specs.Sizes.{sizesFor}
+use Rattle.keeper.specs.Reading.{readWeightsAt}
+use Rattle.keeper.specs.declared.WeightAnswer.{WeightAnswer}
+use Rattle.keeper.specs.declared.WeightAnswer.the-variants.{Passed, TooLong, NotHeld, Faulty, Turned}
+use Rattle.keeper.specs.declared.Sum.{Sum}
+use Rattle.keeper.specs.declared.WeightCheck.{WeightCheck}
+
+-- 01's table: the number, and what stands beside it
+abbrev pub weightPair : WeightAnswer → Refusal
+weightPair Passed = pair 0 0
+weightPair TooLong = pair 1 0
+weightPair NotHeld = pair 14 0
+weightPair (Faulty why line) = pair why line
+weightPair (Turned cause beside) = pair cause beside
+
+-- a sum as its part above 0 and its part below 0
+abbrev pub sumOf : ℤ → Sum
+sumOf z = record { above = above z; below = below z }
+
+-- 01: "refused weights sum 0 and cover 0"
+abbrev pub refusedWeights : WeightAnswer → WeightCheck
+refusedWeights a = record { answer = a; sum = record { above = 0; below = 0 }; cover = false }
+
+-- weights that pass: their weighted sum, and whether they cover
+abbrev pub passedWeights : Weights → ℤ → WeightCheck
+passedWeights w z = record { answer = Passed; sum = sumOf z; cover = covers 256 65535 w (natAbs z) }
+
+unfoldable pub turnedOr : Option Refusal → WeightCheck → WeightCheck
+turnedOr none c = c
+turnedOr (some r) c = refusedWeights (Turned (r .number) (r .beside))
+
+-- causes 6 and 7, else the weighted sum and whether the weights cover; the last line of the file is 2 + nets
+unfoldable pub judgedWeights : eos.Model → eos.Marking → Weights → WeightCheck
+judgedWeights m μ w = turnedOr (weightRefusal (2 + length (m .nets)) m w) (passedWeights w (weigh m w μ))
+
+-- a fault as its line
+abbrev pub faulty : Text → Fault → WeightAnswer
+faulty s e = Faulty (e .why) (lineAt s (e .at))
+
+-- the weights of the file are judged, or its line at fault is named
+unfoldable pub weighed : eos.Model → eos.Marking → Text → Outcome Weights → WeightCheck
+weighed m μ s (got w x) = judgedWeights m μ w
+weighed m μ s (bad e) = refusedWeights (faulty s e)
+
+unfoldable pub weightsOr : Bool → Model → Marking → Text → ℕ → WeightCheck
+weightsOr true m k s at = weighed (modelOf m) (tokensOf (sizesFor m) k) s (readWeightsAt (modelOf m) s at)
+weightsOr false m k s at = refusedWeights NotHeld
+
+-- checking a weight file for a held model and a held marking, its lines beginning at a position: 1, 14, then its lines, then 6 and 7
+unfoldable pub weightsFrom : Model → Marking → Text → ℕ → WeightCheck
+weightsFrom m k s at = elim (leb (length s) longest) [ true ↦ weightsOr (heldBoth m k) m k s at | false ↦ refusedWeights TooLong ]
+
+-- checking a weight file
+abbrev pub weightChecking : Model → Marking → Text → WeightCheck
+weightChecking m k s = weightsFrom m k s 0

@@ -1,0 +1,156 @@
+-- The three files: a file that is too long, and one that is read. What an accepted model and the run on it leave is held.
+use Prim.Native.Nat.{ℕ, suc, _+_, _≤_, _<_}
+use mathlib.Core.Path.{_≡_, refl, ap}
+use mathlib.Core.Bool.{Bool, true, false, _&&_}
+use mathlib.Core.Logic.{_⊎_, inl, inr, ⊎-elim}
+use mathlib.Core.List.{[], _∷_}
+use mathlib.Core.Option.{Option, none, some}
+use native.Mathlib.Omega.{arith}
+use lib.Dec.{leb, eqb}
+use lib.ListN.{length, take}
+use borrow.Author.Tests.{le-leb, lt-leb, eqb-true, ne-eqb}
+use Rattle.text.specs.Bytes.{Text, newlines}
+use Rattle.text.proofs.Basics.{by-test, and-true}
+use Rattle.text.specs.Lines.{Outcome, got, bad}
+use Rattle.eos.specs.Model as eos
+use Rattle.eos.specs.Causes.{Refusal, first, unless, at}
+use Rattle.eos.specs.Weights.{Weights, weigh, weightRefusal}
+use Rattle.model.specs.Held.{modelOf}
+use Rattle.model.specs.declared.Model.{Model}
+use Rattle.marking.specs.Held.{tokensOf}
+use Rattle.marking.specs.declared.Marking.{Marking}
+use Rattle.reader.specs.Reading.{Loaded, readModel}
+use Rattle.marking.specs.Sizes.{sizesFor}
+use Rattle.reader.specs.Answers.{readPair, longest, noReading, loaded, modelReading, heldBoth, modelFrom}
+use Rattle.reader.specs.declared.ReadAnswer.the-variants as read
+use Rattle.reader.specs.declared.ModelReading.{ModelReading}
+use Rattle.reader.proofs.HeldExactly.{accepted-held}
+use Rattle.runner_trace.specs.Running.{ran, running}
+use Rattle.runner_trace.specs.declared.Stop.the-variants as stop
+use Rattle.runner.proofs.KeepLaws.{Keeps}
+use Rattle.runner_trace.proofs.TraceSteps.{run-keeps}
+use Rattle.keeper.specs.Reading.{readWeightFile}
+use Rattle.keeper.specs.Answers.{weightPair, refusedWeights, passedWeights, turnedOr, judgedWeights, weighed, weightsOr, weightChecking, weightsFrom}
+use Rattle.keeper.specs.declared.WeightAnswer.the-variants as weight
+use Rattle.keeper.specs.declared.WeightCheck.{WeightCheck}
+use Rattle.listing.specs.Listing.{fileLongest, modelFile, weightsFile, traceFile, accepted}
+
+-- ---- by the length of the file
+
+pub model-long : (s : Text) → fileLongest < length s → noReading read.TooLong ≡ modelFile s
+unfolding modelFile
+model-long s h = rw (lt-leb (length s) fileLongest h, modelFile)
+
+pub model-short : (s : Text) → length s ≤ fileLongest → modelReading s ≡ modelFile s
+unfolding modelFile
+model-short s h = rw (le-leb (length s) fileLongest h, modelFile)
+
+module _ (m : Model) (k : Marking) (s : Text) where
+  pub weights-long : fileLongest < length s → refusedWeights weight.TooLong ≡ weightsFile m k s
+  unfolding weightsFile
+  weights-long h = rw (lt-leb (length s) fileLongest h, weightsFile)
+
+  pub weights-short : length s ≤ fileLongest → weightChecking m k s ≡ weightsFile m k s
+  unfolding weightsFile
+  weights-short h = rw (le-leb (length s) fileLongest h, weightsFile)
+
+  pub trace-long : fileLongest < length s → ran 0 stop.TooLong k ≡ traceFile m k s
+  unfolding traceFile
+  trace-long h = rw (lt-leb (length s) fileLongest h, traceFile)
+
+  pub trace-short : length s ≤ fileLongest → running m k s ≡ traceFile m k s
+  unfolding traceFile
+  trace-short h = rw (le-leb (length s) fileLongest h, traceFile)
+
+  -- the run on a held marking leaves a held one
+  pub trace-held : Keeps m k → heldBoth m (traceFile m k s .marking) ≡ true
+  unfolding traceFile
+  trace-held h =
+      by-test (leb (length s) fileLongest)
+      (λ t. rw (t, traceFile) (run-keeps m k s h .held))
+      (λ t. rw (t, traceFile) (h .held))
+
+-- ---- a model whose pair is 0,0
+
+-- a pair is tested by its number, and then by what stands beside it
+pub number-refused : (n b : ℕ) → (n ≡ 0 → ⊥) → false ≡ (eqb n 0 && eqb b 0)
+number-refused n b h = rw (ne-eqb n 0 h)
+
+pub number-none : (n b : ℕ) → n ≡ 0 → eqb b 0 ≡ (eqb n 0 && eqb b 0)
+number-none n b h = rw h
+
+-- what is refused is not 0,0: a fault has a line, and a line's number is at least 1
+never : {A : Type 0} (a : Bool) (n : ℕ) → (a && eqb (suc n) 0) ≡ true → A
+never a n h = absurd (omega (arith, eqb-true (suc n) 0 (and-true a _ h .1)))
+
+loaded-accepted : (s : Text) (o : Outcome Loaded) → accepted (readPair (loaded s o .answer)) ≡ true → loaded s o .answer ≡ read.Accepted
+unfolding loaded
+loaded-accepted s (got l x) h = refl
+loaded-accepted s (bad e) h = never (eqb (e .why) 0) (newlines (take (e .at) s)) h
+
+long-refused : {A : Type 0} → accepted (readPair read.TooLong) ≡ true → A
+long-refused h = let z : _≡_ {A = ℕ} 0 1 = cc in absurd (omega arith)
+
+reading-accepted : (s : Text) → accepted (readPair (modelReading s .answer)) ≡ true → modelReading s .answer ≡ read.Accepted
+unfolding modelFrom
+reading-accepted s h =
+    by-test (leb (length s) longest)
+    (λ t. rw (t, modelFrom) (loaded-accepted s (readModel s) (rw (t, modelFrom) at h)))
+    (λ t. long-refused (rw (t, modelFrom) at h))
+
+reading-held : (s : Text) → accepted (readPair (modelReading s .answer)) ≡ true → heldBoth (modelReading s .model) (modelReading s .start) ≡ true
+reading-held s h =
+    let r = modelReading s in
+    accepted-held s (r .model) (r .start) (ap {B = ModelReading} (λ a. record { answer = a; model = r .model; start = r .start }) (reading-accepted s h))
+
+file-held : (s : Text) → accepted (readPair (modelFile s .answer)) ≡ true → heldBoth (modelFile s .model) (modelFile s .start) ≡ true
+unfolding modelFile
+file-held s h =
+    by-test (leb (length s) fileLongest)
+    (λ t. rw (t, modelFile) (reading-held s (rw (t, modelFile) at h)))
+    (λ t. long-refused (rw (t, modelFile) at h))
+
+-- it and its start are held
+pub model-held : (s : Text) (l : ModelReading) → l ≡ modelFile s → (p : Refusal) → p ≡ readPair (l .answer) → accepted p ≡ true
+    → heldBoth (l .model) (l .start) ≡ true
+model-held s l is p says h = rw is (file-held s (rw (says, is) at h))
+
+-- ---- weights whose pair is 0,0 passed
+
+cause-numbered : (b : Bool) (last : ℕ) (o : Option ℕ) (r : Refusal) → first (unless b 6 last ∷ at 7 o ∷ []) ≡ some r → (r .number ≡ 6) ⊎ (r .number ≡ 7)
+unfolding first unless at
+cause-numbered false last o r e = inl (cc)
+cause-numbered true last (some i) r e = inr (cc)
+cause-numbered true last none r e = let z : _≡_ {A = ℕ} 0 1 = cc in absurd (omega arith)
+
+turned-accepted : (m : eos.Model) (w : Weights) (last : ℕ) (c : WeightCheck) (o : Option Refusal) → weightRefusal last m w ≡ o → c .answer ≡ weight.Passed
+    → accepted (weightPair (turnedOr o c .answer)) ≡ true → turnedOr o c .answer ≡ weight.Passed
+unfolding turnedOr weightRefusal
+turned-accepted m w last c none e p h = p
+turned-accepted m w last c (some r) e p h =
+    let z = eqb-true (r .number) 0 (and-true (eqb (r .number) 0) _ h .0) in
+    ⊎-elim (λ q. absurd (omega arith)) (λ q. absurd (omega arith)) (cause-numbered _ last _ r e)
+
+weighed-accepted : (m : eos.Model) (μ : eos.Marking) (s : Text) (o : Outcome Weights) → accepted (weightPair (weighed m μ s o .answer)) ≡ true
+    → weighed m μ s o .answer ≡ weight.Passed
+unfolding weighed judgedWeights
+weighed-accepted m μ s (got w x) h =
+    turned-accepted m w (2 + length (m .nets)) (passedWeights w (weigh m w μ)) (weightRefusal (2 + length (m .nets)) m w) refl refl h
+weighed-accepted m μ s (bad e) h = never (eqb (e .why) 0) (newlines (take (e .at) s)) h
+
+none-refused : {A : Type 0} (n : ℕ) → (eqb (suc n) 0 && true) ≡ true → A
+none-refused n h = absurd (omega (arith, eqb-true (suc n) 0 (and-true (eqb (suc n) 0) true h .0)))
+
+checked-accepted : (b : Bool) (m : Model) (k : Marking) (s : Text) → accepted (weightPair (weightsOr b m k s 0 .answer)) ≡ true → weightsOr b m k s 0 .answer ≡ weight.Passed
+unfolding weightsOr
+checked-accepted true m k s h = weighed-accepted (modelOf m) (tokensOf (sizesFor m) k) s (readWeightFile (modelOf m) s) h
+checked-accepted false m k s h = none-refused 13 h
+
+pub weights-passed : (m : Model) (k : Marking) (s : Text) → accepted (weightPair (weightsFile m k s .answer)) ≡ true → weightsFile m k s .answer ≡ weight.Passed
+unfolding weightsFile weightsFrom
+weights-passed m k s h =
+    by-test (leb (length s) fileLongest)
+    (λ t. by-test (leb (length s) longest)
+    (λ u. rw (t, weightsFile, u, weightsFrom) (checked-accepted (heldBoth m k) m k s (rw (t, weightsFile, u, weightsFrom) at h)))
+    (λ u. none-refused 0 (rw (t, weightsFile, u, weightsFrom) at h)))
+    (λ t. none-refused 0 (rw (t, weightsFile) at h))

@@ -1,0 +1,3 @@
+pub mod ModelSized
+pub mod PartsLaid
+pub mod FlatLaws

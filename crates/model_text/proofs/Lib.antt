@@ -1,0 +1,13 @@
+pub mod LineAnswers
+pub mod NarrowRow
+pub mod TransitionLines
+pub mod NetLaws
+pub mod ActLaws
+pub mod EventLaws
+pub mod PartLaws
+pub mod FrameLaws
+pub mod PlantLaws
+pub mod NetExactly
+pub mod EventExactly
+pub mod PlantExactly
+pub mod ModelLength

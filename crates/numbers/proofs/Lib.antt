@@ -1,3 +1,0 @@
-pub mod Basics
-pub mod NumberSteps
-pub mod NumberLaws

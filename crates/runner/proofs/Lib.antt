@@ -1,0 +1,9 @@
+pub mod MarkingRoom
+pub mod StandsLaws
+pub mod ReadLaws
+pub mod RuledLaws
+pub mod StepAnswers
+pub mod KeepLaws
+pub mod FiresExactly
+pub mod RefusedStep
+pub mod Passing

@@ -1,0 +1,103 @@
+-- `step_at` meets its contract: of what is left of the text, 1, then 14, then the step on the marking's rows.
+use borrow.Author.Needs.{needs}
+use Rattle.runner.proofs.stepping.step_at.Statement.{statement}
+use Rattle.runner.proofs.stepping.step_at.Tie as tie
+use mathlib.Core.Path.{_≡_, ap, sym, subst, _∙_}
+use mathlib.Core.Bool.{true}
+use lib.ListN.{drop}
+use borrow.Author.Tests.{not-true, not-false}
+use denote.Ref.{now}
+use Rattle.model.specs.Held.{Sized}
+use Rattle.model.specs.declared.Model.{Model}
+use Rattle.model.proofs.HeldTests.{held-is}
+use Rattle.model_packed.specs.Packed.{modelIn}
+use Rattle.model_packed.proofs.ModelSized.{model-sized}
+use Rattle.model_packed.proofs.FlatLaws.{flat-again}
+use Rattle.marking.specs.Sizes.{sizesIn}
+use Rattle.reader.specs.Answers.{heldBoth}
+use Rattle.runner.specs.Answers.{heldStep, stepping}
+use Rattle.reader.proofs.ReadingLaws.{both-model}
+use Rattle.runner.proofs.MarkingRoom.{rows-room}
+use Rattle.runner.proofs.StepAnswers.{step-long, step-unheld, step-held}
+
+abbrev start : tie.After-left → tie.Start
+start c = c .before .before
+
+-- the step on what is left
+on-rest : (c : tie.After-left) → stepping (start c .args .m) (start c .args .k) (now (c .left .result))
+    ≡ stepping (start c .args .m) (start c .args .k) (drop (start c .args .at) (now (start c .args .s)))
+on-rest c = ap (stepping (start c .args .m) (start c .args .k)) (c .left .ensures)
+
+abbrev rest : tie.Else2 → tie.After-left
+rest c = c .before .before .before
+
+-- the two passed the held test
+passed : (c : tie.Else2) → heldBoth (start (rest c) .args .m) (start (rest c) .args .k) ≡ true
+passed c = sym (c .before .test-marking .ensures) ∙ not-false _ (c .if2 .left)
+
+-- the model that was laid flat is read there
+again : (f : tie.After-flatten) → modelIn (f .flatten .last .1 .0) ≡ start (rest (f .before .before .before)) .args .m
+again f =
+    let p = f .before .before .before in
+    let s = start (rest p) in
+    let m = s .args .m in
+    ap modelIn (f .flatten .ensures .1) ∙ flat-again m (model-sized m _ (s .good .0)) (held-is m (both-model m _ (passed p)))
+
+left-requires : tie.Need-left-requires
+left-requires c κs = search needs
+
+returns : tie.Need-returns
+returns c = step-long _ _ _ (c .if1 .taken) ∙ on-rest (c .before)
+
+test-marking-requires : tie.Need-test-marking-requires
+test-marking-requires c κs = search needs
+
+returns-2 : tie.Need-returns-2
+returns-2 c = step-unheld _ _ _ (c .before .before .if1 .left) (sym (c .before .test-marking .ensures) ∙ not-true _ (c .if2 .taken)) ∙ on-rest (c .before .before .before)
+
+flatten-requires : tie.Need-flatten-requires
+flatten-requires c κs = search needs
+
+slice-aggregate-step-on : tie.Need-slice-aggregate-step-on
+slice-aggregate-step-on c = search needs
+
+sizes-requires : tie.Need-sizes-requires
+sizes-requires c κs = both-model _ _ (passed (c .before .before .before .before))
+
+step-on-requires : tie.Need-step-on-requires
+step-on-requires c κs =
+    let z = c .before .before .before in
+    let f = z .before .before in
+    let p = f .before .before .before in
+    let s = start (rest p) in
+    let m = s .args .m in
+    let e = again f in (
+      f .flatten .ensures .0,
+      subst Sized (sym e) (model-sized m _ (s .good .0)),
+      ap (λ (x : Model). heldBoth x (s .args .k)) e ∙ passed p,
+      z .sizes .ensures ∙ ap sizesIn (sym e),
+      p .before .before .if1 .left,
+      rows-room (s .args .k) _ (s .good .1 .0),
+    )
+
+returns-3 : tie.Need-returns-3
+returns-3 c =
+    let f = c .before .before .before .before .before .before in
+    let p = f .before .before .before in
+    let l = rest p in
+    c .step-on .ensures ∙ ap (λ (x : Model). heldStep x (start l .args .k) (now (l .left .result))) (again f)
+    ∙ step-held _ _ _ (p .before .before .if1 .left) (passed p) ∙ on-rest l
+
+pub step-at-spec : {M : Type 1} → statement M
+step-at-spec =
+    tie.close
+    (tie.spec
+    left-requires
+    returns
+    test-marking-requires
+    returns-2
+    flatten-requires
+    slice-aggregate-step-on
+    sizes-requires
+    step-on-requires
+    returns-3)

@@ -1,0 +1,5 @@
+pub mod TraceSteps
+pub mod TurnLaws
+pub mod TraceLaws
+pub mod Arrays
+pub mod Passing

@@ -1,0 +1,147 @@
+-- `run_at` meets its contract: of what is left of the text, 1, then 14, then the header, then the steps.
+use borrow.Author.Needs.{needs}
+use Rattle.runner_trace.proofs.run_at.Statement.{statement}
+use Rattle.runner_trace.proofs.run_at.Tie as tie
+use mathlib.Core.Path.{_≡_, ap, sym, subst, _∙_}
+use mathlib.Core.Bool.{true}
+use lib.ListN.{length, drop}
+use borrow.Author.Tests.{not-true, not-false}
+use denote.Ref.{now}
+use Rattle.text.proofs.Loops.{line-got, line-bad}
+use Rattle.model.specs.Held.{Sized}
+use Rattle.model.specs.declared.Model.{Model}
+use Rattle.model.proofs.HeldTests.{held-is}
+use Rattle.model_packed.specs.Packed.{modelIn}
+use Rattle.model_packed.proofs.ModelSized.{model-sized}
+use Rattle.model_packed.proofs.FlatLaws.{flat-again}
+use Rattle.marking.specs.Sizes.{sizesIn}
+use Rattle.reader.specs.Answers.{heldBoth}
+use Rattle.reader.proofs.ReadingLaws.{both-model}
+use Rattle.runner_trace.specs.Running.{runFrom, running}
+use Rattle.runner_trace.proofs.TraceLaws.{trace-long, trace-unheld, trace-unheaded, trace-headed}
+
+abbrev start : tie.After-left → tie.Start
+start c = c .before .before
+
+-- the run over what is left
+on-rest : (c : tie.After-left) → running (start c .args .m) (start c .args .k) (now (c .left .result))
+    ≡ running (start c .args .m) (start c .args .k) (drop (start c .args .at) (now (start c .args .s)))
+on-rest c = ap (running (start c .args .m) (start c .args .k)) (c .left .ensures)
+
+abbrev rest : tie.Else2 → tie.After-left
+rest c = c .before .before .before
+
+-- the two passed the held test
+passed : (c : tie.Else2) → heldBoth (start (rest c) .args .m) (start (rest c) .args .k) ≡ true
+passed c = sym (c .before .test-marking .ensures) ∙ not-false _ (c .if2 .left)
+
+left-requires : tie.Need-left-requires
+left-requires c κs = search needs
+
+refused-requires : tie.Need-refused-requires
+refused-requires c κs = search needs
+
+returns : tie.Need-returns
+returns c = c .refused .ensures ∙ trace-long _ _ _ (c .before .if1 .taken) ∙ on-rest (c .before .before)
+
+test-marking-requires : tie.Need-test-marking-requires
+test-marking-requires c κs = search needs
+
+refused-requires-2 : tie.Need-refused-requires-2
+refused-requires-2 c κs = search needs
+
+returns-2 : tie.Need-returns-2
+returns-2 c =
+    let t = c .before in
+    c .refused2 .ensures ∙ trace-unheld _ _ _ (t .before .before .if1 .left) (sym (t .before .test-marking .ensures) ∙ not-true _ (t .if2 .taken))
+    ∙ on-rest (t .before .before .before)
+
+slice-aggregate-head-line : tie.Need-slice-aggregate-head-line
+slice-aggregate-head-line c = search needs
+
+head-line-requires : tie.Need-head-line-requires
+head-line-requires c κs = search needs
+
+enum-known-head : tie.Need-enum-known-head
+enum-known-head c = search needs
+
+enum-told : tie.Need-enum-told
+enum-told c = search needs
+
+refused-requires-3 : tie.Need-refused-requires-3
+refused-requires-3 c κs = search needs
+
+returns-3 : tie.Need-returns-3
+returns-3 c =
+    let t = c .before in
+    let h = t .before .before in
+    let p = h .before .before in
+    c .refused3 .ensures
+    ∙ trace-unheaded _ _ _ (p .before .before .if1 .left) (passed p) _ (line-bad _ _ (sym (t .enum-told .given .1) ∙ h .head-line .ensures))
+    ∙ on-rest (rest p)
+
+-- the model that was laid flat is read there
+again : (f : tie.After-flatten) →
+    let p = f .before .before .before .before .before .before .before in
+    modelIn (f .flatten .last .1 .0) ≡ start (rest p) .args .m
+again f =
+    let p = f .before .before .before .before .before .before .before in
+    let s = start (rest p) in
+    let m = s .args .m in
+    ap modelIn (f .flatten .ensures .1) ∙ flat-again m (model-sized m _ (s .good .0)) (held-is m (both-model m _ (passed p)))
+
+flatten-requires : tie.Need-flatten-requires
+flatten-requires c κs = search needs
+
+slice-aggregate-steps-of : tie.Need-slice-aggregate-steps-of
+slice-aggregate-steps-of c = search needs
+
+sizes-requires : tie.Need-sizes-requires
+sizes-requires c κs = both-model _ _ (passed (c .before .before .before .before .before .before .before .before))
+
+steps-of-requires : tie.Need-steps-of-requires
+steps-of-requires c κs =
+    let f = c .before .before in
+    let p = f .before .before .before .before .before .before .before in
+    let s = start (rest p) in
+    let e = again f in (
+      f .flatten .ensures .0,
+      subst Sized (sym e) (model-sized (s .args .m) _ (s .good .0)),
+      ap (λ (x : Model). heldBoth x (s .args .k)) e ∙ passed p,
+      c .sizes .ensures ∙ ap sizesIn (sym e),
+      p .before .before .if1 .left,
+    )
+
+returns-4 : tie.Need-returns-4
+returns-4 c =
+    let f = c .before .before .before in
+    let d = f .before .before .before in
+    let h = d .before .before in
+    let p = h .before .before in
+    let l = rest p in
+    let next = d .head .given .0 .1 .0 in
+    c .steps-of .ensures ∙ ap (λ (x : Model). runFrom (length (now (l .left .result))) x (start l .args .k) (drop next (now (l .left .result))) 0) (again f)
+    ∙ trace-headed _ _ _ (p .before .before .if1 .left) (passed p) _ _ (line-got _ _ _ (sym (d .head .given .1) ∙ h .head-line .ensures))
+    ∙ on-rest l
+
+pub run-at-spec : {M : Type 1} → statement M
+run-at-spec =
+    tie.close
+    (tie.spec
+    left-requires
+    refused-requires
+    returns
+    test-marking-requires
+    refused-requires-2
+    returns-2
+    slice-aggregate-head-line
+    head-line-requires
+    enum-known-head
+    enum-told
+    refused-requires-3
+    returns-3
+    flatten-requires
+    slice-aggregate-steps-of
+    sizes-requires
+    steps-of-requires
+    returns-4)

@@ -1,0 +1,49 @@
+-- A step is read exactly where it is printed and right.
+use Prim.Native.Nat.{ℕ, suc, _-_}
+use mathlib.Core.Path.{_≡_, refl, ap}
+use mathlib.Core.Bool.{true}
+use native.Mathlib.Omega.{arith}
+use lib.Dec.{ltb}
+use borrow.Author.Tests.{ltb-true, lt-ltb}
+use Rattle.text.specs.Bytes.{Text, bytes}
+use Rattle.text.proofs.Basics.{and-true}
+use Rattle.text.specs.Lines.{need, within}
+use Rattle.text.proofs.TestLaws.{and-both, within-is, is-within}
+use Rattle.text.proofs.Exactly.{Exactly}
+use Rattle.text.proofs.LinesExactly.{number-exactly}
+use Rattle.text.proofs.ChainExactly.{exactly-by, first-makes, last-makes}
+use Rattle.eos.specs.Firing.{Step}
+use Rattle.marking.specs.Held.{Sizes}
+use Rattle.marking.specs.Reading.{Limits, rightBlock}
+use Rattle.marking.proofs.BlockExactly.{block-exactly}
+use Rattle.step.specs.Reading.{readStep, rightStep}
+use Rattle.step.specs.Printed.{stepText}
+
+module _ (lim : Limits) (z : Sizes) (events : ℕ) (s : Text) where
+  -- an event's number, from 1, found again from its index
+  event-again : (v e : ℕ) → within 1 events v ≡ true → v - 1 ≡ e → v ≡ suc e
+  event-again v e h k = let w = within-is 1 events v h in omega (arith, w .0)
+
+  index-again : (e : ℕ) → suc e - 1 ≡ e
+  index-again e = omega arith
+
+  again : (t : Step) → record { event = suc (t .event) - 1; taken = t .taken; given = t .given } ≡ t
+  again t = λ i. record { event = index-again (t .event) i; taken = t .taken; given = t .given }
+
+  pub step-exactly : Exactly s (readStep lim z events s) stepText (rightStep lim z events)
+  unfolding readStep stepText rightStep need
+  step-exactly =
+      exactly-by
+      (first-makes (number-exactly (bytes "fire=") (within 1 events) s)
+      (λ v. first-makes (block-exactly lim z s (bytes "take="))
+      (λ taken. last-makes (block-exactly lim z s (bytes "give=")) (λ given. true) 0
+      (λ given. record { event = v - 1; taken = taken; given = given }) (λ t. t .given) (λ given h. refl))
+      (λ t. t .taken) (λ taken t h r. ap (λ (t : Step). t .taken) (r .2)))
+      (λ t. suc (t .event)) (λ v t h r. event-again v (t .event) h (ap (λ (t : Step). t .event) (r .1 .2))))
+      (λ t h.
+      let w = within-is 1 events (suc (t .event)) (h .0) in
+      and-both (ltb (t .event) events) _ (lt-ltb (t .event) events (w .1)) (and-both (rightBlock lim z (t .taken)) _ (h .1 .0) (h .1 .1 .0)))
+      (λ t h.
+      let p = and-true (ltb (t .event) events) _ h in
+      let q = and-true (rightBlock lim z (t .taken)) _ (p .1) in
+      (is-within 1 events (suc (t .event)) (omega arith) (ltb-true (t .event) events (p .0)), (q .0, (q .1, refl, again t))))

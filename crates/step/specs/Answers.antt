@@ -1,0 +1,40 @@
+-- What the code of this crate answers for what a definition gives: how the reading ended, and the rows of the net-tokens in the order of
+-- their lines.
+use mathlib.Core.List.{List, [], map}
+use lib.ListN.{length}
+use Rattle.text.specs.Lines.{Outcome, got, bad}
+use Rattle.text.specs.declared.Ended.{Ended}
+use Rattle.text.specs.declared.Ended.the-variants.{Past, Stopped}
+use Rattle.eos.specs.Model as eos
+use Rattle.eos.specs.Firing.{Step}
+use Rattle.marking.specs.Rows.{Row}
+use Rattle.marking.specs.Held.{rowOf}
+use Rattle.step.specs.declared.TokenLines.{TokenLines}
+use Rattle.step.specs.declared.StepLines.{StepLines}
+
+-- no step, and how its reading ended
+abbrev pub noStep : Ended → StepLines
+noStep e = record { ended = e; event = 0; take = 0; give = 0 }
+
+-- what the lines of net-tokens say, as the code keeps it
+pub record TokenRows : Type 0 where
+  pub lines : TokenLines
+  pub rows : List Row
+
+unfoldable pub tokenRows : Outcome eos.Marking → TokenRows
+tokenRows (got ts next) = record { lines = record { ended = Past next; count = length ts }; rows = map rowOf ts }
+tokenRows (bad e) = record { lines = record { ended = Stopped e; count = 0 }; rows = [] }
+
+-- what a step's lines say, as the code keeps it
+pub record StepRows : Type 0 where
+  pub lines : StepLines
+  pub taken : List Row
+  pub given : List Row
+
+unfoldable pub stepRows : Outcome Step → StepRows
+stepRows (got t next) = record {
+  lines = record { ended = Past next; event = t .event; take = length (t .taken); give = length (t .given) };
+  taken = map rowOf (t .taken);
+  given = map rowOf (t .given);
+}
+stepRows (bad e) = record { lines = noStep (Stopped e); taken = []; given = [] }

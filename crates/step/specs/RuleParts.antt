@@ -1,0 +1,51 @@
+-- What the parts of this crate's code answer.
+use Prim.Native.Nat.{ℕ, zero, suc, _+_, _*_, pred, _≤_, _<_}
+use mathlib.Core.Path.{_≡_}
+use mathlib.Core.Bool.{true, false}
+use mathlib.Core.List.{List, _∷_}
+use lib.Dec.{eqb}
+use lib.ListN.{length, getD, set, replicate, take, drop}
+use Rattle.eos.specs.Vector.{_⊕_, times, zeros}
+use Rattle.model.specs.Rules.{nth}
+use Rattle.model.specs.Held.{row, rowIn, tabled, listed, noNet}
+use Rattle.model.specs.declared.ObjectNet.{ObjectNet}
+
+-- a move's row of the table, or one net-token on the place
+unfoldable pub outerIn : ℕ → ℕ → List ℕ → List ℕ
+outerIn kind index table = elim (eqb kind 1) [ true ↦ rowIn 32 table (pred index) | false ↦ set (replicate 32 0) (pred index) 1 ]
+
+-- v, and n rows from row i on, each as often as it is counted
+unfoldable pub sumRows : (ℕ → ℕ) → (ℕ → List ℕ) → ℕ → ℕ → List ℕ → List ℕ
+sumRows count rows i zero v = v
+sumRows count rows i (suc n) v = sumRows count rows (suc i) n (v ⊕ times (count i) (rows i))
+
+-- the rows of a net's table, added up over the counts that begin at `from`
+abbrev pub sumOf : (ObjectNet → List ℕ) → ObjectNet → List ℕ → ℕ → List ℕ
+sumOf side net sync from = sumRows (λ t. nth sync (from + t)) (rowIn 32 (side net)) 0 (net .transitions) (zeros 32)
+
+-- the same of net n
+abbrev pub netSum : (ObjectNet → List ℕ) → List ObjectNet → List ℕ → ℕ → List ℕ
+netSum side objects sync n = sumOf side (getD objects n noNet) sync (n * 32)
+
+-- ---- on a model that is laid flat
+
+-- what is asked of the numbers there, for event e
+pub record Flat (plan : List ℕ) (e : ℕ) : Type 0 where
+  pub long : length plan ≡ 34996
+  pub nets : nth plan 0 ≤ 8
+  pub steps : (n : ℕ) → n < 8 → nth plan (2084 + n * 2050 + 1) ≤ 32
+  pub event : e < 64
+  pub index-some : 1 ≤ nth plan (18484 + e * 258 + 1)
+  pub index-few : nth plan (18484 + e * 258 + 1) ≤ 32
+
+-- what event e sums up of net n, whose arcs begin at `arcs`
+abbrev pub netSumIn : List ℕ → ℕ → ℕ → ℕ → List ℕ
+netSumIn plan e arcs n =
+    sumRows (λ t. nth (take 256 (drop (18484 + e * 258 + 2) plan)) (n * 32 + t)) (rowIn 32 (take 1024 (drop (2084 + n * 2050 + arcs) plan))) 0
+    (nth plan (2084 + n * 2050 + 1)) (zeros 32)
+
+-- a side of event e, in nine rows; the moves' arcs begin at `moves`
+unfoldable pub sideIn : List ℕ → ℕ → ℕ → ℕ → List ℕ
+sideIn plan e moves arcs =
+    tabled row 288
+    (outerIn (nth plan (18484 + e * 258)) (nth plan (18484 + e * 258 + 1)) (take 1024 (drop moves plan)) ∷ listed (netSumIn plan e arcs) 0 (nth plan 0))

@@ -1,0 +1,126 @@
+// A step read from its lines. Its net-tokens are kept in the order of their lines, each a row of 33 numbers: its place's number, from 1,
+// and its counts.
+ghost use mathlib.Core.Path.{_≡_};
+ghost use Prim.Native.Nat.{_≤_};
+ghost use Rattle.text.specs.Lines.{many};
+ghost use Rattle.marking.specs.Rows.{rowsIn};
+ghost use Rattle.marking.specs.Held.{sizesAt, Roomy};
+ghost use Rattle.marking.specs.Reading.{limits, readNetToken, readBlock};
+ghost use Rattle.step.specs.Reading.{readStep};
+ghost use Rattle.step.specs.Answers.{noStep, tokenRows, stepRows};
+use marking::NetToken;
+use marking_edit::put_row;
+use marking_read::row_of;
+use model::Model;
+use step::StepLines;
+use step::TokenLines;
+use text::Ended;
+use text::Line;
+use text_lines::ended_of;
+use text_lines::number_line;
+use text_tokens::token_line;
+
+// The lines of n net-tokens; `sizes` says for each place how many counts its net-tokens have.
+fn tokens_at(
+    s: &[u8],
+    from: usize,
+    places: u16,
+    sizes: [u8; 32],
+    n: usize,
+    rows: &mut [u16; 8448],
+) -> TokenLines
+    requires { ⌜ (n ≤ 256) × Roomy (sizesAt places sizes) ⌝ }
+    ensures { λ r. ⌜ record { lines = r; rows = rowsIn (r .count) (now (rows .exit)) } ≡ tokenRows (many (readNetToken (limits 256 65535) (sizesAt places sizes) (now (s .entry))) n from) ⌝ }
+{
+    let mut at = from;
+    let mut i = 0;
+    while i < n {
+        let t = token_line(s, at, b"token=", places, &sizes, Model::COUNT);
+        let e = t.ended;
+        let Ended::Past { next } = e else {
+            return TokenLines { ended: e, count: 0 };
+        };
+        let counts = t.counts;
+        let token = NetToken {
+            place: t.place,
+            counts,
+        };
+        put_row(rows, i * 33, row_of(token));
+        at = next;
+        i += 1;
+    }
+    TokenLines {
+        ended: Ended::Past { next: at },
+        count: n,
+    }
+}
+
+// The line of key and a number, and that many lines of net-tokens, whose rows are laid one after the other from the first on.
+fn tokens_after(
+    s: &[u8],
+    at: usize,
+    key: &[u8],
+    places: u16,
+    sizes: [u8; 32],
+    rows: &mut [u16; 8448],
+) -> TokenLines
+    requires { ⌜ Roomy (sizesAt places sizes) ⌝ }
+    ensures { λ r. ⌜ record { lines = r; rows = rowsIn (r .count) (now (rows .exit)) } ≡ tokenRows (readBlock (now (key .entry)) (limits 256 65535) (sizesAt places sizes) (now (s .entry)) at) ⌝ }
+{
+    let line = number_line(s, at, key, 0, Model::TOKENS);
+    let Line::Value { value, next } = line else {
+        return TokenLines {
+            ended: ended_of(line),
+            count: 0,
+        };
+    };
+    tokens_at(s, next, places, sizes, value as usize, rows)
+}
+
+// No step, and how its reading ended.
+fn no_step(ended: Ended) -> StepLines
+    ensures { λ r. ⌜ r ≡ noStep ended ⌝ }
+{
+    StepLines {
+        ended,
+        event: 0,
+        take: 0,
+        give: 0,
+    }
+}
+
+// The lines of a step: its event, from 1 to `events`, and the net-tokens that it takes and gives. `taken` and `given` are room for their
+// rows; what stands there past the rows, and after a refusal, is left open.
+pub fn read_step(
+    s: &[u8],
+    at: usize,
+    events: u16,
+    places: u16,
+    sizes: [u8; 32],
+    taken: &mut [u16; 8448],
+    given: &mut [u16; 8448],
+) -> StepLines
+    requires { ⌜ Roomy (sizesAt places sizes) ⌝ }
+    ensures { λ r. ⌜ record { lines = r; taken = rowsIn (r .take) (now (taken .exit)); given = rowsIn (r .give) (now (given .exit)) } ≡ stepRows (readStep (limits 256 65535) (sizesAt places sizes) events (now (s .entry)) at) ⌝ }
+{
+    let line = number_line(s, at, b"fire=", 1, events);
+    let Line::Value { value, next } = line else {
+        return no_step(ended_of(line));
+    };
+    let take = tokens_after(s, next, b"take=", places, sizes, taken);
+    let read = take.ended;
+    let Ended::Past { next: then } = read else {
+        return no_step(read);
+    };
+    let give = tokens_after(s, then, b"give=", places, sizes, given);
+    let ended = give.ended;
+    let Ended::Past { next: _ } = ended else {
+        return no_step(ended);
+    };
+    StepLines {
+        ended,
+        event: value as usize - 1,
+        take: take.count,
+        give: give.count,
+    }
+}

@@ -1,0 +1,86 @@
+// The verdict on a step: the tests in their order, up to the first that fails.
+ghost use mathlib.Core.Path.{_≡_};
+ghost use mathlib.Core.List.{[], _∷_};
+ghost use Prim.Native.Nat.{_+_, _-_, _≤_};
+ghost use lib.Dec.{leb};
+ghost use lib.ListN.{length};
+ghost use Rattle.eos.specs.Causes.{first, unless, at};
+ghost use Rattle.marking.specs.Rows.{rowsIn, Kept};
+ghost use Rattle.step.specs.declared.Verdict.the-variants.{Turned};
+ghost use Rattle.step.specs.Verdict.{lackingRows, causesIn, verdictOf};
+ghost use Rattle.step.specs.Rule.{ruleIn};
+ghost use Rattle.step.specs.VerdictParts.{Lent, Placed};
+use model::Model;
+use model_packed::PRE;
+use model_packed::TYPES;
+use step::Verdict;
+use step_projections::containment::lacking;
+use step_projections::inner_of;
+use step_projections::nets::short_net;
+use step_projections::nets::unbalanced_net;
+use step_projections::outer_of;
+use step_projections::same;
+
+fn turned(cause: u8, beside: usize) -> Verdict
+    ensures { λ r. ⌜ r ≡ Turned cause beside ⌝ }
+{
+    Verdict::Turned {
+        cause: cause,
+        beside: beside,
+    }
+}
+
+// The tests against the marking: it has the net-tokens taken, and room for those given.
+fn on_marking(taken: &[u16], take: usize, give: usize, rows: &[u16], len: usize) -> Verdict
+    requires { ⌜ (take ≤ 256) × (length (now taken) ≡ 8448) × (give ≤ 256) × Kept len (now rows) ⌝ }
+    ensures { λ r. ⌜ r ≡ verdictOf (first (at 11 (lackingRows (rowsIn len (now (rows .entry))) 2 [] (rowsIn take (now (taken .entry))))
+        ∷ unless (leb (len - take + give) 256) 12 (3 + take) ∷ [])) ⌝ }
+{
+    let line = lacking(taken, take, rows, len);
+    if line != 0 {
+        return turned(11, line);
+    }
+    let most = Model::TOKENS as usize;
+    if most + take < len + give {
+        return turned(12, take + 3);
+    }
+    Verdict::Fires
+}
+
+// Why a step is turned down, or that it fires: an event with the sides `pre` and `post`, of a model that is laid flat; `take` rows of `taken`
+// and `give` rows of `given`, on a marking of `len` rows.
+pub fn verdict<'a>(
+    plan: &[u8],
+    pre: &'a [u64],
+    post: &'a [u64],
+    taken: &[u16],
+    take: usize,
+    given: &[u16],
+    give: usize,
+    rows: &[u16],
+    len: usize,
+) -> Verdict
+    requires { ⌜ Lent (now plan) (now pre) (now post) × Placed take (now taken) × Placed give (now given) × Kept len (now rows) ⌝ }
+    ensures { λ r. ⌜ r ≡ verdictOf (first (causesIn (ruleIn (now (plan .entry)) (now (pre .entry)) (now (post .entry))) (rowsIn take (now (taken .entry))) (rowsIn give (now (given .entry))) (rowsIn len (now (rows .entry))))) ⌝ }
+{
+    if !same(outer_of(taken, take), &pre[0..32]) {
+        return turned(8, 2);
+    }
+    if !same(outer_of(given, give), &post[0..32]) {
+        return turned(8, take + 3);
+    }
+    let nets = plan[0] as usize;
+    let mut held = [0u64; 256];
+    inner_of(taken, take, &plan[TYPES..PRE], &mut held);
+    let short = short_net(nets, &pre[32..288], &held);
+    if short != 0 {
+        return turned(9, short);
+    }
+    let mut made = [0u64; 256];
+    inner_of(given, give, &plan[TYPES..PRE], &mut made);
+    let unbalanced = unbalanced_net(nets, &made, &held, &pre[32..288], &post[32..288]);
+    if unbalanced != 0 {
+        return turned(10, unbalanced);
+    }
+    on_marking(taken, take, give, rows, len)
+}

@@ -1,4 +1,0 @@
-pub mod TotalLaws
-pub mod StepLaws
-pub mod GainLaws
-pub mod CoverLaws

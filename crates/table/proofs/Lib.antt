@@ -1,3 +1,0 @@
-pub mod Opened
-pub mod Listing
-pub mod Table

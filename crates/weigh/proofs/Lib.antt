@@ -1,0 +1,4 @@
+pub mod TotalLaws
+pub mod WeightLoops
+pub mod GainLaws
+pub mod CoverTests

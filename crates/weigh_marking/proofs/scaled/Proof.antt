@@ -1,0 +1,15 @@
+-- `scaled` meets its contract: the product of two numbers that have limits.
+use Rattle.weigh_marking.proofs.scaled.Statement.{statement}
+use Rattle.weigh_marking.proofs.scaled.Tie as tie
+use native.Mathlib.Omega.{arith}
+use mathlib.Core.Path.{refl}
+use Rattle.weigh.proofs.WeightLoops.{most}
+
+mul-result : tie.Need-mul-result
+mul-result c = omega (arith, most (c .args .w) (c .args .v) 65535 65535 (omega arith) (omega arith))
+
+returns : tie.Need-returns
+returns c = (refl, most (c .args .w) (c .args .v) 65535 65535 (omega arith) (omega arith))
+
+pub scaled-spec : {M : Type 1} → statement M
+scaled-spec = tie.close (tie.spec mul-result returns)
