@@ -19,7 +19,7 @@ use Rattle.keeper.specs.declared.WeightCheck.{WeightCheck}
 use Rattle.spread.specs.Call.{spreadPair, spreadValue}
 use Rattle.spread.specs.declared.Spread.{Spread}
 use Rattle.capi.specs.declared.TextWritten.{TextWritten}
-use Rattle.capi.specs.Calls.{modelRead, markingRead, bytesOf, textWritten, writtenToC, weighed, stepDone, runDone, shared}
+use Rattle.capi.specs.Calls.{modelRead, markingRead, bytesOf, textWritten, writtenToC, weightsChecked, stepDone, runDone, shared}
 
 -- the two numbers of a pair
 numbers : (p : Pair) (q : Refusal) → refusalOf p ≡ q → (p .number ≡ q .number) × (p .beside ≡ q .beside)
@@ -42,8 +42,8 @@ pub lent-is : (a : WriteAnswer) (t : TextWritten) {after : List ℕ} {l : Lent} 
 lent-is a t e h = rw e (ap writtenToC h)
 
 pub weighed-is : (c : WeightCheck) (p : Pair) {n : ℕ} {s : WeightCheck} → c ≡ s → refusalOf p ≡ weightPair (c .answer) → n ≡ cond (c .cover) 1 0
-    → record { number = p .number; beside = p .beside; above = c .sum .above; below = c .sum .below; cover = n } ≡ weighed s
-weighed-is c p e h f = let n = numbers p (weightPair (c .answer)) h in rw (n .0, n .1, f) (ap weighed e)
+    → record { number = p .number; beside = p .beside; above = c .sum .above; below = c .sum .below; cover = n } ≡ weightsChecked s
+weighed-is c p e h f = let n = numbers p (weightPair (c .answer)) h in rw (n .0, n .1, f) (ap weightsChecked e)
 
 pub step-is : (r : Stepped) (p : Pair) {n : ℕ} {s : Stepped} → r ≡ s → refusalOf p ≡ stepPair (r .answer) → n ≡ usedBy (r .answer)
     → record { number = p .number; beside = p .beside; used = n; marking = r .marking } ≡ stepDone s

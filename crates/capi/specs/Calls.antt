@@ -46,8 +46,8 @@ pub record LentToC : Type 0 where
 abbrev pub writtenToC : Lent → LentToC
 writtenToC l = record { answer = textWritten (l .answer); bytes = l .bytes }
 
-abbrev pub weighed : WeightCheck → Weighed
-weighed c = record {
+abbrev pub weightsChecked : WeightCheck → Weighed
+weightsChecked c = record {
   number = weightPair (c .answer) .number;
   beside = weightPair (c .answer) .beside;
   above = c .sum .above;

@@ -8,7 +8,7 @@ ghost use Rattle.runner_trace.specs.Running.{running};
 ghost use Rattle.keeper.specs.Answers.{weightChecking};
 ghost use Rattle.spread.specs.Call.{spreadCall};
 ghost use Rattle.listing.specs.Listing.{listingText};
-ghost use Rattle.capi.specs.Calls.{modelRead, markingRead, textWritten, writtenToC, weighed, stepDone, runDone, shared};
+ghost use Rattle.capi.specs.Calls.{modelRead, markingRead, textWritten, writtenToC, weightsChecked, stepDone, runDone, shared};
 use engine::Marking;
 use engine::Model;
 use engine::WriteAnswer;
@@ -146,7 +146,7 @@ pub extern "C" fn fp_write_marking(model: Model, marking: Marking, out: &mut [u8
 
 #[no_mangle]
 pub extern "C" fn fp_check_weights(model: Model, marking: Marking, text: &[u8]) -> Weighed
-    ensures { λ r. ⌜ r ≡ weighed (weightChecking model marking (now (text .entry))) ⌝ }
+    ensures { λ r. ⌜ r ≡ weightsChecked (weightChecking model marking (now (text .entry))) ⌝ }
 {
     let check = engine::check_weights(model, marking, text);
     let answer = check.answer;

@@ -23,7 +23,7 @@ use Rattle.model.specs.Test.{heldAct, frameIn, heldModel}
 use Rattle.model.specs.declared.Event.{Event}
 use Rattle.model.specs.declared.Model.{Model}
 use Rattle.model.proofs.HeldTests.{held-is, most-moves, most-places}
-use Rattle.keeper.specs.Held.{rows, holdWeights}
+use Rattle.keeper.specs.Held.{weightLists, holdWeights}
 use Rattle.weigh.specs.Sums.{total, product, gainOf, Gains, eventGain, balancedAt, ActIn}
 use Rattle.keeper.specs.declared.HeldWeights.{HeldWeights}
 use Rattle.weigh.proofs.TotalLaws.{total-same, total-plus, total-rows}
@@ -57,7 +57,7 @@ module _ (m : Model) (w : Weights) (kept : Kept m w) (k : ℕ) (listed : k < m .
   event = eos.event (modelOf m) k
 
   abbrev table : (ℤ → ℕ) → List ℕ
-  table f = tabled (map f) 288 (rows w)
+  table f = tabled (map f) 288 (weightLists w)
 
   abbrev inside : (eos.Transition → List ℕ) → (ℤ → ℕ) → ℕ
   inside side f = dotsN (map (map f) (w .inward)) 0 (innerOf side (modelOf m) event)
@@ -169,10 +169,10 @@ pub least-unbalanced : (m : Model) (w : Weights) → Kept m w → (h : HeldWeigh
     → r ≡ numbered (failing (m .listed) 0 (λ k. isZero (effect (modelOf m) w (eos.event (modelOf m) k))))
 unfolding holdWeights
 least-unbalanced m w kept h e gain loss p q r is =
-    let a : h .above ≡ tabled (map above) 288 (rows w) = ap (λ (x : HeldWeights). x .above) e in
-    let b : h .below ≡ tabled (map below) 288 (rows w) = ap (λ (x : HeldWeights). x .below) e in
-    let p′ : Gains m (tabled (map above) 288 (rows w)) (tabled (map below) 288 (rows w)) gain = rw (a, b) at p in
-    let q′ : Gains m (tabled (map below) 288 (rows w)) (tabled (map above) 288 (rows w)) loss = rw (a, b) at q in
+    let a : h .above ≡ tabled (map above) 288 (weightLists w) = ap (λ (x : HeldWeights). x .above) e in
+    let b : h .below ≡ tabled (map below) 288 (weightLists w) = ap (λ (x : HeldWeights). x .below) e in
+    let p′ : Gains m (tabled (map above) 288 (weightLists w)) (tabled (map below) 288 (weightLists w)) gain = rw (a, b) at p in
+    let q′ : Gains m (tabled (map below) 288 (weightLists w)) (tabled (map above) 288 (weightLists w)) loss = rw (a, b) at q in
     is
     ∙ ap numbered
     (failing-same (balancedAt (m .nets) (m .events) gain loss) (λ k. isZero (effect (modelOf m) w (eos.event (modelOf m) k))) (m .listed) 0

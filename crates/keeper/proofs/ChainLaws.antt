@@ -24,7 +24,7 @@ use Rattle.model.specs.declared.Model.{Model}
 use Rattle.reader.specs.Reading.{readEnd}
 use Rattle.keeper.specs.Reading.{readWeightsAt}
 use Rattle.keeper.specs.Held.{holdWeights, noWeights}
-use Rattle.keeper.specs.Parts.{linesOf, readNet, putNext, behindOuter, innersOf}
+use Rattle.keeper.specs.Parts.{linesOf, readNetWeights, putNext, behindOuter, innersOf}
 use Rattle.keeper.specs.declared.HeldWeights.{HeldWeights}
 use Rattle.keeper.specs.declared.WeightLines.{WeightLines}
 use Rattle.keeper.proofs.WeightFileLines.{row-got, row-bad, row-above, row-below, places-long, inners-are, lines-bad, rows-behind}
@@ -71,7 +71,7 @@ module _ (m : Model) (long : length (m .types) ≡ 32) (few : m .places ≤ 32) 
   file = readWeightsAt (modelOf m) s at
 
   abbrev inners : ℕ → Outcome (List (List ℤ))
-  inners at = manyAt (readNet (m .objects) s) 0 (m .nets) at
+  inners at = manyAt (readNetWeights (m .objects) s) 0 (m .nets) at
 
   abbrev outers : ℕ → Outcome (List ℤ)
   outers at = readWeights (bytes "outer=") (m .places) (modest 1000) s at

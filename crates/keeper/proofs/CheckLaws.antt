@@ -1,8 +1,7 @@
 -- The weight check, case by case: a text that is too long, a model or marking that is not held, a line at fault, weights that are judged.
 use Prim.Native.Nat.{ℕ, _≤_, _<_}
-use mathlib.Core.Path.{_≡_, refl, ap, sym, _∙_}
-use mathlib.Core.Bool.{Bool, true, false}
-use lib.Dec.{leb}
+use mathlib.Core.Path.{_≡_, ap, sym, _∙_}
+use mathlib.Core.Bool.{true, false}
 use lib.ListN.{length}
 use borrow.Author.Tests.{lt-leb, le-leb}
 use Rattle.text.specs.Bytes.{Text}
@@ -18,9 +17,9 @@ use Rattle.marking.specs.Held.{tokensOf}
 use Rattle.marking.specs.declared.Marking.{Marking}
 use Rattle.reader.specs.Answers.{longest, heldBoth}
 use Rattle.marking.specs.Sizes.{sizesFor}
-use Rattle.keeper.specs.Reading.{readWeightsAt, readWeightFile}
+use Rattle.keeper.specs.Reading.{readWeightsAt}
 use Rattle.keeper.specs.Held.{holdWeights}
-use Rattle.keeper.specs.Answers.{refusedWeights, faulty, judgedWeights, weighed, weightsOr, weightChecking, weightsFrom}
+use Rattle.keeper.specs.Answers.{refusedWeights, faulty, judgedWeights, weighed, weightsOr, weightsFrom}
 use Rattle.keeper.specs.Parts.{linesOf, Holds}
 use Rattle.keeper.specs.declared.WeightAnswer.the-variants.{TooLong, NotHeld}
 use Rattle.keeper.specs.declared.WeightLines.{WeightLines}

@@ -18,7 +18,7 @@ use Rattle.model.specs.Rules.{nth}
 use Rattle.model.specs.Held.{noNet, tabled}
 use Rattle.model.specs.declared.Model.{Model}
 use Rattle.model.proofs.TableLaws.{length-tabled}
-use Rattle.keeper.specs.Held.{rows}
+use Rattle.keeper.specs.Held.{weightLists}
 use Rattle.weigh.specs.Sums.{lowest, someAt, enoughAt, netCovered, covered}
 use Rattle.keeper.proofs.EveryLaws.{below-same, every-below, each-and}
 use Rattle.keeper.proofs.HeldRows.{Kept, few-places, outer-long, inner-long, net-long, net-small, outer-at, inner-at}
@@ -52,7 +52,7 @@ least-above (v ∷ u ∷ l) h =
 
 module _ (m : Model) (w : Weights) (kept : Kept m w) (sum : ℕ) where
   abbrev table : List ℕ
-  table = tabled (map above) 288 (rows w)
+  table = tabled (map above) 288 (weightLists w)
 
   outer-above : (i : ℕ) → i < 32 → nth table i ≡ above (getD (w .outward) i (pos 0))
   outer-above i h = outer-at m w kept above i h ∙ List·getD-map above (w .outward) i (pos 0)
@@ -66,7 +66,7 @@ module _ (m : Model) (w : Weights) (kept : Kept m w) (sum : ℕ) where
   outer-row : take (m .places) table ≡ map above (w .outward)
   outer-row =
       let long : length (take (m .places) table) ≡ m .places =
-      length-take-le (m .places) table (omega (arith, few-places m w kept, length-tabled (map above) 288 (rows w))) in
+      length-take-le (m .places) table (omega (arith, few-places m w kept, length-tabled (map above) 288 (weightLists w))) in
       ext-getD 0 (take (m .places) table) (map above (w .outward)) (long ∙ sym (length-map (w .outward) above ∙ outer-long m w kept)) λ i p.
       getD-take (m .places) table i 0 (omega arith) ∙ outer-at m w kept above i (omega (arith, few-places m w kept))
 

@@ -24,7 +24,7 @@ use Rattle.model.specs.declared.Model.{Model}
 use Rattle.model.proofs.SlotLaws.{by-index, cond-below, listed-at}
 use Rattle.model.proofs.TableLaws.{row-at, nth-row}
 use Rattle.model.proofs.HeldTests.{held-is, countTest, nets-at}
-use Rattle.keeper.specs.Held.{rows}
+use Rattle.keeper.specs.Held.{weightLists}
 use Rattle.weigh.specs.Sums.{total, product}
 use Rattle.weigh.proofs.TotalLaws.{total-same}
 use Rattle.keeper.proofs.SplitLaws.{dotN, dotsN}
@@ -42,7 +42,7 @@ module _ (m : Model) (w : Weights) (kept : Kept m w) (k : ℕ) (listed : k < m .
   event = eos.event (modelOf m) k
 
   abbrev table : (ℤ → ℕ) → List ℕ
-  table f = tabled (map f) 288 (rows w)
+  table f = tabled (map f) 288 (weightLists w)
 
   abbrev net : ℕ → ObjectNet
   net n = getD (m .objects) n noNet

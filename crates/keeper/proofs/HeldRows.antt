@@ -18,7 +18,7 @@ use Rattle.model.proofs.SlotLaws.{cond-below}
 use Rattle.model.proofs.TableLaws.{row-at, tabled-row}
 use Rattle.model.proofs.HeldTests.{held-is, most-nets, most-places, most-events, events-at, EventIn, event-in}
 use Rattle.marking.proofs.SizeLaws.{nets-small}
-use Rattle.keeper.specs.Held.{rows}
+use Rattle.keeper.specs.Held.{weightLists}
 use Rattle.keeper.proofs.WeightFileLines.{nets-long, places-long, net-is}
 
 -- ---- a table of rows
@@ -62,15 +62,15 @@ module _ (m : Model) (w : Weights) (k : Kept m w) where
 
   module _ (f : ℤ → ℕ) where
     -- an outer weight, and a weight of net n
-    pub outer-at : (i : ℕ) → i < 32 → nth (tabled (map f) 288 (rows w)) i ≡ nth (map f (w .outward)) i
+    pub outer-at : (i : ℕ) → i < 32 → nth (tabled (map f) 288 (weightLists w)) i ≡ nth (map f (w .outward)) i
     outer-at i h =
         let e : 0 * 32 + i ≡ i = omega arith in
-        rw e at (held-at f (rows w) (omega (arith, inner-long, few-nets)) 0 (omega arith) (omega (arith, outer-long, few-places)) i h)
+        rw e at (held-at f (weightLists w) (omega (arith, inner-long, few-nets)) 0 (omega arith) (omega (arith, outer-long, few-places)) i h)
 
-    pub inner-at : (n : ℕ) → n < m .nets → (i : ℕ) → i < 32 → nth (tabled (map f) 288 (rows w)) (n * 32 + 32 + i) ≡ nth (map f (getD (w .inward) n [])) i
+    pub inner-at : (n : ℕ) → n < m .nets → (i : ℕ) → i < 32 → nth (tabled (map f) 288 (weightLists w)) (n * 32 + 32 + i) ≡ nth (map f (getD (w .inward) n [])) i
     inner-at n p i h =
         let e : suc n * 32 + i ≡ n * 32 + 32 + i = omega arith in
-        rw e at (held-at f (rows w) (omega (arith, inner-long, few-nets)) (suc n) (omega (arith, few-nets)) (omega (arith, net-long n p, net-small n)) i h)
+        rw e at (held-at f (weightLists w) (omega (arith, inner-long, few-nets)) (suc n) (omega (arith, few-nets)) (omega (arith, net-long n p, net-small n)) i h)
 
 -- ---- an event of a held model passes its test
 pub event-test : (m : Model) → heldModel m ≡ true → (k : ℕ) → k < m .listed → EventIn (frameIn m) (getD (m .events) k noEvent)

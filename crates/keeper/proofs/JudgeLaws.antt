@@ -22,7 +22,7 @@ use Rattle.marking.specs.Held.{tokensOf, heldMarking}
 use Rattle.marking.specs.declared.Marking.{Marking}
 use Rattle.reader.specs.Answers.{heldBoth}
 use Rattle.marking.specs.Sizes.{sizesFor}
-use Rattle.keeper.specs.Held.{rows, holdWeights}
+use Rattle.keeper.specs.Held.{weightLists, holdWeights}
 use Rattle.keeper.specs.Answers.{sumOf, refusedWeights, passedWeights, turnedOr, judgedWeights}
 use Rattle.weigh.specs.Sums.{markingWeight, PlaceIn, covered}
 use Rattle.keeper.specs.declared.HeldWeights.{HeldWeights}
@@ -70,11 +70,11 @@ sum-of : (a b : ℕ) → record { above = a - b; below = b - a } ≡ sumOf (sub�
 sum-of a b = ap₂ {C = Sum} (λ (x y : ℕ). record { above = x; below = y }) (sym (sub-above a b)) (sym (sub-below a b))
 
 module _ (m : Model) (w : Weights) (kept : Kept m w) (k : Marking) (held : heldMarking (sizesFor m) k ≡ true) (h : HeldWeights) (is : h ≡ holdWeights w) where
-  above-is : h .above ≡ tabled (map above) 288 (rows w)
+  above-is : h .above ≡ tabled (map above) 288 (weightLists w)
   unfolding holdWeights
   above-is = ap (λ (x : HeldWeights). x .above) is
 
-  below-is : h .below ≡ tabled (map below) 288 (rows w)
+  below-is : h .below ≡ tabled (map below) 288 (weightLists w)
   unfolding holdWeights
   below-is = ap (λ (x : HeldWeights). x .below) is
 

@@ -24,7 +24,6 @@ use Rattle.marking.specs.Rows.{rowsIn, ascending}
 use Rattle.marking.proofs.RowLaws.{length-rows, row-at}
 use Rattle.marking.specs.Held.{Sizes, rightRow, heldMarking}
 use Rattle.marking.specs.declared.Marking.{Marking}
-use Rattle.keeper.specs.Held.{rows}
 use Rattle.keeper.proofs.SplitLaws.{dotsN, valueBy}
 use Rattle.keeper.proofs.DotLaws.{dotN-⊕, dotN-zeros, dotN-unit}
 

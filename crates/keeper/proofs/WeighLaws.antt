@@ -23,7 +23,7 @@ use Rattle.marking.specs.Rows.{rowsIn}
 use Rattle.marking.specs.Held.{tokenOf, tokensOf, heldMarking}
 use Rattle.marking.specs.declared.Marking.{Marking}
 use Rattle.marking.specs.Sizes.{sizeOfType, sizesIn, sizesFor}
-use Rattle.keeper.specs.Held.{rows}
+use Rattle.keeper.specs.Held.{weightLists}
 use Rattle.weigh.specs.Sums.{total, product, tokenWeight, markingWeight}
 use Rattle.weigh.proofs.TotalLaws.{total-none, total-same, total-zero, total-front, total-one}
 use Rattle.keeper.proofs.SplitLaws.{dotN, dotsN, value-split}
@@ -33,7 +33,7 @@ use Rattle.keeper.proofs.MarkingLaws.{weightOf, weightBy, weight-none, 
 
 module _ (m : Model) (w : Weights) (kept : Kept m w) (k : Marking) (held : heldMarking (sizesFor m) k ≡ true) where
   abbrev table : (ℤ → ℕ) → List ℕ
-  table f = tabled (map f) 288 (rows w)
+  table f = tabled (map f) 288 (weightLists w)
 
   abbrev row : ℕ → List ℕ
   row i = take 33 (drop (i * 33) (k .rows))

@@ -25,7 +25,7 @@ use Rattle.model.proofs.SlotLaws.{length-listed, listed-at}
 use Rattle.model_text.proofs.LineAnswers.{filled-bad}
 use Rattle.keeper.specs.Reading.{readInner}
 use Rattle.keeper.specs.Held.{noWeights}
-use Rattle.keeper.specs.Parts.{linesOf, readNet, putNext, innersOf}
+use Rattle.keeper.specs.Parts.{linesOf, readNetWeights, putNext, innersOf}
 use Rattle.keeper.specs.declared.HeldWeights.{HeldWeights}
 use Rattle.keeper.specs.declared.WeightLines.{WeightLines}
 
@@ -95,8 +95,8 @@ inners-read h (bad d) a b at p q = let z : _≡_ {A = ℕ} 0 1 = cc in absurd (o
 
 -- a net's line, looked up with any net for those past the last
 pub net-line : (objects : List ObjectNet) (s : Text) (i at : ℕ) (d : ObjectNet) → getD objects i d ≡ getD objects i noNet → (r : WeightRow)
-    → r ≡ weightRowOf (readWeights (bytes "inner=") (getD objects i d .places) (modest 1000) s at) → r ≡ weightRowOf (readNet objects s i at)
-unfolding readNet
+    → r ≡ weightRowOf (readWeights (bytes "inner=") (getD objects i d .places) (modest 1000) s at) → r ≡ weightRowOf (readNetWeights objects s i at)
+unfolding readNetWeights
 net-line objects s i at d e r h = h ∙ ap (λ (o : ObjectNet). weightRowOf (readWeights (bytes "inner=") (o .places) (modest 1000) s at)) e
 
 -- ---- a held model's lines
@@ -122,12 +122,12 @@ module _ (m : Model) (s : Text) where
   unfolding modelOf
   net-is i h = listed-at (λ i. netOf (getD (m .objects) i noNet)) (m .nets) i eos.noNet h
 
-  inner-is : (i : ℕ) → i < m .nets → readNet (m .objects) s i ≡ readInner (modelOf m) s i
-  unfolding readNet readInner netOf
+  inner-is : (i : ℕ) → i < m .nets → readNetWeights (m .objects) s i ≡ readInner (modelOf m) s i
+  unfolding readNetWeights readInner netOf
   inner-is i h = fun-ext (λ at. rw (net-is i h))
 
-  pub inners-are : (at : ℕ) → manyAt (readNet (m .objects) s) 0 (m .nets) at ≡ manyAt (readInner (modelOf m) s) 0 (length (modelOf m .nets)) at
-  inners-are at = many-same (readNet (m .objects) s) (readInner (modelOf m) s) (m .nets) 0 at (λ i p. inner-is i (omega arith)) ∙ rw nets-long
+  pub inners-are : (at : ℕ) → manyAt (readNetWeights (m .objects) s) 0 (m .nets) at ≡ manyAt (readInner (modelOf m) s) 0 (length (modelOf m .nets)) at
+  inners-are at = many-same (readNetWeights (m .objects) s) (readInner (modelOf m) s) (m .nets) 0 at (λ i p. inner-is i (omega arith)) ∙ rw nets-long
 
 -- what is answered for a refusal
 pub lines-bad : (o : Outcome Weights) (e : Ended) (d : Fault) → e ≡ Stopped d → o ≡ bad d → (r : WeightLines) → r ≡ record { ended = e; weights = noWeights }

@@ -19,7 +19,7 @@ use Rattle.model.specs.declared.Model.{Model}
 use Rattle.model.proofs.PaddedRows.{empty-at, empty-of}
 use Rattle.model.proofs.SlotLaws.{by-index}
 use Rattle.model.proofs.TableLaws.{length-tabled}
-use Rattle.keeper.specs.Held.{rows, holdWeights}
+use Rattle.keeper.specs.Held.{weightLists, holdWeights}
 use Rattle.keeper.specs.declared.HeldWeights.{HeldWeights}
 use Rattle.keeper.proofs.EveryLaws.{both-ways, every-same, each-and}
 use Rattle.keeper.proofs.HeldRows.{Kept, few-nets, few-places, outer-long, inner-long, net-long, net-small, held-at}
@@ -70,7 +70,7 @@ module _ (f : ℤ → ℕ) (none : f (pos 0) ≡ 0) (l : List (List ℤ)) (few :
       (λ p. List·getD-eq-default table 0 (omega (arith, length-tabled (map f) 288 l))))
 
 module _ (m : Model) (w : Weights) (kept : Kept m w) where
-  row-small : (r : ℕ) → length (getD (rows w) r []) ≤ 32
+  row-small : (r : ℕ) → length (getD (weightLists w) r []) ≤ 32
   row-small zero = omega (arith, outer-long m w kept, few-places m w kept)
   row-small (suc n) =
       by-index (m .nets) n
@@ -81,8 +81,8 @@ module _ (m : Model) (w : Weights) (kept : Kept m w) where
   pub zero-is : (h : HeldWeights) → h ≡ holdWeights w → allZero w ≡ (empty (h .above) && empty (h .below))
   unfolding holdWeights
   zero-is h e =
-      let few : length (rows w) ≤ 9 = omega (arith, inner-long m w kept, few-nets m w kept) in
-      every-same (every isZero) (every (λ v. eqb (above v) 0 && eqb (below v) 0)) (rows w)
+      let few : length (weightLists w) ≤ 9 = omega (arith, inner-long m w kept, few-nets m w kept) in
+      every-same (every isZero) (every (λ v. eqb (above v) 0 && eqb (below v) 0)) (weightLists w)
       (λ x. every-same isZero (λ v. eqb (above v) 0 && eqb (below v) 0) x zero-parts)
-      ∙ each-and (λ v. eqb (above v) 0) (λ v. eqb (below v) 0) (rows w)
-      ∙ sym (rw e (ap₂ _&&_ (empty-table above refl (rows w) few row-small) (empty-table below refl (rows w) few row-small)))
+      ∙ each-and (λ v. eqb (above v) 0) (λ v. eqb (below v) 0) (weightLists w)
+      ∙ sym (rw e (ap₂ _&&_ (empty-table above refl (weightLists w) few row-small) (empty-table below refl (weightLists w) few row-small)))

@@ -9,11 +9,11 @@ use Rattle.model.specs.Held.{tabled}
 use Rattle.keeper.specs.declared.HeldWeights.{HeldWeights}
 
 -- the outer weights, and those of each net
-abbrev pub rows : Weights → List (List ℤ)
-rows w = w .outward ∷ w .inward
+abbrev pub weightLists : Weights → List (List ℤ)
+weightLists w = w .outward ∷ w .inward
 
 unfoldable pub holdWeights : Weights → HeldWeights
-holdWeights w = record { above = tabled (map above) 288 (rows w); below = tabled (map below) 288 (rows w) }
+holdWeights w = record { above = tabled (map above) 288 (weightLists w); below = tabled (map below) 288 (weightLists w) }
 
 -- no weight
 abbrev pub noWeights : HeldWeights

@@ -24,8 +24,8 @@ unfoldable pub linesOf : Outcome Weights → WeightLines
 linesOf o = record { ended = endedOf o; weights = keptOr noWeights holdWeights o }
 
 -- the weights of net n of these nets
-unfoldable pub readNet : List ObjectNet → Text → ℕ → ℕ → Outcome (List ℤ)
-readNet objects s n at = readWeights (bytes "inner=") (getD objects n noNet .places) (modest 1000) s at
+unfoldable pub readNetWeights : List ObjectNet → Text → ℕ → ℕ → Outcome (List ℤ)
+readNetWeights objects s n at = readWeights (bytes "inner=") (getD objects n noNet .places) (modest 1000) s at
 
 -- a row behind the first one
 abbrev pub putNext : (List ℤ → List ℕ) → ℕ → List ℤ → List ℕ → List ℕ

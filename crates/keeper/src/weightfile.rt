@@ -9,12 +9,12 @@ ghost use Rattle.model.specs.Held.{modelOf};
 ghost use Rattle.model.specs.Test.{heldModel};
 ghost use Rattle.keeper.specs.Reading.{readWeightsAt};
 ghost use Rattle.keeper.specs.Held.{noWeights};
-ghost use Rattle.keeper.specs.Parts.{readNet, innersOf, linesOf};
+ghost use Rattle.keeper.specs.Parts.{readNetWeights, innersOf, linesOf};
 use super::HeldWeights;
 use super::WeightLines;
 use model::Model;
 use model::ObjectNet;
-use model_tables::counts::put_row;
+use model_tables::counts::put_counts;
 use text::Ended;
 use text::Fault;
 use text::Line;
@@ -42,7 +42,7 @@ fn inner_lines(
     outer: HeldWeights,
 ) -> WeightLines
     requires { ⌜ nets ≤ 8 ⌝ }
-    ensures { λ r. ⌜ r ≡ innersOf outer (manyAt (readNet objects (now (s .entry))) 0 nets from) ⌝ }
+    ensures { λ r. ⌜ r ≡ innersOf outer (manyAt (readNetWeights objects (now (s .entry))) 0 nets from) ⌝ }
 {
     let mut above = outer.above;
     let mut below = outer.below;
@@ -57,8 +57,8 @@ fn inner_lines(
         };
         let a = r.above;
         let b = r.below;
-        put_row(&mut above, i * 32 + 32, a);
-        put_row(&mut below, i * 32 + 32, b);
+        put_counts(&mut above, i * 32 + 32, a);
+        put_counts(&mut below, i * 32 + 32, b);
         at = next;
         i += 1;
     }
@@ -75,8 +75,8 @@ fn outer_row(a: [u16; 32], b: [u16; 32]) -> HeldWeights
 {
     let mut above = [0u16; 288];
     let mut below = [0u16; 288];
-    put_row(&mut above, 0, a);
-    put_row(&mut below, 0, b);
+    put_counts(&mut above, 0, a);
+    put_counts(&mut below, 0, b);
     HeldWeights { above, below }
 }
 

@@ -29,7 +29,7 @@ use Rattle.eos.proofs.VectorLaws.{lexOrder}
 use Rattle.eos.proofs.FiringLaws.{insertAll, after-in-order}
 use Rattle.marking.specs.Rows.{rowsIn, laid, Kept}
 use Rattle.marking.proofs.KeptLaws.{rows-laid, kept-laid}
-use Rattle.marking.specs.Held.{Sizes, Roomy, rowOf, holdMarking, noMarking}
+use Rattle.marking.specs.Held.{Sizes, Roomy, tokenRow, holdMarking, noMarking}
 use Rattle.marking.specs.Reading.{Limits, limits, lineToken, readNetToken, readBlock}
 use Rattle.marking.specs.Answers.{blockOf}
 use Rattle.marking.proofs.BlockExactly.{netToken-exactly}
@@ -63,7 +63,7 @@ unfolding filled blockOf endedOf keptOr
 block-bad (got ts x) d e = let z : _≡_ {A = ℕ} 0 1 = cc in absurd (omega arith)
 block-bad (bad c) d e = let k : c ≡ d = cc in rw k
 
-block-got : (o : Outcome eos.Marking) (μ : eos.Marking) (n at : ℕ) (rows : List ℕ) → length μ ≡ n → rows ≡ laid (map rowOf μ) → filled put 0 [] o ≡ got μ at
+block-got : (o : Outcome eos.Marking) (μ : eos.Marking) (n at : ℕ) (rows : List ℕ) → length μ ≡ n → rows ≡ laid (map tokenRow μ) → filled put 0 [] o ≡ got μ at
     → record { ended = Past at; marking = record { len = n; rows = rows } } ≡ blockOf o
 unfolding filled blockOf endedOf keptOr holdMarking
 block-got (got ts x) μ n at rows h r e =
@@ -89,9 +89,9 @@ module _ (lim : Limits) (z : Sizes) (s : Text) where
   pub record Going (n from : ℕ) (i at : ℕ) (rows : List ℕ) : Type 0 where
     pub tokens : eos.Marking
     pub all : All z tokens
-    pub sorted : M.Sorted lexV (map rowOf tokens)
+    pub sorted : M.Sorted lexV (map tokenRow tokens)
     pub long : length tokens ≡ i
-    pub rows-are : rows ≡ laid (map rowOf tokens)
+    pub rows-are : rows ≡ laid (map tokenRow tokens)
     pub left : filled put 0 [] (many reads n from) ≡ filled put i tokens (many reads (n - i) at)
 
   -- one line, as the code has it: a net-token that fits, and its row
@@ -99,7 +99,7 @@ module _ (lim : Limits) (z : Sizes) (s : Text) where
     pub token : eos.NetToken
     pub is : reads at ≡ got token next
     pub fits : Fitting z token
-    pub row-is : place ∷ counts ≡ rowOf token
+    pub row-is : place ∷ counts ≡ tokenRow token
 
   module _ (at : ℕ) (row : TokenRow) (row-of : row ≡ tokenRowOf (readToken (bytes "token=") (z .places) (z .size) (lim .counts) s at)) where
     ended-is : row .ended ≡ endedOf (readToken (bytes "token=") (z .places) (z .size) (lim .counts) s at)
@@ -132,28 +132,28 @@ module _ (lim : Limits) (z : Sizes) (s : Text) where
     going-start = record { tokens = []; all = none; sorted = tt; long = refl; rows-are = refl; left = rw (sub-zero n) }
 
     module _ (i at : ℕ) (rows : List ℕ) (g : Going n from i at rows) where
-      rows-in : rowsIn i rows ≡ map rowOf (g .tokens)
+      rows-in : rowsIn i rows ≡ map tokenRow (g .tokens)
       rows-in =
-          let k : i ≡ length (map rowOf (g .tokens)) = sym (g .long) ∙ sym (length-map (g .tokens) rowOf) in
-          rw (k, g .rows-are) (rows-laid (map rowOf (g .tokens)) (rows-wide (g .tokens)))
+          let k : i ≡ length (map tokenRow (g .tokens)) = sym (g .long) ∙ sym (length-map (g .tokens) tokenRow) in
+          rw (k, g .rows-are) (rows-laid (map tokenRow (g .tokens)) (rows-wide (g .tokens)))
 
       -- the rows are kept, so that one more can be inserted
       pub going-kept : i ≤ 256 → Kept i rows
       going-kept h =
-          let k : length (map rowOf (g .tokens)) ≡ i = length-map (g .tokens) rowOf ∙ g .long in
-          subst₂ Kept k (sym (g .rows-are)) (kept-laid (map rowOf (g .tokens)) (omega arith) (rows-wide (g .tokens)) (g .sorted))
+          let k : length (map tokenRow (g .tokens)) ≡ i = length-map (g .tokens) tokenRow ∙ g .long in
+          subst₂ Kept k (sym (g .rows-are)) (kept-laid (map tokenRow (g .tokens)) (omega arith) (rows-wide (g .tokens)) (g .sorted))
 
       -- one more net-token is read and inserted
       pub going-turn : (next place : ℕ) (counts row after : List ℕ) → i < n → Read at next place counts → row ≡ place ∷ counts → after ≡ laid (M.insert lexV row (rowsIn i rows))
           → Going n from (i + 1) next after
       going-turn next place counts row after h r e f =
           let t = r .token in
-          let m : M.insert lexV row (rowsIn i rows) ≡ map rowOf (M.insert eos.before t (g .tokens)) =
+          let m : M.insert lexV row (rowsIn i rows) ≡ map tokenRow (M.insert eos.before t (g .tokens)) =
           rw (e, r .row-is, rows-in) (sym (map-insert z t (g .tokens) (r .fits) (g .all))) in
           record {
             tokens = M.insert eos.before t (g .tokens);
             all = all-insert z t (g .tokens) (r .fits) (g .all);
-            sorted = rw (map-insert z t (g .tokens) (r .fits) (g .all)) (insert-sorted lexV lexOrder (rowOf t) (map rowOf (g .tokens)) (g .sorted));
+            sorted = rw (map-insert z t (g .tokens) (r .fits) (g .all)) (insert-sorted lexV lexOrder (tokenRow t) (map tokenRow (g .tokens)) (g .sorted));
             long = insert-long t (g .tokens) ∙ rw (g .long) (omega arith);
             rows-are = f ∙ ap laid m;
             left = g .left ∙ loop-turn put reads i n at (g .tokens) h t next (r .is);

@@ -10,12 +10,12 @@ use Rattle.eos.specs.Multiset as M
 use Rattle.eos.specs.Model as eos
 use Rattle.eos.proofs.Basics.{true-is}
 use Rattle.model.proofs.PaddedRows.{eq-padded}
-use Rattle.marking.specs.Held.{Sizes, rowOf}
+use Rattle.marking.specs.Held.{Sizes, tokenRow}
 use Rattle.marking.proofs.RowOrder.{Fitting, All, none, more}
 
 module _ (z : Sizes) where
   -- rows are like where their net-tokens are
-  pub like-rows : (t u : eos.NetToken) → Fitting z t → Fitting z u → eqV (rowOf t) (rowOf u) ≡ eos.like t u
+  pub like-rows : (t u : eos.NetToken) → Fitting z t → Fitting z u → eqV (tokenRow t) (tokenRow u) ≡ eos.like t u
   like-rows t u f g =
       by-test (eqb (t .place) (u .place))
       (λ h.
@@ -25,6 +25,6 @@ module _ (z : Sizes) where
       (λ h. rw (eqb·suc-suc (t .place) (u .place), h))
 
   -- a row is counted as often as its net-token
-  pub count-rows : (t : eos.NetToken) (μ : eos.Marking) → Fitting z t → All z μ → M.count eqV (rowOf t) (map rowOf μ) ≡ M.count eos.like t μ
+  pub count-rows : (t : eos.NetToken) (μ : eos.Marking) → Fitting z t → All z μ → M.count eqV (tokenRow t) (map tokenRow μ) ≡ M.count eos.like t μ
   count-rows t [] f none = refl
   count-rows t (u ∷ μ) f (more g a) = rw (like-rows t u f g, count-rows t μ f a)

@@ -23,7 +23,7 @@ use Rattle.eos.proofs.FiringLaws.{tokenOrder}
 use Rattle.marking.specs.Rows.{Row, rowsIn, laid, ascending}
 use Rattle.marking.proofs.RowLaws.{Wide, length-rows, kept-wide}
 use Rattle.marking.proofs.KeptLaws.{rows-laid, kept-laid, kept-test, test-kept}
-use Rattle.marking.specs.Held.{Sizes, rowOf, holdMarking, tokenOf, tokensOf, rightRow, heldMarking, Sized, Roomy}
+use Rattle.marking.specs.Held.{Sizes, tokenRow, holdMarking, tokenOf, tokensOf, rightRow, heldMarking, SizedMarking, Roomy}
 use Rattle.marking.specs.Reading.{Limits, limits, rightNetToken, rightBlock}
 use Rattle.marking.specs.declared.Marking.{Marking}
 use Rattle.marking.proofs.RowOrder.{Fitting, All, none, more, row-order, rows-sorted, rows-wide}
@@ -60,13 +60,13 @@ all-right lim z roomy (t ∷ μ) h =
     more (fitting (lim .counts) z t roomy (right-is lim z t (p .0))) (all-right lim z roomy μ (p .1))
 
 -- a net-token's row stands for it
-token-row : (z : Sizes) (t : eos.NetToken) → Fitting z t → tokenOf z (rowOf t) ≡ t
+token-row : (z : Sizes) (t : eos.NetToken) → Fitting z t → tokenOf z (tokenRow t) ≡ t
 token-row z t f =
     let p : suc (t .place) - 1 ≡ t .place = omega arith in
     let q : take (z .size (suc (t .place))) (padded (t .inside)) ≡ t .inside = rw (← f .size) (take-padded (t .inside) (f .room)) in
     λ i. record { place = p i; inside = q i }
 
-tokens-rows : (z : Sizes) (μ : eos.Marking) → All z μ → map (tokenOf z) (map rowOf μ) ≡ μ
+tokens-rows : (z : Sizes) (μ : eos.Marking) → All z μ → map (tokenOf z) (map tokenRow μ) ≡ μ
 tokens-rows z [] none = refl
 tokens-rows z (t ∷ μ) (more f a) = rw (token-row z t f, tokens-rows z μ a)
 
@@ -74,8 +74,8 @@ tokens-rows z (t ∷ μ) (more f a) = rw (token-row z t f, tokens-rows z μ a)
 pub tokens-hold : (z : Sizes) (μ : eos.Marking) → All z μ → tokensOf z (holdMarking μ) ≡ μ
 unfolding tokensOf holdMarking
 tokens-hold z μ a =
-    let n : length μ ≡ length (map rowOf μ) = sym (length-map μ rowOf) in
-    rw (n, rows-laid (map rowOf μ) (rows-wide μ)) (tokens-rows z μ a)
+    let n : length μ ≡ length (map tokenRow μ) = sym (length-map μ tokenRow) in
+    rw (n, rows-laid (map tokenRow μ) (rows-wide μ)) (tokens-rows z μ a)
 
 -- ---- one row
 
@@ -99,7 +99,7 @@ every-drop f (suc n) [] h = refl
 every-drop f (suc n) (v ∷ l) h = every-drop f n l (and-true (f v) _ h .1)
 
 module _ (z : Sizes) (roomy : Roomy z) where
-  row-token : (r : Row) → length r ≡ 33 → rightRow z r ≡ true → rowOf (tokenOf z r) ≡ r
+  row-token : (r : Row) → length r ≡ 33 → rightRow z r ≡ true → tokenRow (tokenOf z r) ≡ r
   unfolding rightRow
   row-token [] e h = absurd (omega arith)
   row-token (p ∷ cs) e h =
@@ -127,7 +127,7 @@ module _ (z : Sizes) (roomy : Roomy z) where
         counts = every-take range (z .size p) cs b;
       }
 
-  right-row : (range : ℕ → Bool) (t : eos.NetToken) → Right range z t → rightRow z (rowOf t) ≡ true
+  right-row : (range : ℕ → Bool) (t : eos.NetToken) → Right range z t → rightRow z (tokenRow t) ≡ true
   unfolding rightRow
   right-row range t r =
       let f = fitting range z t roomy r in
@@ -139,7 +139,7 @@ module _ (z : Sizes) (roomy : Roomy z) where
 
   -- ---- all rows
 
-  pub rows-tokens : (rs : List Row) → Wide rs → every (rightRow z) rs ≡ true → map rowOf (map (tokenOf z) rs) ≡ rs
+  pub rows-tokens : (rs : List Row) → Wide rs → every (rightRow z) rs ≡ true → map tokenRow (map (tokenOf z) rs) ≡ rs
   rows-tokens [] w h = refl
   rows-tokens (r ∷ rs) w h = let p = and-true (rightRow z r) _ h in rw (row-token r (w .0) (p .0), rows-tokens rs (w .1) (p .1))
 
@@ -152,18 +152,18 @@ module _ (z : Sizes) (roomy : Roomy z) where
       and-both (rightNetToken lim z (tokenOf z r)) _
       (is-right lim z (tokenOf z r) (row-right (lim .counts) r (w .0) (p .0) (q .0))) (tokens-right lim rs (w .1) (p .1) (q .1))
 
-  rows-right : (lim : Limits) (μ : eos.Marking) → every (rightNetToken lim z) μ ≡ true → every (rightRow z) (map rowOf μ) ≡ true
+  rows-right : (lim : Limits) (μ : eos.Marking) → every (rightNetToken lim z) μ ≡ true → every (rightRow z) (map tokenRow μ) ≡ true
   rows-right lim [] h = refl
   rows-right lim (t ∷ μ) h =
       let p = and-true (rightNetToken lim z t) _ h in
-      and-both (rightRow z (rowOf t)) _ (right-row (lim .counts) t (right-is lim z t (p .0))) (rows-right lim μ (p .1))
+      and-both (rightRow z (tokenRow t)) _ (right-row (lim .counts) t (right-is lim z t (p .0))) (rows-right lim μ (p .1))
 
-  below-back : (t : eos.NetToken) (μ : eos.Marking) → Fitting z t → All z μ → M.Below lexV (rowOf t) (map rowOf μ) → M.Below eos.before t μ
+  below-back : (t : eos.NetToken) (μ : eos.Marking) → Fitting z t → All z μ → M.Below lexV (tokenRow t) (map tokenRow μ) → M.Below eos.before t μ
   below-back t [] f none b = tt
   below-back t (u ∷ μ) f (more g a) b = (rw (row-order z t u f g) at (b .0), below-back t μ f a (b .1))
 
   -- net-tokens whose rows are in order are in order
-  sorted-back : (μ : eos.Marking) → All z μ → M.Sorted lexV (map rowOf μ) → M.Sorted eos.before μ
+  sorted-back : (μ : eos.Marking) → All z μ → M.Sorted lexV (map tokenRow μ) → M.Sorted eos.before μ
   sorted-back [] none s = tt
   sorted-back (t ∷ μ) (more f a) s = (below-back t μ f a (s .0), sorted-back μ a (s .1))
 
@@ -180,7 +180,7 @@ pub record Held (z : Sizes) (μ : eos.Marking) : Type 0 where
   pub ordered : eos.canonical μ ≡ μ
 
 module _ (z : Sizes) (roomy : Roomy z) where
-  pub held-tokens : (k : Marking) → Sized k → heldMarking z k ≡ true → Held z (tokensOf z k) × (k ≡ holdMarking (tokensOf z k))
+  pub held-tokens : (k : Marking) → SizedMarking k → heldMarking z k ≡ true → Held z (tokensOf z k) × (k ≡ holdMarking (tokensOf z k))
   unfolding heldMarking tokensOf holdMarking rightBlock
   held-tokens k sz h =
       let rs = rowsIn (k .len) (k .rows) in
@@ -193,8 +193,8 @@ module _ (z : Sizes) (roomy : Roomy z) where
       let right = tokens-right z roomy (limits 256 65535) rs wide (c .1) (rows-small (λ v. leb v 65535) (k .len) (k .rows) (sz .small)) in
       let n : length (map (tokenOf z) rs) ≡ k .len = length-map rs (tokenOf z) ∙ length-rows (k .len) (k .rows) in
       let all = all-right (limits 256 65535) z roomy (map (tokenOf z) rs) right in
-      let order : M.Sorted lexV (map rowOf (map (tokenOf z) rs)) = rw back (kept .sorted) in
-      let q : k .rows ≡ laid (map rowOf (map (tokenOf z) rs)) = rw back (kept .is) in (
+      let order : M.Sorted lexV (map tokenRow (map (tokenOf z) rs)) = rw back (kept .sorted) in
+      let q : k .rows ≡ laid (map tokenRow (map (tokenOf z) rs)) = rw back (kept .is) in (
         record { right = and-both (leb (length (map (tokenOf z) rs)) 256) _ (rw n (a .0)) right; ordered = sort-fixed eos.before tokenOrder _ (sorted-back z roomy _ all order) },
         λ i. record { len = sym n i; rows = q i },
       )
@@ -204,16 +204,16 @@ module _ (z : Sizes) (roomy : Roomy z) where
       → heldMarking z (holdMarking μ) ≡ true
   unfolding heldMarking holdMarking
   ordered-held lim μ few ordered right =
-      let n : length μ ≡ length (map rowOf μ) = sym (length-map μ rowOf) in
+      let n : length μ ≡ length (map tokenRow μ) = sym (length-map μ tokenRow) in
       let all = all-right lim z roomy μ right in
-      let sorted : M.Sorted lexV (map rowOf μ) = rw ordered at (rows-sorted z μ all) in
-      let kept = kept-laid (map rowOf μ) (omega arith) (rows-wide μ) sorted in
-      let t = test-kept (length (map rowOf μ)) (laid (map rowOf μ)) kept in
+      let sorted : M.Sorted lexV (map tokenRow μ) = rw ordered at (rows-sorted z μ all) in
+      let kept = kept-laid (map tokenRow μ) (omega arith) (rows-wide μ) sorted in
+      let t = test-kept (length (map tokenRow μ)) (laid (map tokenRow μ)) kept in
       and-both (leb (length μ) 256) _ (le-leb (length μ) 256 few)
       (rw n
-      (and-both (ascending (rowsIn (length (map rowOf μ)) (laid (map rowOf μ)))) _ (t .0)
-      (and-both (every (λ v. eqb v 0) (drop (length (map rowOf μ) * 33) (laid (map rowOf μ)))) _ (t .1)
-      (rw (rows-laid (map rowOf μ) (rows-wide μ)) (rows-right z roomy lim μ right)))))
+      (and-both (ascending (rowsIn (length (map tokenRow μ)) (laid (map tokenRow μ)))) _ (t .0)
+      (and-both (every (λ v. eqb v 0) (drop (length (map tokenRow μ) * 33) (laid (map tokenRow μ)))) _ (t .1)
+      (rw (rows-laid (map tokenRow μ) (rows-wide μ)) (rows-right z roomy lim μ right)))))
 
   pub hold-held : (μ : eos.Marking) → Held z μ → heldMarking z (holdMarking μ) ≡ true
   unfolding rightBlock
@@ -222,7 +222,7 @@ module _ (z : Sizes) (roomy : Roomy z) where
       ordered-held (limits 256 65535) μ (leb-true (length μ) 256 (p .0)) (h .ordered) (p .1)
 
   -- the held test passes exactly for what is held of such a marking
-  pub held-marking-exactly : (k : Marking) → Sized k → (heldMarking z k ≡ true) ↔ ((μ : eos.Marking) × Held z μ × (k ≡ holdMarking μ))
+  pub held-marking-exactly : (k : Marking) → SizedMarking k → (heldMarking z k ≡ true) ↔ ((μ : eos.Marking) × Held z μ × (k ≡ holdMarking μ))
   held-marking-exactly k sz = (
     λ h. let p = held-tokens k sz h in (tokensOf z k, p .0, p .1),
     λ h. rw (h .2) (hold-held (h .0) (h .1)),

@@ -12,12 +12,12 @@ use Rattle.eos.specs.Multiset.{bit, every, count, without, insert, Sorted}
 use Rattle.eos.proofs.Basics.{true-is, is-true, and-l, and-r, and-i}
 use Rattle.eos.proofs.OrderLaws.{insert-sorted, sorted-without}
 use Rattle.eos.proofs.VectorLaws.{lexOrder}
-use Rattle.marking.specs.Rows.{Row, rowsIn, flat, laid, placeFor, ascending, Kept}
+use Rattle.marking.specs.Rows.{Row, rowsIn, concat, laid, placeFor, ascending, Kept}
 use Rattle.marking.proofs.PlaceFor.{place-within, insert-at}
-use Rattle.marking.proofs.RowLaws.{Wide, wide-take, wide-drop, wide-append, kept-wide, length-rows, flat-rows, rows-flat, flat-long, laid-long}
+use Rattle.marking.proofs.RowLaws.{Wide, wide-take, wide-drop, wide-append, kept-wide, length-rows, concat-rows, rows-concat, concat-long, laid-long}
 
 pub rows-laid : (rs : List Row) → Wide rs → rowsIn (length rs) (laid rs) ≡ rs
-rows-laid rs w = rows-flat rs (replicate (8448 - length rs * 33) 0) w
+rows-laid rs w = rows-concat rs (replicate (8448 - length rs * 33) 0) w
 
 pub kept-laid : (rs : List Row) → length rs ≤ 256 → Wide rs → Sorted lexV rs → Kept (length rs) (laid rs)
 kept-laid rs h w s =
@@ -133,8 +133,8 @@ module _ (n : ℕ) (l : List ℕ) where
         sorted = ascending-sorted (rowsIn n l) e;
         is = sym (take-append-drop (n * 33) l)
             ∙ ap (λ (d : List ℕ). take (n * 33) l ++ d) (zeros-are (drop (n * 33) l) z)
-            ∙ ap (λ (d : List ℕ). d ++ replicate (length (drop (n * 33) l)) 0) (sym (flat-rows n l))
-            ∙ ap (λ (i : ℕ). flat (rowsIn n l) ++ replicate i 0) k;
+            ∙ ap (λ (d : List ℕ). d ++ replicate (length (drop (n * 33) l)) 0) (sym (concat-rows n l))
+            ∙ ap (λ (i : ℕ). concat (rowsIn n l) ++ replicate i 0) k;
       }
 
   pub test-kept : Kept n l → (ascending (rowsIn n l) ≡ true) × (every (λ v. eqb v 0) (drop (n * 33) l) ≡ true)
@@ -143,5 +143,5 @@ module _ (n : ℕ) (l : List ℕ) where
       let room : List ℕ = replicate (8448 - length rs * 33) 0 in
       let d : drop (n * 33) l ≡ room =
       ap (λ (z : List ℕ). drop (n * 33) z) (k .is)
-      ∙ drop-at (flat rs) room (n * 33) (omega (arith, flat-long rs (kept-wide n l k), length-rows n l)) in
+      ∙ drop-at (concat rs) room (n * 33) (omega (arith, concat-long rs (kept-wide n l k), length-rows n l)) in
       (sorted-ascending rs (k .sorted), ap (every (λ v. eqb v 0)) d ∙ every-zeros (8448 - length rs * 33))

@@ -5,7 +5,7 @@ use mathlib.Core.List.{List, [], _∷_, _++_, append-assoc}
 use native.Mathlib.Omega.{arith}
 use lib.ListN.{length, getD, take, drop, replicate, length-append, length-replicate, length-drop, replicate-append-replicate}
 use lib.Seq.{paste, take-paste, drop-paste, take-at, drop-at, take-all, take-take, take-append-le, drop-drop, take-add, length-take-le}
-use Rattle.marking.specs.Rows.{Row, rowsIn, flat, laid, Kept}
+use Rattle.marking.specs.Rows.{Row, rowsIn, concat, laid, Kept}
 
 -- every row has 33 numbers
 abbrev pub Wide : List Row → Type 0
@@ -47,41 +47,41 @@ wide-rows (suc n) l h = (length-take-le 33 l (omega arith), wide-rows n (drop 33
 pub kept-wide : (n : ℕ) (l : List ℕ) → Kept n l → Wide (rowsIn n l)
 kept-wide n l k = wide-rows n l (omega (arith, k .few, k .long))
 
-pub flat-rows : (n : ℕ) (l : List ℕ) → flat (rowsIn n l) ≡ take (n * 33) l
-flat-rows zero l = refl
-flat-rows (suc n) l =
+pub concat-rows : (n : ℕ) (l : List ℕ) → concat (rowsIn n l) ≡ take (n * 33) l
+concat-rows zero l = refl
+concat-rows (suc n) l =
     let k : 33 + n * 33 ≡ suc n * 33 = omega arith in
-    ap (λ (m : List ℕ). take 33 l ++ m) (flat-rows n (drop 33 l)) ∙ sym (take-add 33 (n * 33) l) ∙ ap (λ (m : ℕ). take m l) k
+    ap (λ (m : List ℕ). take 33 l ++ m) (concat-rows n (drop 33 l)) ∙ sym (take-add 33 (n * 33) l) ∙ ap (λ (m : ℕ). take m l) k
 
-pub rows-flat : (rs : List Row) (z : List ℕ) → Wide rs → rowsIn (length rs) (flat rs ++ z) ≡ rs
-rows-flat [] z w = refl
-rows-flat (r ∷ rs) z w =
-    let e : (r ++ flat rs) ++ z ≡ r ++ (flat rs ++ z) = append-assoc r (flat rs) z in
-    let f : take 33 ((r ++ flat rs) ++ z) ≡ r = ap (λ (m : List ℕ). take 33 m) e ∙ take-at r (flat rs ++ z) 33 (w .0) in
-    let g : drop 33 ((r ++ flat rs) ++ z) ≡ flat rs ++ z = ap (λ (m : List ℕ). drop 33 m) e ∙ drop-at r (flat rs ++ z) 33 (w .0) in
-    ap (λ (m : List ℕ). take 33 ((r ++ flat rs) ++ z) ∷ rowsIn (length rs) m) g
-    ∙ ap (λ (m : List ℕ). m ∷ rowsIn (length rs) (flat rs ++ z)) f
-    ∙ ap (λ (m : List Row). r ∷ m) (rows-flat rs z (w .1))
+pub rows-concat : (rs : List Row) (z : List ℕ) → Wide rs → rowsIn (length rs) (concat rs ++ z) ≡ rs
+rows-concat [] z w = refl
+rows-concat (r ∷ rs) z w =
+    let e : (r ++ concat rs) ++ z ≡ r ++ (concat rs ++ z) = append-assoc r (concat rs) z in
+    let f : take 33 ((r ++ concat rs) ++ z) ≡ r = ap (λ (m : List ℕ). take 33 m) e ∙ take-at r (concat rs ++ z) 33 (w .0) in
+    let g : drop 33 ((r ++ concat rs) ++ z) ≡ concat rs ++ z = ap (λ (m : List ℕ). drop 33 m) e ∙ drop-at r (concat rs ++ z) 33 (w .0) in
+    ap (λ (m : List ℕ). take 33 ((r ++ concat rs) ++ z) ∷ rowsIn (length rs) m) g
+    ∙ ap (λ (m : List ℕ). m ∷ rowsIn (length rs) (concat rs ++ z)) f
+    ∙ ap (λ (m : List Row). r ∷ m) (rows-concat rs z (w .1))
 
-pub flat-append : (a b : List Row) → flat (a ++ b) ≡ flat a ++ flat b
-flat-append [] b = refl
-flat-append (r ∷ a) b = ap (λ (k : List ℕ). r ++ k) (flat-append a b) ∙ sym (append-assoc r (flat a) (flat b))
+pub concat-append : (a b : List Row) → concat (a ++ b) ≡ concat a ++ concat b
+concat-append [] b = refl
+concat-append (r ∷ a) b = ap (λ (k : List ℕ). r ++ k) (concat-append a b) ∙ sym (append-assoc r (concat a) (concat b))
 
-pub flat-long : (rs : List Row) → Wide rs → length (flat rs) ≡ length rs * 33
-flat-long [] w = refl
-flat-long (r ∷ rs) w = omega (arith, length-append r (flat rs), flat-long rs (w .1), w .0)
+pub concat-long : (rs : List Row) → Wide rs → length (concat rs) ≡ length rs * 33
+concat-long [] w = refl
+concat-long (r ∷ rs) w = omega (arith, length-append r (concat rs), concat-long rs (w .1), w .0)
 
 pub laid-long : (rs : List Row) → Wide rs → length rs ≤ 256 → length (laid rs) ≡ 8448
 laid-long rs w h =
-    omega (arith, length-append (flat rs) (replicate (8448 - length rs * 33) 0), flat-long rs w, length-replicate {A = ℕ} (8448 - length rs * 33) 0)
+    omega (arith, length-append (concat rs) (replicate (8448 - length rs * 33) 0), concat-long rs w, length-replicate {A = ℕ} (8448 - length rs * 33) 0)
 
 -- rows laid out, in two parts
-laid-cut : (a b : List Row) (k : ℕ) → 8448 - (length a + length b) * 33 ≡ k → laid (a ++ b) ≡ flat a ++ (flat b ++ replicate k 0)
+laid-cut : (a b : List Row) (k : ℕ) → 8448 - (length a + length b) * 33 ≡ k → laid (a ++ b) ≡ concat a ++ (concat b ++ replicate k 0)
 laid-cut a b k e =
-    ap (λ (i : ℕ). flat (a ++ b) ++ replicate (8448 - i * 33) 0) (length-append a b)
-    ∙ ap (λ (i : ℕ). flat (a ++ b) ++ replicate i 0) e
-    ∙ ap (λ (z : List ℕ). z ++ replicate k 0) (flat-append a b)
-    ∙ append-assoc (flat a) (flat b) (replicate k 0)
+    ap (λ (i : ℕ). concat (a ++ b) ++ replicate (8448 - i * 33) 0) (length-append a b)
+    ∙ ap (λ (i : ℕ). concat (a ++ b) ++ replicate i 0) e
+    ∙ ap (λ (z : List ℕ). z ++ replicate k 0) (concat-append a b)
+    ∙ append-assoc (concat a) (concat b) (replicate k 0)
 
 -- a row put in behind x: y moves up, over z
 opened : (x y z w row : List ℕ) (at m : ℕ) → length x ≡ at → length y ≡ m → length z ≡ 33 → length row ≡ 33
@@ -138,26 +138,26 @@ module _ (a b : List Row) (row : Row) (p : Wide a) (q : Wide b) (r : length row 
   rest : ℕ
   rest = 8448 - (length a + suc (length b)) * 33
 
-  without-row : laid (a ++ b) ≡ flat a ++ (flat b ++ (replicate 33 0 ++ replicate rest 0))
+  without-row : laid (a ++ b) ≡ concat a ++ (concat b ++ (replicate 33 0 ++ replicate rest 0))
   unfolding rest
   without-row =
       let k : 8448 - (length a + length b) * 33 ≡ 33 + rest = omega arith in
-      laid-cut a b (33 + rest) k ∙ ap (λ (z : List ℕ). flat a ++ (flat b ++ z)) (sym (replicate-append-replicate 33 rest 0))
+      laid-cut a b (33 + rest) k ∙ ap (λ (z : List ℕ). concat a ++ (concat b ++ z)) (sym (replicate-append-replicate 33 rest 0))
 
-  with-row : laid (a ++ (row ∷ b)) ≡ flat a ++ (row ++ (flat b ++ replicate rest 0))
+  with-row : laid (a ++ (row ∷ b)) ≡ concat a ++ (row ++ (concat b ++ replicate rest 0))
   unfolding rest
-  with-row = laid-cut a (row ∷ b) rest refl ∙ ap (λ (z : List ℕ). flat a ++ z) (append-assoc row (flat b) (replicate rest 0))
+  with-row = laid-cut a (row ∷ b) rest refl ∙ ap (λ (z : List ℕ). concat a ++ z) (append-assoc row (concat b) (replicate rest 0))
 
   -- a row put in between a and b
   pub opened-laid : paste (paste (laid (a ++ b)) (at + 33) (drop at (laid (a ++ b))) m) at row 33 ≡ laid (a ++ (row ∷ b))
   opened-laid =
       ap (λ (z : List ℕ). paste (paste z (at + 33) (drop at z) m) at row 33) without-row
-      ∙ opened (flat a) (flat b) (replicate 33 0) (replicate rest 0) row at m (omega (arith, flat-long a p)) (omega (arith, flat-long b q)) refl r
+      ∙ opened (concat a) (concat b) (replicate 33 0) (replicate rest 0) row at m (omega (arith, concat-long a p)) (omega (arith, concat-long b q)) refl r
       ∙ sym with-row
 
   -- the row between a and b taken out
   pub closed-laid : paste (paste (laid (a ++ (row ∷ b))) at (drop (at + 33) (laid (a ++ (row ∷ b)))) m) (at + m) (replicate 33 0) 33 ≡ laid (a ++ b)
   closed-laid =
       ap (λ (z : List ℕ). paste (paste z at (drop (at + 33) z) m) (at + m) (replicate 33 0) 33) with-row
-      ∙ closed (flat a) row (flat b) (replicate rest 0) (replicate 33 0) at m (omega (arith, flat-long a p)) r (omega (arith, flat-long b q)) refl
+      ∙ closed (concat a) row (concat b) (replicate rest 0) (replicate 33 0) at m (omega (arith, concat-long a p)) r (omega (arith, concat-long b q)) refl
       ∙ sym without-row

@@ -18,7 +18,7 @@ use Rattle.eos.proofs.OrderLaws.{sort-sorted}
 use Rattle.eos.proofs.VectorLaws.{lexOrder}
 use Rattle.marking.specs.Rows.{Row}
 use Rattle.marking.proofs.RowLaws.{Wide}
-use Rattle.marking.specs.Held.{Sizes, rowOf}
+use Rattle.marking.specs.Held.{Sizes, tokenRow}
 
 -- a net-token with as many counts as its place asks for, and no more than a row has room for
 pub record Fitting (z : Sizes) (t : eos.NetToken) : Type 0 where
@@ -46,7 +46,7 @@ lex-padded x y e h =
     rw (padded-is x h, padded-is y k, e) (lex-behind x y (replicate (32 - length y) 0) e)
 
 module _ (z : Sizes) where
-  pub row-order : (t u : eos.NetToken) → Fitting z t → Fitting z u → lexV (rowOf t) (rowOf u) ≡ eos.before t u
+  pub row-order : (t u : eos.NetToken) → Fitting z t → Fitting z u → lexV (tokenRow t) (tokenRow u) ≡ eos.before t u
   row-order t u f g =
       by-test (eqb (t .place) (u .place))
       (λ h.
@@ -64,29 +64,29 @@ module _ (z : Sizes) where
       go false r = more g r
 
   -- a net-token inserted is its row inserted
-  pub map-insert : (t : eos.NetToken) (μ : eos.Marking) → Fitting z t → All z μ → map rowOf (M.insert eos.before t μ) ≡ M.insert lexV (rowOf t) (map rowOf μ)
+  pub map-insert : (t : eos.NetToken) (μ : eos.Marking) → Fitting z t → All z μ → map tokenRow (M.insert eos.before t μ) ≡ M.insert lexV (tokenRow t) (map tokenRow μ)
   map-insert t [] f a = refl
   map-insert t (u ∷ μ) f (more g a) = go (eos.before t u) (row-order t u f g) (map-insert t μ f a)
     where
-      go : (b : Bool) → lexV (rowOf t) (rowOf u) ≡ b → map rowOf (M.insert eos.before t μ) ≡ M.insert lexV (rowOf t) (map rowOf μ)
-          → map rowOf (cond b (t ∷ u ∷ μ) (u ∷ M.insert eos.before t μ)) ≡ M.insert lexV (rowOf t) (rowOf u ∷ map rowOf μ)
+      go : (b : Bool) → lexV (tokenRow t) (tokenRow u) ≡ b → map tokenRow (M.insert eos.before t μ) ≡ M.insert lexV (tokenRow t) (map tokenRow μ)
+          → map tokenRow (cond b (t ∷ u ∷ μ) (u ∷ M.insert eos.before t μ)) ≡ M.insert lexV (tokenRow t) (tokenRow u ∷ map tokenRow μ)
       go true e r = rw e
-      go false e r = rw e (ap (λ (l : List Row). rowOf u ∷ l) r)
+      go false e r = rw e (ap (λ (l : List Row). tokenRow u ∷ l) r)
 
   pub all-canonical : (μ : eos.Marking) → All z μ → All z (eos.canonical μ)
   all-canonical [] a = none
   all-canonical (t ∷ μ) (more f a) = all-insert t (eos.canonical μ) f (all-canonical μ a)
 
   -- the rows of the canonical list are the rows in order
-  pub map-canonical : (μ : eos.Marking) → All z μ → map rowOf (eos.canonical μ) ≡ M.sort lexV (map rowOf μ)
+  pub map-canonical : (μ : eos.Marking) → All z μ → map tokenRow (eos.canonical μ) ≡ M.sort lexV (map tokenRow μ)
   map-canonical [] a = refl
   map-canonical (t ∷ μ) (more f a) =
-      map-insert t (eos.canonical μ) f (all-canonical μ a) ∙ ap (M.insert lexV (rowOf t)) (map-canonical μ a)
+      map-insert t (eos.canonical μ) f (all-canonical μ a) ∙ ap (M.insert lexV (tokenRow t)) (map-canonical μ a)
 
-  pub rows-sorted : (μ : eos.Marking) → All z μ → M.Sorted lexV (map rowOf (eos.canonical μ))
-  rows-sorted μ a = rw (map-canonical μ a) (sort-sorted lexV lexOrder (map rowOf μ))
+  pub rows-sorted : (μ : eos.Marking) → All z μ → M.Sorted lexV (map tokenRow (eos.canonical μ))
+  rows-sorted μ a = rw (map-canonical μ a) (sort-sorted lexV lexOrder (map tokenRow μ))
 
 -- every row has 33 numbers
-pub rows-wide : (μ : eos.Marking) → Wide (map rowOf μ)
+pub rows-wide : (μ : eos.Marking) → Wide (map tokenRow μ)
 rows-wide [] = tt
 rows-wide (t ∷ μ) = (ap suc (length-padded (t .inside)), rows-wide μ)

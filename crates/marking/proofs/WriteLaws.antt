@@ -23,7 +23,7 @@ use Rattle.text.proofs.LaidLaws.{Laid, number-line-length}
 use Rattle.eos.specs.Model as eos
 use Rattle.marking.specs.Rows.{Row, rowsIn, ascending}
 use Rattle.marking.proofs.RowLaws.{length-rows, row-at}
-use Rattle.marking.specs.Held.{Sizes, sizesAt, Roomy, holdMarking, tokenOf, tokensOf, rightRow, heldMarking, Sized}
+use Rattle.marking.specs.Held.{Sizes, sizesAt, Roomy, holdMarking, tokenOf, tokensOf, rightRow, heldMarking, SizedMarking}
 use Rattle.marking.specs.Reading.{limits, readBlock, rightNetToken, rightBlock}
 use Rattle.marking.specs.Printed.{netTokenText, blockText, markingText, rowText}
 use Rattle.marking.specs.Answers.{blockOf}
@@ -63,7 +63,7 @@ module _ (z : Sizes) (roomy : Roomy z) (places : z .places ≤ 65535) where
         lines,
       )
 
-  pub held-length : (k : Marking) → Sized k → heldMarking z k ≡ true → length (markingText (tokensOf z k)) ≤ 60000
+  pub held-length : (k : Marking) → SizedMarking k → heldMarking z k ≡ true → length (markingText (tokensOf z k)) ≤ 60000
   held-length k sz h = marking-length (tokensOf z k) (held-tokens z roomy k sz h .0 .right)
 
 -- ---- the text of the rows that hold it
@@ -146,7 +146,7 @@ written-reads-back z μ h =
     let s = markingText μ in
     block-exactly (limits 256 65535) z s (bytes "start=") .forth 0 μ (stands-alone s) (h .right) ∙ rw (zero-add (length s))
 
-module _ (z : Sizes) (roomy : Roomy z) (k : Marking) (sz : Sized k) (h : heldMarking z k ≡ true) where
+module _ (z : Sizes) (roomy : Roomy z) (k : Marking) (sz : SizedMarking k) (h : heldMarking z k ≡ true) where
   -- a held marking is what is held of its net-tokens
   pub held-again : holdMarking (eos.canonical (tokensOf z k)) ≡ k
   held-again = let p = held-tokens z roomy k sz h in rw (p .0 .ordered) (sym (p .1))

@@ -29,11 +29,11 @@ abbrev pub Roomy : Sizes → Type 0
 Roomy z = (p : ℕ) → z .size p ≤ 32
 
 -- a net-token's row: the number of its place and its counts
-abbrev pub rowOf : eos.NetToken → Row
-rowOf t = suc (t .place) ∷ padded (t .inside)
+abbrev pub tokenRow : eos.NetToken → Row
+tokenRow t = suc (t .place) ∷ padded (t .inside)
 
 unfoldable pub holdMarking : eos.Marking → Marking
-holdMarking μ = record { len = length μ; rows = laid (map rowOf μ) }
+holdMarking μ = record { len = length μ; rows = laid (map tokenRow μ) }
 
 -- no net-token
 abbrev pub noMarking : Marking
@@ -57,6 +57,6 @@ heldMarking z k =
     && (ascending (rowsIn (k .len) (k .rows)) && (every (λ v. eqb v 0) (drop (k .len * 33) (k .rows)) && every (rightRow z) (rowsIn (k .len) (k .rows))))
 
 -- what every held marking is in code: an array of 8,448 numbers of 16 bits
-pub record Sized (k : Marking) : Type 0 where
+pub record SizedMarking (k : Marking) : Type 0 where
   pub long : length (k .rows) ≡ 8448
   pub small : every (λ v. leb v 65535) (k .rows) ≡ true

@@ -17,13 +17,13 @@ rowsIn zero l = []
 rowsIn (suc n) l = take 33 l ∷ rowsIn n (drop 33 l)
 
 -- rows one after the other
-abbrev pub flat : List Row → List ℕ
-flat [] = []
-flat (r ∷ rs) = r ++ flat rs
+abbrev pub concat : List Row → List ℕ
+concat [] = []
+concat (r ∷ rs) = r ++ concat rs
 
 -- rows laid out in the room for 256 of them: unused room is 0
 abbrev pub laid : List Row → List ℕ
-laid rs = flat rs ++ replicate (8448 - length rs * 33) 0
+laid rs = concat rs ++ replicate (8448 - length rs * 33) 0
 
 -- how many rows stand before the place of a row
 abbrev pub placeFor : Row → List Row → ℕ

@@ -18,7 +18,7 @@ use text_lines::number_line;
 use text_tokens::token_line;
 
 // A net-token's row: the number of its place, and its counts.
-pub fn row_of(t: NetToken) -> [u16; 33]
+pub fn token_row(t: NetToken) -> [u16; 33]
     ensures { λ r. ⌜ r ≡ t .place ∷ t .counts ⌝ }
 {
     let mut row = [0u16; 33];
@@ -51,7 +51,7 @@ fn tokens_at(s: &[u8], from: usize, places: u16, sizes: [u8; 32], n: usize) -> B
             place: t.place,
             counts,
         };
-        insert(&mut rows, i, row_of(token));
+        insert(&mut rows, i, token_row(token));
         at = next;
         i += 1;
     }

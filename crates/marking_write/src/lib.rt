@@ -70,7 +70,7 @@ fn rows_length(rows: &[u16], n: usize, sizes: [u8; 32]) -> usize
 }
 
 // Lays the line of the row that stands at `from`. The answer is the position after it.
-fn put_row(out: &mut [u8], at: usize, rows: &[u16], from: usize, sizes: [u8; 32]) -> usize
+fn put_token(out: &mut [u8], at: usize, rows: &[u16], from: usize, sizes: [u8; 32]) -> usize
     requires { ⌜ (from + 33 ≤ length (now rows)) × (1 ≤ getD (now rows) from 0) × Roomy (sizesAt 32 sizes)
         × (at + length (rowText sizes (take 33 (drop from (now rows)))) ≤ length (now out)) ⌝ }
     ensures { λ r. ⌜ (r ≡ at + length (rowText sizes (take 33 (drop from (now (rows .entry))))))
@@ -86,7 +86,7 @@ fn put_row(out: &mut [u8], at: usize, rows: &[u16], from: usize, sizes: [u8; 32]
 }
 
 // Lays the lines of the first n rows.
-fn put_rows(out: &mut [u8], at: usize, rows: &[u16], n: usize, sizes: [u8; 32])
+fn put_tokens(out: &mut [u8], at: usize, rows: &[u16], n: usize, sizes: [u8; 32])
     requires { ⌜ (n * 33 ≤ length (now rows)) × ((i : ℕ) → i < n → 1 ≤ getD (now rows) (i * 33) 0) × Roomy (sizesAt 32 sizes)
         × (at + length (texts (rowText sizes) (rowsIn n (now rows))) ≤ length (now out)) ⌝ }
     ensures { λ _. ⌜ now (out .exit) ≡ sets (now (out .entry)) at (texts (rowText sizes) (rowsIn n (now (rows .entry)))) ⌝ }
@@ -94,7 +94,7 @@ fn put_rows(out: &mut [u8], at: usize, rows: &[u16], n: usize, sizes: [u8; 32])
     let mut next = at;
     let mut i = 0;
     while i < n {
-        next = put_row(out, next, rows, i * 33, sizes);
+        next = put_token(out, next, rows, i * 33, sizes);
         i += 1;
     }
 }
@@ -120,6 +120,6 @@ pub fn write(
         return Wrote::Short { needed: end };
     }
     let next = put_number_line(out, at, key, n as u64);
-    put_rows(out, next, &rows, n, sizes);
+    put_tokens(out, next, &rows, n, sizes);
     Wrote::Whole { end }
 }

@@ -14,7 +14,7 @@ use Rattle.text.specs.Answers.{padded}
 use Rattle.text.proofs.Basics.{and-true}
 use Rattle.text.proofs.TestLaws.{within-is, eqb-and}
 use Rattle.eos.specs.Model as eos
-use Rattle.model.specs.Held.{preOf, postOf, row, tabled, holdNet, holdEvent, noNet, noEvent, holdNets, holdEvents, holdModel, SizedNet, Sized, rowIn, listed, sidesIn, netOf, syncIn, eventOf, modelOf}
+use Rattle.model.specs.Held.{preOf, postOf, row, tabled, holdNet, holdEvent, noNet, noEvent, holdNets, holdEvents, holdModel, SizedNet, SizedModel, rowIn, listed, sidesIn, netOf, syncIn, eventOf, modelOf}
 use Rattle.model.specs.Test.{empty, emptyPast, usedOf, heldNet, frameIn, heldEvent, emptyEvent}
 use Rattle.model.specs.declared.ObjectNet.{ObjectNet}
 use Rattle.model.specs.declared.Event.{Event}
@@ -60,7 +60,7 @@ event-none e long h =
     let s = empty-zeros (e .sync) 256 long (b .1) in
     λ i. record { kind = a .0 i; index = b .0 i; sync = s i }
 
-module _ (m : Model) (sized : Sized m) (held : Held m) where
+module _ (m : Model) (sized : SizedModel m) (held : Held m) where
   nets : m .nets ≤ 8
   nets = most-nets m held
 

@@ -4,7 +4,7 @@ use mathlib.Core.Bool.{true}
 use mathlib.Core.Logic.{_↔_}
 use Rattle.eos.specs.Model as eos
 use Rattle.model.specs.Rules.{rightModel}
-use Rattle.model.specs.Held.{Sized, holdModel, modelOf}
+use Rattle.model.specs.Held.{SizedModel, holdModel, modelOf}
 use Rattle.model.specs.Test.{heldModel}
 use Rattle.model.specs.declared.Model.{Model}
 use Rattle.model.proofs.HeldTests.{held-is}
@@ -13,7 +13,7 @@ use Rattle.model.proofs.HeldRight.{held-right}
 use Rattle.model.proofs.HoldHeld.{hold-held}
 
 -- the test is exact
-pub held-exactly : (m : Model) → Sized m → (heldModel m ≡ true) ↔ ((d : eos.Model) × (rightModel d ≡ true) × (m ≡ holdModel d))
+pub held-exactly : (m : Model) → SizedModel m → (heldModel m ≡ true) ↔ ((d : eos.Model) × (rightModel d ≡ true) × (m ≡ holdModel d))
 held-exactly m sized = (
   λ h. let held = held-is m h in (modelOf m, held-right m sized held, held-again m sized held),
   λ (d, h, e). rw e (hold-held d h),

@@ -13,7 +13,7 @@ use Rattle.text.specs.Lines.{within, every}
 use Rattle.text.proofs.TestLaws.{and-both, and-eqb, within-is, every-of, everyAt-of}
 use Rattle.eos.specs.Model as eos
 use Rattle.model.specs.Rules.{nth, byte, listOf, frameOf, monotonous, rightSides, keepsTypes, rightMove, ownNet, takesPart, rightNet, rightSync, rightEvent, rightModel}
-use Rattle.model.specs.Held.{noNet, noEvent, Bytes, SizedNet, Sized, rowIn, listed, sidesIn, netOf, actOf, syncIn, eventOf, modelOf}
+use Rattle.model.specs.Held.{noNet, noEvent, Bytes, SizedNet, SizedModel, rowIn, listed, sidesIn, netOf, actOf, syncIn, eventOf, modelOf}
 use Rattle.model.specs.Test.{frameIn, heldAct, ownIn}
 use Rattle.model.specs.declared.ObjectNet.{ObjectNet}
 use Rattle.model.specs.declared.Event.{Event}
@@ -58,7 +58,7 @@ net-right n s size few =
           rw (listed-at g (n .transitions) i eos.noTransition q) (sides-right (n .places) (n .pre) (n .post) (s .pre) (s .post) small i (omega arith)));
     })
 
-module _ (m : Model) (sized : Sized m) (held : Held m) where
+module _ (m : Model) (sized : SizedModel m) (held : Held m) where
   places : m .places ≤ 32
   places = most-places m held
 
@@ -151,5 +151,5 @@ module _ (m : Model) (sized : Sized m) (held : Held m) where
       }
 
 -- the model that a held model stands for is right
-pub held-right : (m : Model) → Sized m → Held m → rightModel (modelOf m) ≡ true
+pub held-right : (m : Model) → SizedModel m → Held m → rightModel (modelOf m) ≡ true
 held-right m sized held = is-right (modelOf m) (right m sized held)

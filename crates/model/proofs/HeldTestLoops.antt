@@ -16,7 +16,7 @@ use Rattle.text.proofs.Basics as T
 use Rattle.text.proofs.Basics.{by-test}
 use Rattle.model.specs.Rules.{nth, Frame, takesPart}
 use Rattle.model.specs.Held.{noNet}
-use Rattle.model.specs.Test.{empty, emptyPast, usedOf, heldTypes, heldMoves, heldNets, heldEvents, frameIn, heldAct, ownIn, heldModel, countsAre, emptyAt, usedIn, sizesAre, framed, partAt, eventAt}
+use Rattle.model.specs.Test.{empty, emptyPast, usedOf, heldEvents, frameIn, heldAct, ownIn, countsAre, emptyAt, usedIn, sizesAre, framed, partAt, eventAt}
 use Rattle.model.specs.declared.Model.{Model}
 
 -- ---- a test that is made first
@@ -197,12 +197,6 @@ few-counts nets places moves listed e =
       leb-true places 32 (T.and-true (leb 1 places) (leb places 32) (b .0) .1),
       leb-true moves 32 (T.and-true (leb 0 moves) (leb moves 32) (c .0) .1),
     )
-
--- the counts are tested first
-pub counts-first : (m : Model)
-    → (countsAre (m .nets) (m .places) (m .moves) (m .listed) && (heldTypes m && (heldMoves m && (heldNets m && heldEvents m)))) ≡ heldModel m
-unfolding heldModel
-counts-first m = simp and-assoc
 
 module _ (m : Model) (steps : List ℕ) (h : (n : ℕ) → nth steps n ≡ getD (m .objects) n noNet .transitions) where
   -- the frame of a held model, from its numbers

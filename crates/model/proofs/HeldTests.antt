@@ -6,15 +6,15 @@ use mathlib.Core.Bool.{Bool, true, cond, _&&_, false≢true, not, Bool·beq}
 use native.Mathlib.Omega.{arith}
 use lib.Dec.{leb, ltb, eqb}
 use borrow.Author.Tests.{le-leb}
-use lib.ListN.{length, getD}
+use lib.ListN.{length}
 use Rattle.text.specs.Lines.{within}
 use Rattle.text.proofs.Basics.{and-true}
 use Rattle.text.proofs.TestLaws.{within-is}
 use Rattle.eos.specs.Model as eos
 use Rattle.text.specs.Answers.{padded}
-use Rattle.model.specs.Rules.{nth, Frame, monotonous, ownNet, takesPart, rightAct}
-use Rattle.model.specs.Held.{kindOf, indexOf, noNet, noEvent, rowIn, actOf}
-use Rattle.model.specs.Test.{empty, emptyPast, usedOf, heldTypes, heldMoves, heldNet, heldNets, frameIn, heldAct, ownIn, heldEvent, emptyEvent, heldEvents, heldModel}
+use Rattle.model.specs.Rules.{Frame, ownNet, takesPart, rightAct}
+use Rattle.model.specs.Held.{kindOf, indexOf, rowIn, actOf}
+use Rattle.model.specs.Test.{empty, emptyPast, usedOf, heldTypes, heldMoves, heldNets, frameIn, heldAct, ownIn, heldEvent, heldEvents, heldModel, countsAre, typeAt, sizesAre, netAt, eventAt, moveAt}
 use Rattle.model.specs.declared.ObjectNet.{ObjectNet}
 use Rattle.model.specs.declared.Event.{Event}
 use Rattle.model.specs.declared.Model.{Model}
@@ -36,14 +36,14 @@ pub record Held (m : Model) : Type 0 where
 pub held-is : (m : Model) → heldModel m ≡ true → Held m
 unfolding heldModel
 held-is m h =
-    let a = and-true (within 0 8 (m .nets)) _ h in
+    let t = and-true (countsAre (m .nets) (m .places) (m .moves) (m .listed)) _ h in
+    let a = and-true (within 0 8 (m .nets)) _ (t .0) in
     let b = and-true (within 1 32 (m .places)) _ (a .1) in
-    let c = and-true (within 0 32 (m .moves)) _ (b .1) in
-    let d = and-true (within 0 64 (m .listed)) _ (c .1) in
-    let e = and-true (heldTypes m) _ (d .1) in
+    let c = and-true (within 0 32 (m .moves)) (within 0 64 (m .listed)) (b .1) in
+    let e = and-true (heldTypes m) _ (t .1) in
     let f = and-true (heldMoves m) _ (e .1) in
     let g = and-true (heldNets m) (heldEvents m) (f .1) in
-    record { nets-few = a .0; places-few = b .0; moves-few = c .0; events-few = d .0; types = e .0; moves = f .0; nets = g .0; events = g .1 }
+    record { nets-few = a .0; places-few = b .0; moves-few = c .0; events-few = c .1; types = e .0; moves = f .0; nets = g .0; events = g .1 }
 
 -- and from its parts
 pub is-held : (m : Model) → Held m → heldModel m ≡ true
@@ -71,7 +71,7 @@ module _ (m : Model) (held : Held m) where
 
 -- the test of a place's type
 abbrev pub typeTest : Model → ℕ → Bool
-typeTest m p = cond (ltb p (m .places)) (leb (nth (m .types) p) (m .nets)) (eqb (nth (m .types) p) 0)
+typeTest m = typeAt (m .nets) (m .places) (m .types)
 
 -- it holds at each place
 pub types-at : (m : Model) → heldTypes m ≡ true → (p : ℕ) → p < 32 → typeTest m p ≡ true
@@ -85,11 +85,11 @@ types-of m h = below-of 32 (typeTest m) h
 
 -- the counts of a net, used or not
 abbrev pub countTest : ℕ → ℕ → ObjectNet → Bool
-countTest nets k n = cond (ltb k nets) (within 1 32 (n .places) && within 0 32 (n .transitions)) (eqb (n .places) 0 && eqb (n .transitions) 0)
+countTest nets k n = sizesAre nets k (n .places) (n .transitions)
 
 -- the test of a net
 abbrev pub netTest : Model → ℕ → Bool
-netTest m k = countTest (m .nets) k (getD (m .objects) k noNet) && heldNet (getD (m .objects) k noNet)
+netTest m = netAt (m .nets) (m .objects)
 
 -- it holds at each net
 pub nets-at : (m : Model) → heldNets m ≡ true → (k : ℕ) → k < 8 → netTest m k ≡ true
@@ -103,7 +103,7 @@ nets-of m h = below-of 8 (netTest m) h
 
 -- the test of an event
 abbrev pub eventTest : Model → ℕ → Bool
-eventTest m k = cond (ltb k (m .listed)) (heldEvent (frameIn m) (getD (m .events) k noEvent)) (emptyEvent (getD (m .events) k noEvent))
+eventTest m = eventAt (frameIn m) (m .listed) (m .events)
 
 -- it holds at each event
 pub events-at : (m : Model) → heldEvents m ≡ true → (k : ℕ) → k < 64 → eventTest m k ≡ true
@@ -117,7 +117,7 @@ events-of m h = below-of 64 (eventTest m) h
 
 -- the typing of a move
 abbrev pub moveTest : Model → ℕ → Bool
-moveTest m i = monotonous (m .nets) (m .places) (nth (m .types)) (nth (rowIn 32 (m .pre) i)) (nth (rowIn 32 (m .post) i))
+moveTest m = moveAt (m .nets) (m .places) (m .types) (m .pre) (m .post)
 
 -- the parts of the test of moves
 pub record Moves (m : Model) : Type 0 where

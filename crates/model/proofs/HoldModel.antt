@@ -9,7 +9,7 @@ use Rattle.text.specs.Lines.{every}
 use Rattle.text.proofs.TestLaws.{and-eqb, within-is, every-at}
 use Rattle.eos.specs.Model as eos
 use Rattle.model.specs.Rules.{byte, listOf, frameOf, rightSides, rightNet, rightModel}
-use Rattle.model.specs.Held.{preOf, postOf, row, tabled, holdNet, kindOf, indexOf, holdEvent, noNet, noEvent, holdNets, holdEvents, holdModel, Bytes, SizedNet, Sized, listed, sidesIn, netOf, actOf, syncIn, eventOf, modelOf}
+use Rattle.model.specs.Held.{preOf, postOf, row, tabled, holdNet, kindOf, indexOf, holdEvent, noNet, noEvent, holdNets, holdEvents, holdModel, Bytes, SizedNet, SizedModel, listed, sidesIn, netOf, actOf, syncIn, eventOf, modelOf}
 use Rattle.model.specs.declared.ObjectNet.{ObjectNet}
 use Rattle.model.specs.declared.Event.{Event}
 use Rattle.model.specs.declared.Model.{Model}
@@ -155,7 +155,7 @@ module _ (d : eos.Model) (right : Right d) where
       let v = getD (e .sync) i [] in
       (frameOf d .steps i, few-steps d right i (omega (arith, r .long)), and-eqb (length v) (frameOf d .steps i) (every byte v) (s .long) (s .bytes))
 
-  sized : Sized (holdModel d)
+  sized : SizedModel (holdModel d)
   unfolding holdModel
   sized =
       let n = length (d .types) in
@@ -180,5 +180,5 @@ module _ (d : eos.Model) (right : Right d) where
       }
 
 -- what a right model is held as has the room and the bytes of the structs
-pub hold-sized : (d : eos.Model) → rightModel d ≡ true → Sized (holdModel d)
+pub hold-sized : (d : eos.Model) → rightModel d ≡ true → SizedModel (holdModel d)
 hold-sized d h = sized d (right-is d h)

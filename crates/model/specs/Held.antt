@@ -104,7 +104,7 @@ pub record SizedNet (n : ObjectNet) : Type 0 where
   pub pre : Bytes 1024 (n .pre)
   pub post : Bytes 1024 (n .post)
 
-pub record Sized (m : Model) : Type 0 where
+pub record SizedModel (m : Model) : Type 0 where
   pub types : length (m .types) ≡ 32
   pub pre : Bytes 1024 (m .pre)
   pub post : Bytes 1024 (m .post)

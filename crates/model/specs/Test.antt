@@ -127,5 +127,4 @@ heldEvents m = allBelow 64 (eventAt (frameIn m) (m .listed) (m .events))
 
 unfoldable pub heldModel : Model → Bool
 heldModel m =
-    within 0 8 (m .nets) && (within 1 32 (m .places) && (within 0 32 (m .moves) && (within 0 64 (m .listed)
-    && (heldTypes m && (heldMoves m && (heldNets m && heldEvents m))))))
+    countsAre (m .nets) (m .places) (m .moves) (m .listed) && (heldTypes m && (heldMoves m && (heldNets m && heldEvents m)))

@@ -11,7 +11,7 @@ use model::Event;
 use model::Model;
 use model_nets::narrow;
 use model_rules::takes_part;
-use model_tables::bytes::put_row;
+use model_tables::bytes::put_bytes;
 use model_text::Acting;
 use model_text::Counts;
 use model_text::EventLines;
@@ -127,7 +127,7 @@ fn syncs_at(s: &[u8], from: usize, f: Frame, own: u8) -> Syncs
             };
         };
         let counts = r.counts;
-        put_row(&mut sync, i * 32, counts);
+        put_bytes(&mut sync, i * 32, counts);
         at = next;
         i += 1;
     }

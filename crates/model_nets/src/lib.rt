@@ -10,7 +10,7 @@ ghost use Rattle.model.specs.Held.{noNet};
 use model::Model;
 use model::ObjectNet;
 use model_rules::monotonous;
-use model_tables::bytes::put_row;
+use model_tables::bytes::put_bytes;
 use model_text::NetLines;
 use model_text::Nets;
 use model_text::Sides;
@@ -105,8 +105,8 @@ pub fn tables_at(s: &[u8], from: usize, size: usize, nets: u8, types: [u8; 32], 
         };
         let a = r.pre;
         let b = r.post;
-        put_row(&mut pre, i * 32, a);
-        put_row(&mut post, i * 32, b);
+        put_bytes(&mut pre, i * 32, a);
+        put_bytes(&mut post, i * 32, b);
         at = next;
         i += 1;
     }

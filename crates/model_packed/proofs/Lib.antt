@@ -1,3 +1,3 @@
 pub mod ModelSized
 pub mod PartsLaid
-pub mod FlatLaws
+pub mod PackedLaws

@@ -11,7 +11,7 @@ use denote.Shadow.{shadow}
 use denote.Plain.{UInt}
 use denote.Array.{Array, each}
 use denote.Struct.Field.{u8-field}
-use Rattle.model.specs.Held.{Bytes, SizedNet, Sized, noNet, noEvent}
+use Rattle.model.specs.Held.{Bytes, SizedNet, SizedModel, noNet, noEvent}
 use Rattle.model.specs.declared.ObjectNet.{ObjectNet}
 use Rattle.model.specs.declared.Event.{Event}
 use Rattle.model.specs.declared.Model.{Model}
@@ -49,7 +49,7 @@ each-event (e ∷ l) [] s i h = absurd s
 each-event (e ∷ l) (u ∷ us) s zero h = bytes-in 256 (e .sync) _ (s .0 .1 .1 .1 .1 .0)
 each-event (e ∷ l) (u ∷ us) s (suc i) h = each-event l us (s .1) i (omega arith)
 
-pub model-sized : (m : Model) (vs : List Val) → Is model.the-row m vs → Sized m
+pub model-sized : (m : Model) (vs : List Val) → Is model.the-row m vs → SizedModel m
 model-sized m vs p =
     let a = p .1 .1 .1 .1 .1 .1 in
     let nets = objects-room m vs p in

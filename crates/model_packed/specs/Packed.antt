@@ -1,4 +1,4 @@
--- A held model laid flat, in one list of numbers, and the model that is read there.
+-- A held model packed, in one list of numbers, and the model that is read there.
 use Prim.Native.Nat.{ℕ, _+_, _*_}
 use mathlib.Core.List.{List, [], _∷_, _++_}
 use Prim.Native.Nat.{min}
@@ -12,25 +12,25 @@ use Rattle.model.specs.declared.Model.{Model}
 -- ---- laid
 
 -- a number as a byte: 255 for all that are greater
-abbrev pub byte : ℕ → ℕ
-byte n = min n 255
+abbrev pub cappedByte : ℕ → ℕ
+cappedByte n = min n 255
 
 abbrev pub netBytes : ObjectNet → List ℕ
-netBytes n = byte (n .places) ∷ byte (n .transitions) ∷ (n .pre ++ n .post)
+netBytes n = cappedByte (n .places) ∷ cappedByte (n .transitions) ∷ (n .pre ++ n .post)
 
 abbrev pub eventBytes : Event → List ℕ
 eventBytes e = e .kind ∷ e .index ∷ e .sync
 
 -- one after the other
-abbrev pub joined : {A : Type 0} → (A → List ℕ) → List A → List ℕ
-joined f [] = []
-joined f (a ∷ l) = f a ++ joined f l
+abbrev pub concatMap : {A : Type 0} → (A → List ℕ) → List A → List ℕ
+concatMap f [] = []
+concatMap f (a ∷ l) = f a ++ concatMap f l
 
 -- the counts, the types and the moves' arcs, then the object nets, then the events
-unfoldable pub flatBytes : Model → List ℕ
-flatBytes m =
-    byte (m .nets) ∷ byte (m .places) ∷ byte (m .moves) ∷ byte (m .listed) ∷
-    (m .types ++ (m .pre ++ (m .post ++ (joined netBytes (m .objects) ++ joined eventBytes (m .events)))))
+unfoldable pub packedBytes : Model → List ℕ
+packedBytes m =
+    cappedByte (m .nets) ∷ cappedByte (m .places) ∷ cappedByte (m .moves) ∷ cappedByte (m .listed) ∷
+    (m .types ++ (m .pre ++ (m .post ++ (concatMap netBytes (m .objects) ++ concatMap eventBytes (m .events)))))
 
 -- ---- read
 
@@ -41,7 +41,7 @@ netFrom l = record { places = nth l 0; transitions = nth l 1; pre = take 1024 (d
 abbrev pub eventFrom : List ℕ → Event
 eventFrom l = record { kind = nth l 0; index = nth l 1; sync = take 256 (drop 2 l) }
 
--- the model that is laid flat
+-- the model that is packed
 unfoldable pub modelIn : List ℕ → Model
 modelIn l = record {
   nets = nth l 0;

@@ -1,9 +1,9 @@
-// A held model laid flat: its numbers in one row of bytes, so that its parts are lent as slices and nothing of it is copied.
+// A held model packed: its numbers in one row of bytes, so that its parts are lent as slices and nothing of it is copied.
 ghost use mathlib.Core.Path.{_≡_};
 ghost use Prim.Native.Nat.{_+_, _≤_, min};
 ghost use lib.ListN.{length};
 ghost use lib.Seq.{sets};
-ghost use Rattle.model_packed.specs.Packed.{netBytes, eventBytes, joined, flatBytes};
+ghost use Rattle.model_packed.specs.Packed.{netBytes, eventBytes, concatMap, packedBytes};
 use model::Event;
 use model::Model;
 use model::ObjectNet;
@@ -42,79 +42,79 @@ fn byte(n: usize) -> u8
 }
 
 // The numbers of a part laid from `at` on.
-fn lay(flat: &mut [u8; 34996], at: usize, part: &[u8])
-    requires { ⌜ (length (now flat) ≡ 34996) × (at + length (now part) ≤ 34996) ⌝ }
-    ensures { λ _. ⌜ (length (now (flat .exit)) ≡ 34996) × (now (flat .exit) ≡ sets (now (flat .entry)) at (now (part .entry))) ⌝ }
+fn lay(packed: &mut [u8; 34996], at: usize, part: &[u8])
+    requires { ⌜ (length (now packed) ≡ 34996) × (at + length (now part) ≤ 34996) ⌝ }
+    ensures { λ _. ⌜ (length (now (packed .exit)) ≡ 34996) × (now (packed .exit) ≡ sets (now (packed .entry)) at (now (part .entry))) ⌝ }
 {
     let mut i = 0;
     while i < part.len() {
-        flat[at + i] = part[i];
+        packed[at + i] = part[i];
         i += 1;
     }
 }
 
 // An object net laid from `at` on.
-fn lay_net(flat: &mut [u8; 34996], at: usize, net: ObjectNet)
-    requires { ⌜ (length (now flat) ≡ 34996) × (at + 2050 ≤ 34996) ⌝ }
-    ensures { λ _. ⌜ (length (now (flat .exit)) ≡ 34996) × (length (netBytes net) ≡ 2050) × (now (flat .exit) ≡ sets (now (flat .entry)) at (netBytes net)) ⌝ }
+fn lay_net(packed: &mut [u8; 34996], at: usize, net: ObjectNet)
+    requires { ⌜ (length (now packed) ≡ 34996) × (at + 2050 ≤ 34996) ⌝ }
+    ensures { λ _. ⌜ (length (now (packed .exit)) ≡ 34996) × (length (netBytes net) ≡ 2050) × (now (packed .exit) ≡ sets (now (packed .entry)) at (netBytes net)) ⌝ }
 {
-    flat[at] = byte(net.places);
-    flat[at + 1] = byte(net.transitions);
-    lay(flat, at + OBJECT_PRE, &net.pre);
-    lay(flat, at + OBJECT_POST, &net.post);
+    packed[at] = byte(net.places);
+    packed[at + 1] = byte(net.transitions);
+    lay(packed, at + OBJECT_PRE, &net.pre);
+    lay(packed, at + OBJECT_POST, &net.post);
 }
 
 // The object nets laid one after the other.
-fn lay_nets(flat: &mut [u8; 34996], objects: [ObjectNet; 8])
-    requires { ⌜ length (now flat) ≡ 34996 ⌝ }
-    ensures { λ _. ⌜ (length (now (flat .exit)) ≡ 34996) × (now (flat .exit) ≡ sets (now (flat .entry)) 2084 (joined netBytes objects)) ⌝ }
+fn lay_nets(packed: &mut [u8; 34996], objects: [ObjectNet; 8])
+    requires { ⌜ length (now packed) ≡ 34996 ⌝ }
+    ensures { λ _. ⌜ (length (now (packed .exit)) ≡ 34996) × (now (packed .exit) ≡ sets (now (packed .entry)) 2084 (concatMap netBytes objects)) ⌝ }
 {
     let mut n = 0;
     while n < 8 {
         let net = objects[n];
-        lay_net(flat, OBJECTS + n * OBJECT, net);
+        lay_net(packed, OBJECTS + n * OBJECT, net);
         n += 1;
     }
 }
 
 // An event laid from `at` on.
-fn lay_event(flat: &mut [u8; 34996], at: usize, event: Event)
-    requires { ⌜ (length (now flat) ≡ 34996) × (at + 258 ≤ 34996) ⌝ }
-    ensures { λ _. ⌜ (length (now (flat .exit)) ≡ 34996) × (length (eventBytes event) ≡ 258) × (now (flat .exit) ≡ sets (now (flat .entry)) at (eventBytes event)) ⌝ }
+fn lay_event(packed: &mut [u8; 34996], at: usize, event: Event)
+    requires { ⌜ (length (now packed) ≡ 34996) × (at + 258 ≤ 34996) ⌝ }
+    ensures { λ _. ⌜ (length (now (packed .exit)) ≡ 34996) × (length (eventBytes event) ≡ 258) × (now (packed .exit) ≡ sets (now (packed .entry)) at (eventBytes event)) ⌝ }
 {
-    flat[at] = event.kind;
-    flat[at + 1] = event.index;
-    lay(flat, at + 2, &event.sync);
+    packed[at] = event.kind;
+    packed[at + 1] = event.index;
+    lay(packed, at + 2, &event.sync);
 }
 
 // The events laid one after the other.
-fn lay_events(flat: &mut [u8; 34996], events: [Event; 64])
-    requires { ⌜ length (now flat) ≡ 34996 ⌝ }
-    ensures { λ _. ⌜ (length (now (flat .exit)) ≡ 34996) × (now (flat .exit) ≡ sets (now (flat .entry)) 18484 (joined eventBytes events)) ⌝ }
+fn lay_events(packed: &mut [u8; 34996], events: [Event; 64])
+    requires { ⌜ length (now packed) ≡ 34996 ⌝ }
+    ensures { λ _. ⌜ (length (now (packed .exit)) ≡ 34996) × (now (packed .exit) ≡ sets (now (packed .entry)) 18484 (concatMap eventBytes events)) ⌝ }
 {
     let mut e = 0;
     while e < 64 {
         let event = events[e];
-        lay_event(flat, EVENTS + e * EVENT, event);
+        lay_event(packed, EVENTS + e * EVENT, event);
         e += 1;
     }
 }
 
-// A model laid flat.
-pub fn flatten(m: Model, flat: &mut [u8; 34996])
-    requires { ⌜ length (now flat) ≡ 34996 ⌝ }
-    ensures { λ _. ⌜ (length (now (flat .exit)) ≡ 34996) × (now (flat .exit) ≡ flatBytes m) ⌝ }
+// A model packed.
+pub fn pack(m: Model, packed: &mut [u8; 34996])
+    requires { ⌜ length (now packed) ≡ 34996 ⌝ }
+    ensures { λ _. ⌜ (length (now (packed .exit)) ≡ 34996) × (now (packed .exit) ≡ packedBytes m) ⌝ }
 {
-    flat[0] = byte(m.nets);
-    flat[1] = byte(m.places);
-    flat[2] = byte(m.moves);
-    flat[3] = byte(m.listed);
+    packed[0] = byte(m.nets);
+    packed[1] = byte(m.places);
+    packed[2] = byte(m.moves);
+    packed[3] = byte(m.listed);
     let types = m.types;
-    lay(flat, TYPES, &types);
-    lay(flat, PRE, &m.pre);
-    lay(flat, POST, &m.post);
+    lay(packed, TYPES, &types);
+    lay(packed, PRE, &m.pre);
+    lay(packed, POST, &m.post);
     let objects = m.objects;
-    lay_nets(flat, objects);
+    lay_nets(packed, objects);
     let events = m.events;
-    lay_events(flat, events);
+    lay_events(packed, events);
 }

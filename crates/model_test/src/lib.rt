@@ -17,7 +17,7 @@ use model_rules::monotonous;
 use model_rules::takes_part;
 
 // Whether s is 0 from index `from` on.
-fn empty_from(s: &[u8], from: usize) -> bool
+fn empty_bytes(s: &[u8], from: usize) -> bool
     ensures { λ r. ⌜ r ≡ empty (drop from (now (s .entry))) ⌝ }
 {
     let mut all = true;
@@ -34,12 +34,12 @@ fn empty_past(rows: usize, table: &[u8], n: usize, widths: &[usize]) -> bool
     requires { ⌜ (length (now table) ≡ rows * 32) × (n ≤ rows) × (n ≤ length (now widths)) ⌝ }
     ensures { λ r. ⌜ r ≡ emptyPast rows (usedIn n (nth (now (widths .entry)))) (now (table .entry)) ⌝ }
 {
-    let mut all = empty_from(table, n * 32);
+    let mut all = empty_bytes(table, n * 32);
     let mut i = 0;
     while i < n {
         let at = i * 32;
         let used = widths[i];
-        all = all & empty_from(&table[at..at + 32], used);
+        all = all & empty_bytes(&table[at..at + 32], used);
         i += 1;
     }
     all
@@ -55,7 +55,7 @@ fn empty_behind(table: &[u8], n: usize, width: usize) -> bool
 }
 
 // A row of 32.
-fn row_at(table: &[u8], i: usize) -> [u8; 32]
+fn table_row(table: &[u8], i: usize) -> [u8; 32]
     requires { ⌜ i * 32 + 32 ≤ length (now table) ⌝ }
     ensures { λ r. ⌜ r ≡ rowIn 32 (now (table .entry)) i ⌝ }
 {
@@ -107,8 +107,8 @@ fn typing_held<'a>(
     let mut all = true;
     let mut i = 0;
     while i < moves {
-        let a = row_at(pre, i);
-        let b = row_at(post, i);
+        let a = table_row(pre, i);
+        let b = table_row(post, i);
         all = all & monotonous(nets, places, types, a, b);
         i += 1;
     }
@@ -186,7 +186,7 @@ fn nets_held(nets: usize, objects: [ObjectNet; 8]) -> bool
 }
 
 // How many transitions each net has.
-fn steps_of(objects: [ObjectNet; 8]) -> [usize; 8]
+fn transitions_of(objects: [ObjectNet; 8]) -> [usize; 8]
     ensures { λ r. ⌜ ((n : ℕ) → nth r n ≡ getD objects n noNet .transitions) ⌝ }
 {
     let mut steps = [0usize; 8];
@@ -238,7 +238,7 @@ fn parts_held(own: u8, nets: usize, sync: &[u8]) -> bool
     let mut all = true;
     let mut n = 0;
     while n < nets {
-        let row = row_at(sync, n);
+        let row = table_row(sync, n);
         all = all & takes_part(own, n, row);
         n += 1;
     }
@@ -270,7 +270,7 @@ fn event_held(
 fn event_empty(e: Event) -> bool
     ensures { λ r. ⌜ r ≡ emptyEvent e ⌝ }
 {
-    let rest = empty_from(&e.sync, 0);
+    let rest = empty_bytes(&e.sync, 0);
     (e.kind == 0) & ((e.index == 0) & rest)
 }
 
@@ -341,7 +341,7 @@ pub fn is_held(m: Model) -> bool
     let right_types = types_held(nets, places, types);
     let right_moves = moves_held(nets as u8, places, moves, types, &m.pre, &m.post);
     let right_nets = nets_held(nets, objects);
-    let steps = steps_of(objects);
+    let steps = transitions_of(objects);
     let right_events = events_held(listed, places, moves, nets, types, steps, events);
     right_types & (right_moves & (right_nets & right_events))
 }

@@ -2,7 +2,7 @@
 use Prim.Native.Nat.{ℕ, suc, _-_, _≤_}
 use mathlib.Core.Path.{_≡_, refl, ap, sym}
 use mathlib.Core.Bool.{true}
-use mathlib.Core.List.{[], _∷_}
+use mathlib.Core.List.{[], _∷_, _++_}
 use mathlib.Core.Option.{some}
 use native.Mathlib.Omega.{arith}
 use lib.Dec.{T, leb, ltb}
@@ -30,6 +30,8 @@ use Rattle.step.proofs.ProjectionLaws.{fit}
 use Rattle.step.proofs.SoundLaws.{proper-read}
 use Rattle.runner.proofs.StandsLaws.{any-range}
 use Rattle.promises.specs.WholeRun.{stepIn, brings}
+use Rattle.step.specs.Printed.{stepText}
+use Rattle.text.proofs.Standing.{front-stands}
 
 -- ---- a step read for some limits, read for others
 
@@ -132,3 +134,14 @@ module _ (m : eos.Model) where
         read-again (sizesOf m) (length (m .events)) s t (r .next) free bounds (r .is)
         (and-both (ltb (t .event) (length (m .events))) _ (lt-ltb (t .event) (length (m .events)) (o .known))
         (and-both (rightBlock bounds (sizesOf m) (t .taken)) _ (fits-right (t .taken) (o .taken) f) (fits-right (t .given) (o .given) g)))
+
+  -- the lines of a step of the model bring it, however large its numbers and whatever stands behind them
+  pub step-brings : (t : Step) (rest : Text) → rightStep free (sizesOf m) (length (m .events)) t ≡ true → length (stepText t ++ rest) ≤ longest
+      → brings m (stepText t ++ rest) ≡ some t
+  step-brings t rest right short =
+      let s = stepText t ++ rest in
+      read-brings s t (record {
+        short = short;
+        next = length (stepText t);
+        is = step-exactly free (sizesOf m) (length (m .events)) s .forth 0 t (front-stands s 0 (stepText t) rest refl) right;
+      })

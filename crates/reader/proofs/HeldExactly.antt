@@ -164,7 +164,7 @@ accepted-held s m k e =
     (ap₂ heldMarking z (p .5)
     ∙ hold.hold-held (sizesOf d) (roomy d (r .0)) (eos.canonical (p .0 .start)) (canonical-held (sizesOf d) (p .0 .start) (r .1)))
 
-module _ (m : Model) (sized : model.Sized m) where
+module _ (m : Model) (sized : model.SizedModel m) where
   -- the test of a model passes exactly for what some accepted reading gives
   pub held-model-exactly : (heldModel m ≡ true) ↔ ((s : Text) × (k : Marking) × Accepts s m k)
   unfolding rightBlock
@@ -182,7 +182,7 @@ module _ (m : Model) (sized : model.Sized m) where
   )
 
   -- the tests of a model and a marking of it pass exactly for what some accepted reading gives
-  pub held-exactly : (k : Marking) → marking.Sized k
+  pub held-exactly : (k : Marking) → marking.SizedMarking k
       → (heldBoth m k ≡ true) ↔ ((s : Text) × Accepts s m k)
   unfolding heldBoth
   held-exactly k small = (
@@ -201,7 +201,7 @@ module _ (m : Model) (sized : model.Sized m) where
 -- ---- written reads back
 
 -- the text of a held marking of a held model is accepted, and the marking is given back
-pub written-reads-back : (m : Model) (k : Marking) → marking.Sized k → heldBoth m k ≡ true
+pub written-reads-back : (m : Model) (k : Marking) → marking.SizedMarking k → heldBoth m k ≡ true
     → markingReading m (markingText (tokensOf (sizesFor m) k)) ≡ record { answer = Accepted; marking = k }
 unfolding heldBoth markingFrom markingOr restored
 written-reads-back m k small h =

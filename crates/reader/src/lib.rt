@@ -61,7 +61,7 @@ fn answer_of(s: &[u8], ended: Ended) -> ReadAnswer
 }
 
 // The net-tokens from `at` to the end of the text; `sizes` says for each place how many counts its net-tokens have.
-fn tokens_at(s: &[u8], at: usize, places: u16, sizes: [u8; 32]) -> Block
+fn tokens_to_end(s: &[u8], at: usize, places: u16, sizes: [u8; 32]) -> Block
     requires { ⌜ Roomy (sizesAt places sizes) ⌝ }
     ensures { λ r. ⌜ r ≡ blockOf (readMarkingAt (sizesAt places sizes) (now (s .entry)) at) ⌝ }
 {
@@ -107,7 +107,7 @@ fn model_at(s: &[u8], at: usize) -> ModelReading
         return no_reading(answer_of(s, lines));
     };
     let model = read.model;
-    let block = tokens_at(s, next, model.places as u16, sizes(model));
+    let block = tokens_to_end(s, next, model.places as u16, sizes(model));
     let ended = block.ended;
     let Ended::Past { next: _ } = ended else {
         return no_reading(answer_of(s, ended));
@@ -152,7 +152,7 @@ fn marking_at(m: Model, s: &[u8], at: usize) -> MarkingReading
     if !model_test::is_held(m) {
         return no_tokens(ReadAnswer::NotHeld);
     }
-    let block = tokens_at(s, at, m.places as u16, sizes(m));
+    let block = tokens_to_end(s, at, m.places as u16, sizes(m));
     let ended = block.ended;
     let Ended::Past { next: _ } = ended else {
         return no_tokens(answer_of(s, ended));

@@ -24,7 +24,7 @@ use Rattle.reader.specs.Answers.{longest, heldBoth}
 use Rattle.step.specs.Reading.{readStep}
 use Rattle.runner.specs.declared.Stepped.{Stepped}
 use Rattle.runner.specs.declared.StepAnswer.the-variants.{Fired, Faulty, Turned}
-use Rattle.runner.specs.Answers.{fires, judged, readThen, tried, stepped, heldStep, stepping}
+use Rattle.runner.specs.Answers.{fires, stepJudged, readThen, tried, stepped, heldStep, stepping}
 use Rattle.runner.proofs.StepAnswers.{reading, tried-reads, held-reads, step-held}
 
 -- a step that the text brings and that fires (000, Definition 3), with room for the net-tokens after it. By `step-exactly` of crate
@@ -54,8 +54,8 @@ module _ (m : Model) (k : Marking) (s : Text) (next : ℕ) where
   μ = tokensOf (sizesFor m) k
 
   judged-brings : (t : Step) (n : ℕ) → reading m k s ≡ got t n → (o : Option Refusal) → refusal 256 (modelOf m) t μ ≡ o
-      → stepped k (judged μ t n o) .answer ≡ Fired next → Brings m k s next
-  unfolding judged stepped
+      → stepped k (stepJudged μ t n o) .answer ≡ Fired next → Brings m k s next
+  unfolding stepJudged stepped
   judged-brings t n e none f h =
       let z : n ≡ next = cc in
       let c = no-cause-fires 256 (modelOf m) t μ f in
@@ -73,7 +73,7 @@ module _ (m : Model) (k : Marking) (s : Text) (next : ℕ) where
 
   -- a step that is brought fires
   pub brings-tried : (b : Brings m k s next) → tried (modelOf m) (sizesFor m) μ s ≡ fires next (eos.canonical (after (b .step) μ))
-  unfolding readThen judged
+  unfolding readThen stepJudged
   brings-tried b =
       let c = no-cause 256 (modelOf m) (b .step) μ (fires-all (modelOf m) (b .step) μ (b .enabled) (b .within)) (b .room) in
       tried-reads m k s ∙ ap (readThen (modelOf m) μ s) (b .read) ∙ rw c

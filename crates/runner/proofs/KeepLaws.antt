@@ -19,7 +19,7 @@ use Rattle.marking.proofs.RowLaws.{laid-long}
 use Rattle.model.specs.Held.{modelOf}
 use Rattle.model.specs.Test.{heldModel}
 use Rattle.model.specs.declared.Model.{Model}
-use Rattle.marking.specs.Held.{rowOf, holdMarking, tokensOf}
+use Rattle.marking.specs.Held.{tokenRow, holdMarking, tokensOf}
 use Rattle.marking.specs.Reading.{free, rightNetToken}
 use Rattle.marking.specs.declared.Marking.{Marking}
 use Rattle.marking.proofs.RowOrder.{rows-wide}
@@ -30,7 +30,7 @@ use Rattle.reader.specs.Answers.{heldBoth}
 use Rattle.reader.proofs.ReadingLaws.{both-model}
 use Rattle.marking.proofs.SizeLaws.{held-roomy}
 use Rattle.runner.specs.declared.Stepped.{Stepped}
-use Rattle.runner.specs.Answers.{judged, readThen, stepped, heldStep}
+use Rattle.runner.specs.Answers.{stepJudged, readThen, stepped, heldStep}
 use Rattle.runner.proofs.StandsLaws.{Stands, any-range, after-every}
 use Rattle.runner.proofs.RuledLaws.{RightStep, read-right, length-canonical}
 use Rattle.runner.proofs.StepAnswers.{both-stands, reading, held-reads}
@@ -59,12 +59,12 @@ module _ (m : Model) (k : Marking) (kept : Keeps m k) where
       let right = after-every (rightNetToken free z) t μ (fires-yes (modelOf m) t μ (f .0) .1) (st .right) (any-range bounds z (t .given) (r .given)) in
       record {
         held = and-both (heldModel m) _ model (ordered-held z (held-roomy m model) free ν few (sort-again eos.before tokenOrder (after t μ)) right);
-        long = laid-long (map rowOf ν) (rows-wide ν) (omega (arith, length-map ν rowOf));
+        long = laid-long (map tokenRow ν) (rows-wide ν) (omega (arith, length-map ν tokenRow));
       }
 
   judged-keeps : (t : Step) (next : ℕ) → RightStep (sizesFor m) (m .listed) t → (o : Option Refusal) → refusal 256 (modelOf m) t μ ≡ o
-      → Keeps m (stepped k (judged μ t next o) .marking)
-  unfolding judged stepped
+      → Keeps m (stepped k (stepJudged μ t next o) .marking)
+  unfolding stepJudged stepped
   judged-keeps t next r none e = after-keeps t r e
   judged-keeps t next r (some c) e = kept
 

@@ -10,7 +10,7 @@ use Rattle.text.specs.declared.Ended.the-variants.{Past, Stopped}
 use Rattle.text.proofs.Loops.{got-of, bad-of}
 use Rattle.eos.specs.Firing.{Step}
 use Rattle.marking.specs.Rows.{Row}
-use Rattle.marking.specs.Held.{rowOf}
+use Rattle.marking.specs.Held.{tokenRow}
 use Rattle.step.specs.Answers.{StepRows, stepRows}
 use Rattle.step.specs.declared.StepLines.{StepLines}
 
@@ -21,8 +21,8 @@ pub record ReadRows (lines : StepLines) (taken given : List Row) (o : Outcome St
   pub event-is : lines .event ≡ step .event
   pub take-is : lines .take ≡ length (step .taken)
   pub give-is : lines .give ≡ length (step .given)
-  pub taken-are : taken ≡ map rowOf (step .taken)
-  pub given-are : given ≡ map rowOf (step .given)
+  pub taken-are : taken ≡ map tokenRow (step .taken)
+  pub given-are : given ≡ map tokenRow (step .given)
 
 module _ (lines : StepLines) (taken given : List Row) (o : Outcome Step) (e : record { lines = lines; taken = taken; given = given } ≡ stepRows o) where
   ended-is : lines .ended ≡ endedOf o

@@ -21,14 +21,14 @@ use Rattle.reader.specs.Answers.{longest, heldBoth}
 use Rattle.step.specs.Reading.{readStep}
 use Rattle.runner.specs.declared.Stepped.{Stepped}
 use Rattle.runner.specs.declared.StepAnswer.the-variants.{Fired}
-use Rattle.runner.specs.Answers.{usedBy, judged, readThen, tried, stepped, heldStep, whereHeld, stepping}
+use Rattle.runner.specs.Answers.{usedBy, stepJudged, readThen, tried, stepped, heldStep, whereHeld, stepping}
 
 -- where the answer is not fired, nothing is used and the marking stays
 abbrev pub Leaves : Marking → Stepped → Type 0
 Leaves k r = ((n : ℕ) → r .answer ≡ Fired n → ⊥) → (r .marking ≡ k) × (usedBy (r .answer) ≡ 0)
 
-judged-leaves : (k : Marking) (μ : eos.Marking) (t : Step) (next : ℕ) (o : Option Refusal) → Leaves k (stepped k (judged μ t next o))
-unfolding judged stepped
+judged-leaves : (k : Marking) (μ : eos.Marking) (t : Step) (next : ℕ) (o : Option Refusal) → Leaves k (stepped k (stepJudged μ t next o))
+unfolding stepJudged stepped
 judged-leaves k μ t next none n = absurd (n next refl)
 judged-leaves k μ t next (some r) n = (refl, refl)
 

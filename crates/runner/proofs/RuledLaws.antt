@@ -22,14 +22,14 @@ use Rattle.eos.proofs.FiringLaws.{alike, tokenOrder, fires-yes}
 use Rattle.eos.proofs.CauseLaws.{no-cause-fires}
 use Rattle.marking.specs.Rows.{Row, rowsIn, laid}
 use Rattle.model.specs.Rules.{rightModel}
-use Rattle.model.specs.Held.{Sized, modelOf}
+use Rattle.model.specs.Held.{SizedModel, modelOf}
 use Rattle.model.specs.Test.{heldModel}
 use Rattle.model.specs.declared.Model.{Model}
 use Rattle.model.proofs.SlotLaws.{length-listed}
 use Rattle.model.proofs.HeldTests.{held-is}
 use Rattle.model.proofs.HeldBack.{held-again}
 use Rattle.model.proofs.HeldRight.{held-right}
-use Rattle.marking.specs.Held.{Sizes, sizesOf, rowOf, holdMarking, tokensOf}
+use Rattle.marking.specs.Held.{Sizes, sizesOf, tokenRow, holdMarking, tokensOf}
 use Rattle.marking.specs.Reading.{Limits, free, rightNetToken, rightBlock}
 use Rattle.marking.specs.declared.Marking.{Marking}
 use Rattle.marking.proofs.HoldMarking.{all-right}
@@ -45,7 +45,7 @@ use Rattle.step.specs.VerdictParts.{Sound, Placed}
 use Rattle.step.proofs.CausesAre.{causes-are}
 use Rattle.step.proofs.SoundLaws.{sound-rule, placed-rows, proper-read}
 use Rattle.runner.specs.declared.StepAnswer.the-variants.{Fired}
-use Rattle.runner.specs.Answers.{judged, stepped}
+use Rattle.runner.specs.Answers.{stepJudged, stepped}
 use Rattle.runner.specs.Parts.{ruled}
 use Rattle.runner.proofs.StandsLaws.{Stands, stands-long, stands-all}
 
@@ -95,7 +95,7 @@ after-long t μ w =
     )
 
 -- ---- on a held model
-module _ (m : Model) (sized : Sized m) (held : heldModel m ≡ true) where
+module _ (m : Model) (sized : SizedModel m) (held : heldModel m ≡ true) where
   model-right : rightModel (modelOf m) ≡ true
   model-right = held-right m sized (held-is m held)
 
@@ -111,7 +111,7 @@ module _ (m : Model) (sized : Sized m) (held : heldModel m ≡ true) where
 
   -- net-tokens that were read, in the first rows of an array
   pub rows-placed : (ts : eos.Marking) → every (rightNetToken bounds (sizesFor m)) ts ≡ true → length ts ≤ 256 → (n : ℕ) (l : List ℕ)
-      → n ≡ length ts → length l ≡ 8448 → rowsIn n l ≡ map rowOf ts → Placed n l
+      → n ≡ length ts → length l ≡ 8448 → rowsIn n l ≡ map tokenRow ts → Placed n l
   rows-placed ts h few n l e long is = placed-rows (modelOf m) model-right ts (proper-of bounds ts h) n l (omega arith) long is
 
   module _ (t : Step) (r : RightStep (sizesFor m) (m .listed) t) where
@@ -126,10 +126,10 @@ module _ (m : Model) (sized : Sized m) (held : heldModel m ≡ true) where
       μ = tokensOf (sizesFor m) k
 
       abbrev taken : List Row
-      taken = map rowOf (t .taken)
+      taken = map tokenRow (t .taken)
 
       abbrev given : List Row
-      given = map rowOf (t .given)
+      given = map tokenRow (t .given)
 
       -- the verdict on the rows is that of the theory
       cause-same : first (causesIn (holdRule (modelOf m) (t .event)) taken given (rowsIn (k .len) (k .rows))) ≡ refusal 256 (modelOf m) t μ
@@ -139,14 +139,14 @@ module _ (m : Model) (sized : Sized m) (held : heldModel m ≡ true) where
 
       -- and so are the rows after it
       change-same : (next : ℕ) (o : Option Refusal) → refusal 256 (modelOf m) t μ ≡ o
-          → ruled next k taken given (verdictOf o) ≡ stepped k (judged μ t next o)
-      unfolding ruled verdictOf judged stepped holdMarking
+          → ruled next k taken given (verdictOf o) ≡ stepped k (stepJudged μ t next o)
+      unfolding ruled verdictOf stepJudged stepped holdMarking
       change-same next none e =
           let roomy = held-roomy m held in
           let w = fires-yes (modelOf m) t μ (no-cause-fires 256 (modelOf m) t μ e .0) .1 in
           let n : k .len - length taken + length given ≡ length (eos.canonical (after t μ)) =
-          omega (arith, after-long t μ w, stands-long (sizesFor m) k st, length-map (t .taken) rowOf, length-map (t .given) rowOf) in
-          let rows : laid (M.sort lexV (M.less eqV (rowsIn (k .len) (k .rows)) taken ++ given)) ≡ laid (map rowOf (eos.canonical (after t μ))) =
+          omega (arith, after-long t μ w, stands-long (sizesFor m) k st, length-map (t .taken) tokenRow, length-map (t .given) tokenRow) in
+          let rows : laid (M.sort lexV (M.less eqV (rowsIn (k .len) (k .rows)) taken ++ given)) ≡ laid (map tokenRow (eos.canonical (after t μ))) =
           ap (λ (rs : List Row). laid (M.sort lexV (M.less eqV rs taken ++ given))) (st .rows-are)
           ∙ change-is (sizesFor m) (t .event) μ (t .taken) (t .given) (stands-all (sizesFor m) k st roomy)
           (all-right bounds (sizesFor m) roomy (t .taken) (r .taken)) (all-right bounds (sizesFor m) roomy (t .given) (r .given)) in
@@ -154,6 +154,6 @@ module _ (m : Model) (sized : Sized m) (held : heldModel m ≡ true) where
       change-same next (some c) e = refl
 
       pub ruled-same : (next : ℕ) → ruled next k taken given (verdictOf (first (causesIn (holdRule (modelOf m) (t .event)) taken given (rowsIn (k .len) (k .rows)))))
-          ≡ stepped k (judged μ t next (refusal 256 (modelOf m) t μ))
+          ≡ stepped k (stepJudged μ t next (refusal 256 (modelOf m) t μ))
       ruled-same next =
           ap (λ (o : Option Refusal). ruled next k taken given (verdictOf o)) cause-same ∙ change-same next (refusal 256 (modelOf m) t μ) refl

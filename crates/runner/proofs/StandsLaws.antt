@@ -20,7 +20,7 @@ use Rattle.eos.proofs.FiringLaws.{alike, count-canonical}
 use Rattle.marking.specs.Rows.{Row, rowsIn, ascending, Kept}
 use Rattle.marking.proofs.RowLaws.{length-rows, kept-wide}
 use Rattle.marking.proofs.KeptLaws.{kept-test}
-use Rattle.marking.specs.Held.{Sizes, Roomy, rowOf, tokensOf, heldMarking}
+use Rattle.marking.specs.Held.{Sizes, Roomy, tokenRow, tokensOf, heldMarking}
 use Rattle.marking.specs.Reading.{Limits, free, rightNetToken}
 use Rattle.marking.specs.declared.Marking.{Marking}
 use Rattle.marking.proofs.RowOrder.{All}
@@ -31,7 +31,7 @@ use Rattle.marking.proofs.HoldMarking.{right-is, is-right, all-right, rows-toke
 -- the rows are kept, and are those of net-tokens of the model
 pub record Stands (z : Sizes) (k : Marking) : Type 0 where
   pub kept : Kept (k .len) (k .rows)
-  pub rows-are : rowsIn (k .len) (k .rows) ≡ map rowOf (tokensOf z k)
+  pub rows-are : rowsIn (k .len) (k .rows) ≡ map tokenRow (tokensOf z k)
   pub right : every (rightNetToken free z) (tokensOf z k) ≡ true
 
 -- where no range is asked, all counts are in it
@@ -61,7 +61,7 @@ held-stands z roomy k long h =
 module _ (z : Sizes) (k : Marking) (st : Stands z k) where
   -- as many rows as net-tokens
   pub stands-long : k .len ≡ length (tokensOf z k)
-  stands-long = sym (length-rows (k .len) (k .rows)) ∙ ap length (st .rows-are) ∙ length-map (tokensOf z k) rowOf
+  stands-long = sym (length-rows (k .len) (k .rows)) ∙ ap length (st .rows-are) ∙ length-map (tokensOf z k) tokenRow
 
   pub stands-all : Roomy z → All z (tokensOf z k)
   stands-all roomy = all-right free z roomy (tokensOf z k) (st .right)

@@ -17,7 +17,7 @@ use Rattle.eos.specs.Firing.{Step}
 use Rattle.eos.specs.Causes.{first}
 use Rattle.marking.specs.Rows.{Row, rowsIn, laid}
 use Rattle.marking.proofs.RowLaws.{length-rows}
-use Rattle.model.specs.Held.{Sized, modelOf}
+use Rattle.model.specs.Held.{SizedModel, modelOf}
 use Rattle.model.specs.Test.{heldModel}
 use Rattle.model.specs.declared.Model.{Model}
 use Rattle.model.proofs.SlotLaws.{length-listed}
@@ -83,7 +83,7 @@ module _ (m : Model) (k : Marking) (s : Text) where
   step-refused x d e f = sym (held-reads ∙ rw (f, e))
 
   -- its lines are read, and it is judged
-  pub step-ruled : Sized m → heldModel m ≡ true → Stands (sizesFor m) k → (next : ℕ) (lines : StepLines) (taken given : List Row)
+  pub step-ruled : SizedModel m → heldModel m ≡ true → Stands (sizesFor m) k → (next : ℕ) (lines : StepLines) (taken given : List Row)
       → ReadRows lines taken given reading next → (q : Rule) → q ≡ holdRule (modelOf m) (lines .event)
       → ruled next k taken given (verdictOf (first (causesIn q taken given (rowsIn (k .len) (k .rows))))) ≡ heldStep m k s
   unfolding readThen

@@ -43,13 +43,13 @@ pub data Tried : Type 0 where
   stops : StepAnswer → Tried
 
 -- a step that was read: the first of the causes 8 to 12, or the marking after in canonical order
-unfoldable pub judged : eos.Marking → Step → ℕ → Option Refusal → Tried
-judged μ t next none = fires next (eos.canonical (after t μ))
-judged μ t next (some r) = stops (Turned (r .number) (r .beside))
+unfoldable pub stepJudged : eos.Marking → Step → ℕ → Option Refusal → Tried
+stepJudged μ t next none = fires next (eos.canonical (after t μ))
+stepJudged μ t next (some r) = stops (Turned (r .number) (r .beside))
 
 -- line by line 2 and 3, lines counted from the step's own `fire` line, which begins the text; then 8 to 12
 unfoldable pub readThen : eos.Model → eos.Marking → Text → Outcome Step → Tried
-readThen m μ s (got t next) = judged μ t next (refusal 256 m t μ)
+readThen m μ s (got t next) = stepJudged μ t next (refusal 256 m t μ)
 readThen m μ s (bad e) = stops (Faulty (e .why) (lineAt s (e .at)))
 
 unfoldable pub tried : eos.Model → Sizes → eos.Marking → Text → Tried

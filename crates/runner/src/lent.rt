@@ -6,10 +6,10 @@ ghost use lib.ListN.{length};
 ghost use Rattle.eos.specs.Causes.{first};
 ghost use Rattle.marking.specs.Rows.{rowsIn, Kept};
 ghost use Rattle.step.specs.Verdict.{causesIn, verdictOf};
-ghost use Rattle.model.specs.Held.{Sized};
+ghost use Rattle.model.specs.Held.{SizedModel};
 ghost use Rattle.model_packed.specs.Packed.{modelIn};
 ghost use Rattle.step.specs.Rule.{ruleIn};
-ghost use Rattle.step.specs.VerdictParts.{Lent, Placed};
+ghost use Rattle.step.specs.VerdictParts.{SidesLent, Placed};
 ghost use Rattle.marking.specs.Sizes.{sizesIn};
 ghost use Rattle.reader.specs.Answers.{longest, heldBoth};
 ghost use Rattle.runner.specs.Parts.{answered, ruled};
@@ -50,7 +50,7 @@ fn fire<'a>(
     give: usize,
     next: usize,
 ) -> StepEnd
-    requires { ⌜ Lent (now plan) (now pre) (now post) × Placed take (now taken) × Placed give (now given) × Kept len (now rows) ⌝ }
+    requires { ⌜ SidesLent (now plan) (now pre) (now post) × Placed take (now taken) × Placed give (now given) × Kept len (now rows) ⌝ }
     ensures { λ r. ⌜ record { answer = r .answer; marking = record { len = r .len; rows = now (rows .exit) } }
         ≡ ruled next (record { len = len; rows = now (rows .entry) }) (rowsIn take (now (taken .entry))) (rowsIn give (now (given .entry)))
         (verdictOf (first (causesIn (ruleIn (now (plan .entry)) (now (pre .entry)) (now (post .entry))) (rowsIn take (now (taken .entry))) (rowsIn give (now (given .entry))) (rowsIn len (now (rows .entry)))))) ⌝ }
@@ -69,7 +69,7 @@ fn fire<'a>(
     }
 }
 
-// A step on the lent rows of a held marking of a held model that is laid flat: for a run over many steps, the held test and the laying stand
+// A step on the lent rows of a held marking of a held model that is packed: for a run over many steps, the held test and the laying stand
 // once in front of the run. `taken` and `given` are room for the step's net-tokens.
 pub fn step_on(
     plan: &[u8],
@@ -80,7 +80,7 @@ pub fn step_on(
     taken: &mut [u16; 8448],
     given: &mut [u16; 8448],
 ) -> StepEnd
-    requires { ⌜ (length (now plan) ≡ 34996) × Sized (modelIn (now plan)) × (heldBoth (modelIn (now plan)) (record { len = len; rows = now rows }) ≡ true)
+    requires { ⌜ (length (now plan) ≡ 34996) × SizedModel (modelIn (now plan)) × (heldBoth (modelIn (now plan)) (record { len = len; rows = now rows }) ≡ true)
         × (sizes ≡ sizesIn (modelIn (now plan))) × (length (now s) ≤ longest) × (length (now rows) ≡ 8448) ⌝ }
     ensures { λ r. ⌜ record { answer = r .answer; marking = record { len = r .len; rows = now (rows .exit) } } ≡ heldStep (modelIn (now (plan .entry))) (record { len = len; rows = now (rows .entry) }) (now (s .entry)) ⌝ }
 {

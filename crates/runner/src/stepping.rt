@@ -8,7 +8,7 @@ use super::lent::step_on;
 use marking::Marking;
 use marking_test::sizes;
 use model::Model;
-use model_packed::flatten;
+use model_packed::pack;
 use reader::test_marking;
 use text_reader::Reader;
 use text_reader::left;
@@ -34,7 +34,7 @@ fn step_at(m: Model, k: Marking, s: &[u8], at: usize) -> Stepped
     let mut taken = [0u16; 8448];
     let mut given = [0u16; 8448];
     let mut plan = [0u8; 34996];
-    flatten(m, &mut plan);
+    pack(m, &mut plan);
     let end = step_on(
         &plan,
         sizes(m),

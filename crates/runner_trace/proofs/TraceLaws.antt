@@ -11,7 +11,7 @@ use Rattle.model.specs.declared.Model.{Model}
 use Rattle.marking.specs.declared.Marking.{Marking}
 use Rattle.reader.specs.Answers.{longest, heldBoth}
 use Rattle.runner_trace.specs.declared.Stop.the-variants.{TooLong, NotHeld, Faulty}
-use Rattle.runner_trace.specs.Running.{ran, runFrom, headed, whereHeld, running}
+use Rattle.runner_trace.specs.Running.{ran, runFrom, headed, runWhereHeld, running}
 
 module _ (m : Model) (k : Marking) (s : Text) where
   pub trace-long : longest < length s → ran 0 TooLong k ≡ running m k s
@@ -20,16 +20,16 @@ module _ (m : Model) (k : Marking) (s : Text) where
 
   module _ (few : length s ≤ longest) where
     pub trace-unheld : heldBoth m k ≡ false → ran 0 NotHeld k ≡ running m k s
-    unfolding running whereHeld
+    unfolding running runWhereHeld
     trace-unheld h = rw (le-leb (length s) longest few, running, h)
 
     module _ (held : heldBoth m k ≡ true) where
       -- the header is refused
       pub trace-unheaded : (d : Fault) → readHead (bytes "run=") s 0 ≡ bad d → ran 0 (Faulty 2 1) k ≡ running m k s
-      unfolding running whereHeld headed
+      unfolding running runWhereHeld headed
       trace-unheaded d e = rw (le-leb (length s) longest few, running, held, e)
 
       -- the steps follow
       pub trace-headed : (v next : ℕ) → readHead (bytes "run=") s 0 ≡ got v next → runFrom (length s) m k (drop next s) 0 ≡ running m k s
-      unfolding running whereHeld headed
+      unfolding running runWhereHeld headed
       trace-headed v next e = rw (le-leb (length s) longest few, running, held, e)

@@ -29,7 +29,7 @@ use Rattle.runner_trace.specs.declared.Turn.the-variants.{On, Off}
 use Rattle.runner_trace.specs.declared.Ran.{Ran}
 use Rattle.runner.specs.Answers.{Tried, fires, stops, tried, stepped, heldStep}
 use Rattle.runner_trace.specs.Parts.{turnOf}
-use Rattle.runner_trace.specs.Running.{stopOf, ran, onward, runFrom, headed, whereHeld, running}
+use Rattle.runner_trace.specs.Running.{stoppedBy, ran, onward, runFrom, headed, runWhereHeld, running}
 use Rattle.runner.proofs.KeepLaws.{Keeps, step-keeps}
 use Rattle.runner.proofs.FiresExactly.{held-brings, brings-tried, brings-fires}
 
@@ -51,7 +51,7 @@ on≢off e = let z : _≡_ {A = ℕ} 0 1 = cc in absurd (omega arith)
 pub fired-on : {G : Type 0} (a : StepAnswer) (b : Stop) (n : ℕ) → turnOf a ≡ Off b → a ≡ Fired n → G
 fired-on a b n e f = on≢off (ap turnOf (sym f) ∙ e)
 
-pub turn-off : (a : StepAnswer) (b : Stop) → turnOf a ≡ Off b → stopOf a ≡ b
+pub turn-off : (a : StepAnswer) (b : Stop) → turnOf a ≡ Off b → stoppedBy a ≡ b
 turn-off (Fired k) b e = on≢off e
 turn-off TooLong b e = off-is e
 turn-off NotHeld b e = off-is e
@@ -103,7 +103,7 @@ module _ (fuel : ℕ) (m : Model) (k : Marking) (n : ℕ) where
   onward-fires rest [] t used μ h e = absurd (omega arith)
   onward-fires rest (b ∷ s) t used μ h e = rw e
 
-  onward-stops : (rest : ℕ → eos.Marking → Ran) (s : Text) (t : Tried) (a : StepAnswer) → 0 < length s → t ≡ stops a → onward rest n k s t ≡ ran n (stopOf a) k
+  onward-stops : (rest : ℕ → eos.Marking → Ran) (s : Text) (t : Tried) (a : StepAnswer) → 0 < length s → t ≡ stops a → onward rest n k s t ≡ ran n (stoppedBy a) k
   unfolding onward
   onward-stops rest [] t a h e = absurd (omega arith)
   onward-stops rest (b ∷ s) t a h e = rw e
@@ -120,13 +120,13 @@ module _ (fuel : ℕ) (m : Model) (k : Marking) (n : ℕ) where
 
     -- it is turned down: the run stops with its answer, on the marking that it left
     pub run-stops : ((used : ℕ) → heldStep m k s .answer ≡ Fired used → ⊥)
-        → runFrom (suc fuel) m k s n ≡ ran n (stopOf (heldStep m k s .answer)) (heldStep m k s .marking)
+        → runFrom (suc fuel) m k s n ≡ ran n (stoppedBy (heldStep m k s .answer)) (heldStep m k s .marking)
     unfolding runFrom heldStep
     run-stops h =
         let t = tried (modelOf m) (sizesFor m) (tokensOf (sizesFor m) k) s in
         let p = tried-stops k t h in
         onward-stops (λ u μ. runFrom fuel m (holdMarking μ) (drop u s) (n + 1)) s t _ more (p .0)
-        ∙ ap (ran n (stopOf (stepped k t .answer))) (sym (p .1))
+        ∙ ap (ran n (stoppedBy (stepped k t .answer))) (sym (p .1))
 
 -- a run keeps a held marking held
 from-keeps : (fuel : ℕ) (m : Model) (k : Marking) (s : Text) (n : ℕ) → Keeps m k → Keeps m (runFrom fuel m k s n .marking)
@@ -146,7 +146,7 @@ headed-keeps m k s (got v next) h = from-keeps (length s) m k (drop next s) 0 h
 headed-keeps m k s (bad e) h = h
 
 pub run-keeps : (m : Model) (k : Marking) (s : Text) → Keeps m k → Keeps m (running m k s .marking)
-unfolding running whereHeld
+unfolding running runWhereHeld
 run-keeps m k s h =
     by-test (leb (length s) longest)
     (λ t. rw (t, running, h .held) (headed-keeps m k s (readHead (bytes "run=") s 0) h))

@@ -21,8 +21,8 @@ use Rattle.runner_trace.specs.declared.Stop.{Stop}
 use Rattle.runner_trace.specs.declared.Stop.the-variants.{AtEnd}
 use Rattle.runner_trace.specs.declared.Turn.{Turn}
 use Rattle.runner_trace.specs.declared.Turn.the-variants.{On, Off}
-use Rattle.runner_trace.specs.Parts.{turnOf, Fits, Come, markingIn, reached, turned, turnAt}
-use Rattle.runner_trace.specs.Running.{stopOf, ran, runFrom}
+use Rattle.runner_trace.specs.Parts.{turnOf, TurnFits, Come, markingIn, reached, turned, turnAt}
+use Rattle.runner_trace.specs.Running.{stoppedBy, ran, runFrom}
 use Rattle.runner_trace.proofs.TraceSteps.{turn-on, turn-off, fired-on, fired-uses, run-end, run-fires, run-stops}
 
 -- ---- one turn
@@ -51,7 +51,7 @@ module _ (m : Model) (s : Text) (at : ℕ) (c : Come) where
     turn-uses used e = let u = fired-uses m (markingIn c) (drop at s) used (turn-fires used e) in (u .some-byte, omega (arith, u .within, length-drop at s))
 
     -- and the turn's sums fit
-    pub turn-fits : length s ≤ longest → c .far .fired ≤ at → (t : Turn) → t ≡ turnOf (r .answer) → Fits at (c .far .fired) t
+    pub turn-fits : length s ≤ longest → c .far .fired ≤ at → (t : Turn) → t ≡ turnOf (r .answer) → TurnFits at (c .far .fired) t
     turn-fits few behind (On used) e = let u = turn-uses used (sym e) in (omega (arith, u .1), omega (arith, u .1, u .0))
     turn-fits few behind (Off a) e = tt
 
@@ -124,7 +124,7 @@ module _ (m : Model) (k : Marking) (s : Text) (from : ℕ) where
           sym (g .left ∙ ap (λ (i : ℕ). runFrom i m (markingIn c) (drop at s) fired) fuel-is
           ∙ run-stops (length s - (fired + 1)) m (markingIn c) fired (drop at s) some-left
           (λ n h. fired-on (r .answer) a n e (ap (λ (r : Stepped). r .answer) is ∙ h))
-          ∙ ap (λ (r : Stepped). ran fired (stopOf (r .answer)) (r .marking)) (sym is)
+          ∙ ap (λ (r : Stepped). ran fired (stoppedBy (r .answer)) (r .marking)) (sym is)
           ∙ ap (λ (b : Stop). ran fired b (r .marking)) f)
 
     -- after a turn the run stands, with fewer turns left

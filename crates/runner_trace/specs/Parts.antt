@@ -6,7 +6,7 @@ use mathlib.Core.Bool.{true, false}
 use lib.Dec.{leb}
 use lib.ListN.{length, drop}
 use Rattle.text.specs.Bytes.{Text}
-use Rattle.model.specs.Held.{Sized}
+use Rattle.model.specs.Held.{SizedModel}
 use Rattle.model.specs.declared.Model.{Model}
 use Rattle.model_packed.specs.Packed.{modelIn}
 use Rattle.marking.specs.declared.Marking.{Marking}
@@ -21,15 +21,15 @@ use Rattle.runner_trace.specs.declared.Turn.{Turn}
 use Rattle.runner_trace.specs.declared.Turn.the-variants.{On, Off}
 use Rattle.runner_trace.specs.declared.Progress.{Progress}
 use Rattle.runner_trace.specs.declared.Ran.{Ran}
-use Rattle.runner_trace.specs.Running.{stopOf, ran}
+use Rattle.runner_trace.specs.Running.{stoppedBy, ran}
 
 -- a run after a step: on behind its bytes, or stopped
 abbrev pub turnOf : StepAnswer → Turn
 turnOf (Fired n) = On n
-turnOf TooLong = Off (stopOf TooLong)
-turnOf NotHeld = Off (stopOf NotHeld)
-turnOf (Faulty why line) = Off (stopOf (Faulty why line))
-turnOf (Turned cause beside) = Off (stopOf (Turned cause beside))
+turnOf TooLong = Off (stoppedBy TooLong)
+turnOf NotHeld = Off (stoppedBy NotHeld)
+turnOf (Faulty why line) = Off (stoppedBy (Faulty why line))
+turnOf (Turned cause beside) = Off (stoppedBy (Turned cause beside))
 
 -- how far a run at `at` has come after a turn, with n steps fired before: on behind the bytes used, with one more fired, or stopped
 abbrev pub progressOf : ℕ → ℕ → ℕ → Turn → Progress
@@ -37,9 +37,9 @@ progressOf at n len (On used) = record { on = true; at = at + used; fired = n + 
 progressOf at n len (Off a) = record { on = false; at = at; fired = n; len = len; stop = a }
 
 -- the sums of a turn that goes on are numbers of 64 bits
-abbrev pub Fits : ℕ → ℕ → Turn → Type 0
-Fits at n (On used) = (at + used < 2 ^ 64) × (n + 1 < 2 ^ 64)
-Fits at n (Off a) = Unit {0}
+abbrev pub TurnFits : ℕ → ℕ → Turn → Type 0
+TurnFits at n (On used) = (at + used < 2 ^ 64) × (n + 1 < 2 ^ 64)
+TurnFits at n (Off a) = Unit {0}
 
 -- how far a run has come, with the rows of its marking
 pub record Come : Type 0 where
@@ -64,10 +64,10 @@ unfoldable pub turnAt : Model → Text → ℕ → Come → Come
 turnAt m s at c =
     elim (leb (length s) at) [ true ↦ turned at (c .far .fired) (markingIn c) (Off AtEnd) | false ↦ stepTurned at (c .far .fired) (heldStep m (markingIn c) (drop at s)) ]
 
--- what a turn at `at` asks: a held marking of a held model that is laid flat, the model's sizes, and no more steps fired than bytes used
+-- what a turn at `at` asks: a held marking of a held model that is packed, the model's sizes, and no more steps fired than bytes used
 pub record Ready (plan sizes : List ℕ) (s : Text) (at : ℕ) (c : Come) : Type 0 where
   pub plan-long : length plan ≡ 34996
-  pub sized : Sized (modelIn plan)
+  pub sized : SizedModel (modelIn plan)
   pub held : heldBoth (modelIn plan) (markingIn c) ≡ true
   pub sizes-are : sizes ≡ sizesIn (modelIn plan)
   pub within : length s ≤ longest

@@ -30,12 +30,12 @@ stopPair (Faulty why line) = pair why line
 stopPair (Turned cause beside) = pair cause beside
 
 -- how a step that was not fired stops a run
-abbrev pub stopOf : StepAnswer → Stop
-stopOf (step.Fired n) = AtEnd
-stopOf step.TooLong = TooLong
-stopOf step.NotHeld = NotHeld
-stopOf (step.Faulty why line) = Faulty why line
-stopOf (step.Turned cause beside) = Turned cause beside
+abbrev pub stoppedBy : StepAnswer → Stop
+stoppedBy (step.Fired n) = AtEnd
+stoppedBy step.TooLong = TooLong
+stoppedBy step.NotHeld = NotHeld
+stoppedBy (step.Faulty why line) = Faulty why line
+stoppedBy (step.Turned cause beside) = Turned cause beside
 
 abbrev pub ran : ℕ → Stop → Marking → Ran
 ran n a k = record { fired = n; stop = a; marking = k }
@@ -45,7 +45,7 @@ ran n a k = record { fired = n; stop = a; marking = k }
 unfoldable pub onward : (ℕ → eos.Marking → Ran) → ℕ → Marking → Text → Tried → Ran
 onward rest n k [] t = ran n AtEnd k
 onward rest n k (b ∷ s) (fires used μ) = rest used μ
-onward rest n k (b ∷ s) (stops a) = ran n (stopOf a) k
+onward rest n k (b ∷ s) (stops a) = ran n (stoppedBy a) k
 
 -- steps to the end of the text or the first stop, n of them fired before. Each step is lent what is left of the text. A step that fires
 -- uses at least one byte, so the length of the text is fuel enough
@@ -59,10 +59,10 @@ unfoldable pub headed : Model → Marking → Text → Outcome ℕ → Ran
 headed m k s (got v next) = runFrom (length s) m k (drop next s) 0
 headed m k s (bad e) = ran 0 (Faulty 2 1) k
 
-unfoldable pub whereHeld : Bool → Model → Marking → Text → Ran
-whereHeld true m k s = headed m k s (readHead (bytes "run=") s 0)
-whereHeld false m k s = ran 0 NotHeld k
+unfoldable pub runWhereHeld : Bool → Model → Marking → Text → Ran
+runWhereHeld true m k s = headed m k s (readHead (bytes "run=") s 0)
+runWhereHeld false m k s = ran 0 NotHeld k
 
 -- 1, 14, the header, then steps. Refused before the first step: nothing fired, the marking as it was
 unfoldable pub running : Model → Marking → Text → Ran
-running m k s = elim (leb (length s) longest) [ true ↦ whereHeld (heldBoth m k) m k s | false ↦ ran 0 TooLong k ]
+running m k s = elim (leb (length s) longest) [ true ↦ runWhereHeld (heldBoth m k) m k s | false ↦ ran 0 TooLong k ]

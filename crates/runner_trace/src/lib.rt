@@ -3,16 +3,16 @@ ghost use mathlib.Core.Path.{_≡_};
 ghost use mathlib.Core.Bool.{true};
 ghost use Prim.Native.Nat.{_≤_};
 ghost use lib.ListN.{length, drop};
-ghost use Rattle.model.specs.Held.{Sized};
+ghost use Rattle.model.specs.Held.{SizedModel};
 ghost use Rattle.model_packed.specs.Packed.{modelIn};
 ghost use Rattle.marking.specs.Sizes.{sizesIn};
 ghost use Rattle.reader.specs.Answers.{longest, heldBoth};
-ghost use Rattle.runner_trace.specs.Parts.{turnOf, Fits, progressOf, Ready, turnAt, reached};
+ghost use Rattle.runner_trace.specs.Parts.{turnOf, TurnFits, progressOf, Ready, turnAt, reached};
 ghost use Rattle.runner_trace.specs.Running.{ran, runFrom, running};
 use marking::Marking;
 use marking_test::sizes;
 use model::Model;
-use model_packed::flatten;
+use model_packed::pack;
 use reader::test_marking;
 use runner::StepAnswer;
 use runner::lent::step_on;
@@ -75,7 +75,7 @@ fn turn_of(answer: StepAnswer) -> Turn
 
 // How far a run at `at` has come after its next turn, where `fired` steps fired before.
 fn progress_of(at: usize, fired: usize, len: usize, turn: Turn) -> Progress
-    requires { ⌜ Fits at fired turn ⌝ }
+    requires { ⌜ TurnFits at fired turn ⌝ }
     ensures { λ r. ⌜ r ≡ progressOf at fired len turn ⌝ }
 {
     match turn {
@@ -160,9 +160,9 @@ fn steps_at(
     p
 }
 
-// The steps from `from` to the end of the text or the first stop, on a held marking of a held model that is laid flat.
-fn steps_of(plan: &[u8], sizes: [u8; 32], k: Marking, s: &[u8], from: usize) -> Ran
-    requires { ⌜ (length (now plan) ≡ 34996) × Sized (modelIn (now plan)) × (heldBoth (modelIn (now plan)) k ≡ true)
+// The steps from `from` to the end of the text or the first stop, on a held marking of a held model that is packed.
+fn run_steps(plan: &[u8], sizes: [u8; 32], k: Marking, s: &[u8], from: usize) -> Ran
+    requires { ⌜ (length (now plan) ≡ 34996) × SizedModel (modelIn (now plan)) × (heldBoth (modelIn (now plan)) k ≡ true)
         × (sizes ≡ sizesIn (modelIn (now plan))) × (length (now s) ≤ longest) ⌝ }
     ensures { λ r. ⌜ r ≡ runFrom (length (now (s .entry))) (modelIn (now (plan .entry))) k (drop from (now (s .entry))) 0 ⌝ }
 {
@@ -212,8 +212,8 @@ fn run_at(m: Model, k: Marking, s: &[u8], at: usize) -> Ran
         return refused(Stop::Faulty { why: 2, line: 1 }, k);
     };
     let mut plan = [0u8; 34996];
-    flatten(m, &mut plan);
-    steps_of(&plan, sizes(m), k, rest, next)
+    pack(m, &mut plan);
+    run_steps(&plan, sizes(m), k, rest, next)
 }
 
 // The run over the trace that stands at the place that the reader has reached.

@@ -12,7 +12,7 @@ use borrow.Author.Count.{below-more}
 use borrow.Author.Tests.{le-leb, lt-leb}
 use Rattle.eos.specs.Spread.{binomial, spread}
 use Rattle.eos.proofs.SpreadLaws.{spread-more}
-use Rattle.spread.specs.Call.{spreadCall, spreads, rowOf}
+use Rattle.spread.specs.Call.{spreadCall, spreads, spreadRow}
 use Rattle.spread.specs.declared.Spread.the-variants.{Ways, TokensOver, RacksOver}
 
 -- ---- the bound
@@ -58,17 +58,17 @@ spreads-at t j zero i h = absurd (omega arith)
 spreads-at t j (suc n) zero h = rw (add-zero j)
 spreads-at t j (suc n) (suc i) h = spreads-at t (suc j) n i (omega arith) ∙ rw (suc-add j i, add-suc j i)
 
-pub row-at : (t i : ℕ) → i < 17 → getD (rowOf t) i 0 ≡ spread t i
-unfolding rowOf
+pub row-at : (t i : ℕ) → i < 17 → getD (spreadRow t) i 0 ≡ spread t i
+unfolding spreadRow
 row-at t i h = spreads-at t 0 17 i h ∙ rw (zero-add i)
 
-pub row-is : (t : ℕ) (l : List ℕ) → length l ≡ 17 → ((i : ℕ) → i < 17 → getD l i 0 ≡ spread t i) → l ≡ rowOf t
-unfolding rowOf
+pub row-is : (t : ℕ) (l : List ℕ) → length l ≡ 17 → ((i : ℕ) → i < 17 → getD l i 0 ≡ spread t i) → l ≡ spreadRow t
+unfolding spreadRow
 row-is t l e h = ext-getD 0 l (spreads t 0 17) (e ∙ sym (spreads-length t 0 17)) (λ i b. h i (omega arith) ∙ sym (row-at t i (omega arith)))
 
 -- the row of no token: one way for each number of racks
-pub first-row : replicate 17 1 ≡ rowOf 0
-unfolding rowOf spreads spread binomial
+pub first-row : replicate 17 1 ≡ spreadRow 0
+unfolding spreadRow spreads spread binomial
 first-row = refl
 
 -- ---- the start: of the empty row entry 0 is already right
@@ -79,7 +79,7 @@ start-row t (suc i) h = absurd (omega arith)
 
 -- ---- one turn: the entries below j are those of t + 1 tokens, and entry j becomes so too
 
-pub turn-sum : (t j : ℕ) (row next : List ℕ) → row ≡ rowOf t → 1 ≤ j → j < 17 → ((i : ℕ) → i < j → getD next i 0 ≡ spread (t + 1) i) →
+pub turn-sum : (t j : ℕ) (row next : List ℕ) → row ≡ spreadRow t → 1 ≤ j → j < 17 → ((i : ℕ) → i < j → getD next i 0 ≡ spread (t + 1) i) →
     getD row j 0 + getD next (j - 1) 0 ≡ spread (t + 1) j
 turn-sum t j row next e above below h =
     let old : getD row j 0 ≡ spread t j = rw e (row-at t j below) in
@@ -104,6 +104,6 @@ pub call-racks : (n k : ℕ) → n ≤ 31 → 16 < k → RacksOver ≡ spreadCal
 unfolding spreadCall
 call-racks n k few h = rw (le-leb n 31 few, lt-leb k 16 h, spreadCall)
 
-pub call-ways : (n k : ℕ) (row : List ℕ) → n ≤ 31 → k ≤ 16 → row ≡ rowOf n → Ways (getD row k 0) ≡ spreadCall n k
+pub call-ways : (n k : ℕ) (row : List ℕ) → n ≤ 31 → k ≤ 16 → row ≡ spreadRow n → Ways (getD row k 0) ≡ spreadCall n k
 unfolding spreadCall
 call-ways n k row few some e = rw (e, row-at n k (omega arith), le-leb n 31 few, le-leb k 16 some, spreadCall)

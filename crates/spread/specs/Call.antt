@@ -28,5 +28,5 @@ spreads t j zero = []
 spreads t j (suc n) = spread t j ∷ spreads t (suc j) n
 
 -- the row of t tokens: the spreads among 0 to 16 racks
-unfoldable pub rowOf : ℕ → List ℕ
-rowOf t = spreads t 0 17
+unfoldable pub spreadRow : ℕ → List ℕ
+spreadRow t = spreads t 0 17

@@ -1,7 +1,7 @@
 // The spread: the number of ordered ways to share n like tokens among k racks.
 ghost use mathlib.Core.Path.{_≡_};
 ghost use Prim.Native.Nat.{_+_, _≤_, _<_};
-ghost use Rattle.spread.specs.Call.{rowOf, spreadCall};
+ghost use Rattle.spread.specs.Call.{spreadRow, spreadCall};
 
 // What the call answers: the number of ways, or which of the two numbers is too large.
 pub enum Spread {
@@ -14,8 +14,8 @@ pub enum Spread {
 // a token in the last rack (the old entry j) and those that have none there (the new entry j - 1).
 // t is passed so that the contract can name the row.
 fn next_row(row: [u64; 17], t: usize) -> [u64; 17]
-    requires { ⌜ t < 31 ⌝ ∗ ⌜ row ≡ rowOf t ⌝ }
-    ensures { λ r. ⌜ r ≡ rowOf (t + 1) ⌝ }
+    requires { ⌜ t < 31 ⌝ ∗ ⌜ row ≡ spreadRow t ⌝ }
+    ensures { λ r. ⌜ r ≡ spreadRow (t + 1) ⌝ }
 {
     let mut next: [u64; 17] = [0; 17];
     let mut j: usize = 1;
@@ -27,9 +27,9 @@ fn next_row(row: [u64; 17], t: usize) -> [u64; 17]
 }
 
 // The row of n tokens: entry j is the spread among j racks.
-fn row_of(n: usize) -> [u64; 17]
+fn spread_row(n: usize) -> [u64; 17]
     requires { ⌜ n ≤ 31 ⌝ }
-    ensures { λ r. ⌜ r ≡ rowOf n ⌝ }
+    ensures { λ r. ⌜ r ≡ spreadRow n ⌝ }
 {
     let mut row: [u64; 17] = [1; 17];
     let mut t: usize = 0;
@@ -51,6 +51,6 @@ pub fn ways(n: usize, k: usize) -> Spread
     if k > 16 {
         return Spread::RacksOver;
     }
-    let row = row_of(n);
+    let row = spread_row(n);
     Spread::Ways { value: row[k] }
 }

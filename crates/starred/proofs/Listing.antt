@@ -3,9 +3,8 @@ use Prim.Native.Nat.{ℕ}
 use mathlib.Core.Path.{_≡_, refl, ap, sym, _∙_}
 use mathlib.Core.Bool.{Bool, true, false}
 use mathlib.Core.List.{List, [], _∷_, map}
-use mathlib.Core.Option.{some}
 use lib.ListN.{getD}
-use Rattle.text.specs.Bytes.{Text, bytes}
+use Rattle.text.specs.Bytes.{Text}
 use Rattle.eos.specs.Model as eos
 use Rattle.model.specs.Held.{holdModel}
 use Rattle.model.specs.declared.Model.{Model}
@@ -16,7 +15,7 @@ use Rattle.reader.specs.declared.ReadAnswer.the-variants.{Accepted}
 use Rattle.keeper.specs.Answers.{weightChecking}
 use Rattle.keeper.specs.declared.Sum.{Sum}
 use Rattle.keeper.specs.declared.WeightAnswer.the-variants.{Passed}
-use Rattle.promises.specs.WholeRun.{stepIn, brings, ownFired, leftBy, answersOf, saysFired, Covered, WholeRun}
+use Rattle.promises.specs.WholeRun.{ownFired, leftBy, answersOf, saysFired, Covered, WholeRun}
 use Rattle.starred.specs.Texts.{listed, listedWeights, firstStep, secondStep}
 use Rattle.promises.proofs.WholeRunLaws.{whole-run}
 use Rattle.starred.proofs.Opened.{opened}
@@ -80,8 +79,3 @@ pub covered-exists : (text : Text) × (file : Text) × (m : Model) × (k : Marki
     × Covered text file m k sum × (getD (map saysFired (answersOf m k texts)) 0 false ≡ true)
 covered-exists =
     (listed, listedWeights, model, start, sum, steps, listing-covered, ap (λ (l : List Bool). getD l 0 false) (listing-steps .0))
-
--- a number over a limit brings the rule's run a step all the same
-pub large-brings : brings plant (bytes "fire=2\ntake=0\ngive=1\ntoken=2:70000,0\n") ≡ some (record { event = 1; taken = []; given = token 1 (70000 ∷ 0 ∷ []) ∷ [] })
-unfolding opened stepIn brings
-large-brings = refl

@@ -20,14 +20,14 @@ use Rattle.model_text.specs.Reading.{readSides, readNet, readIdle, readMove, re
 use Rattle.marking.specs.Held.{holdMarking, tokensOf, rightRow, heldMarking}
 use Rattle.marking.specs.Reading.{readNetToken, readBlock}
 use Rattle.marking.specs.Printed.{netTokenText, blockText}
-use Rattle.reader.specs.Reading.{readEnd, readLines, readModel, readModelAt}
+use Rattle.reader.specs.Reading.{readEnd, readLines, readModelAt}
 use Rattle.marking.specs.Sizes.{sizesIn}
-use Rattle.reader.specs.Answers.{heldBoth, loaded, modelReading, modelFrom}
+use Rattle.reader.specs.Answers.{heldBoth, loaded, modelFrom}
 use Rattle.step.specs.Reading.{readStep}
-use Rattle.runner.specs.Answers.{judged, readThen, tried}
-use Rattle.runner_trace.specs.Running.{onward, runFrom, headed, whereHeld, running}
-use Rattle.keeper.specs.Reading.{readInner, readWeightsAt, readWeightFile}
-use Rattle.keeper.specs.Answers.{turnedOr, judgedWeights, weighed, weightsOr, weightChecking, weightsFrom}
+use Rattle.runner.specs.Answers.{stepJudged, readThen, tried}
+use Rattle.runner_trace.specs.Running.{onward, runFrom, headed, runWhereHeld, running}
+use Rattle.keeper.specs.Reading.{readInner, readWeightsAt}
+use Rattle.keeper.specs.Answers.{turnedOr, judgedWeights, weighed, weightsOr, weightsFrom}
 use Rattle.listing.specs.Listing.{modelFile, weightsFile, traceFile, pairText, pairThen, sumText, coverText, runText, afterModel, listingText}
 
 -- the files of 01's listing
@@ -49,9 +49,9 @@ pub listing-cases :
 unfolding listingText afterModel runText coverText sumText pairThen pairText traceFile weightsFile modelFile modelFrom loaded readModelAt readLines readEnd
     readPlant readEvent readSync readAct readMove readIdle readNet readSides keepsTypes
     weightsFrom weightsOr weighed judgedWeights turnedOr weightRefusal readWeightsAt readInner readWeights effect value weigh covers
-    running whereHeld headed runFrom onward heldBoth heldModel heldTypes heldMoves heldNets heldNet heldEvents heldEvent emptyEvent heldAct emptyPast monotonous
+    running runWhereHeld headed runFrom onward heldBoth heldModel heldTypes heldMoves heldNets heldNet heldEvents heldEvent emptyEvent heldAct emptyPast monotonous
     touches takesPart heldMarking rightRow holdModel holdNet holdNets holdEvent holdEvents tabled fill padded holdMarking modelOf netOf eventOf tokensOf sizesIn
-    tried readThen judged readStep readBlock readNetToken readToken tokenAt countsAt readHead readNumber readList behind lines.judged many manyAt need then listEnd
+    tried readThen stepJudged readStep readBlock readNetToken readToken tokenAt countsAt readHead readNumber readList behind lines.judged many manyAt need then listEnd
     items item before ended stopOf number numberOf digits plainly negated signed starts newlines refusal causes first unless at outerTaken outerGiven innerTaken
     innerGiven outer inner outerOf innerOf blockText netTokenText numberText listText weightsText tokenText texts endText itemsText signedText decimal decimalOf
 listing-cases = (refl, refl, refl, refl)

@@ -19,14 +19,14 @@ use Rattle.model_text.specs.Reading.{readSides, readNet, readIdle, readMove, re
 use Rattle.marking.specs.Held.{holdMarking, tokensOf, rightRow, heldMarking}
 use Rattle.marking.specs.Printed.{netTokenText, blockText, markingText}
 use Rattle.marking.specs.Reading.{readNetToken, readBlock}
-use Rattle.reader.specs.Reading.{readEnd, readLines, readModel, readMarking, readModelAt}
+use Rattle.reader.specs.Reading.{readEnd, readLines, readModelAt}
 use Rattle.marking.specs.Sizes.{sizesIn}
 use Rattle.reader.specs.Answers as reader
-use Rattle.reader.specs.Answers.{loaded, modelReading, restored, markingReading, heldBoth, modelFrom, markingFrom}
+use Rattle.reader.specs.Answers.{loaded, restored, heldBoth, modelFrom, markingFrom}
 use Rattle.step.specs.Reading.{readStep}
-use Rattle.runner.specs.Answers.{judged, readThen, tried, stepped, heldStep, whereHeld, stepping}
-use Rattle.keeper.specs.Reading.{readInner, readWeightsAt, readWeightFile}
-use Rattle.keeper.specs.Answers.{turnedOr, judgedWeights, weighed, weightsOr, weightChecking, weightsFrom}
+use Rattle.runner.specs.Answers.{stepJudged, readThen, tried, stepped, heldStep, whereHeld, stepping}
+use Rattle.keeper.specs.Reading.{readInner, readWeightsAt}
+use Rattle.keeper.specs.Answers.{turnedOr, judgedWeights, weighed, weightsOr, weightsFrom}
 use Rattle.spread.specs.Call.{spreadCall}
 
 -- numbers, lists, lines
@@ -60,6 +60,6 @@ written = tt
 
 -- the calls
 unfoldable pub opened : Unit {0}
-unfolding lined read held ruled written loaded modelFrom restored reader.markingOr markingFrom judged readThen tried stepped heldStep whereHeld stepping
+unfolding lined read held ruled written loaded modelFrom restored reader.markingOr markingFrom stepJudged readThen tried stepped heldStep whereHeld stepping
     turnedOr judgedWeights weighed weightsOr weightsFrom spreadCall
 opened = tt

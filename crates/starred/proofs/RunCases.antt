@@ -24,8 +24,8 @@ use Rattle.marking.specs.Reading.{readNetToken, readBlock}
 use Rattle.step.specs.Reading.{readStep}
 use Rattle.runner.specs.declared.StepAnswer.the-variants.{Turned}
 use Rattle.runner_trace.specs.declared.Stop.the-variants as stop
-use Rattle.runner.specs.Answers.{fires, stops, judged, readThen, tried}
-use Rattle.runner_trace.specs.Running.{ran, onward, runFrom, headed, whereHeld, running}
+use Rattle.runner.specs.Answers.{fires, stops, stepJudged, readThen, tried}
+use Rattle.runner_trace.specs.Running.{ran, onward, runFrom, headed, runWhereHeld, running}
 
 abbrev along : Transition
 along = record { pre = 1 ∷ 0 ∷ []; post = 0 ∷ 1 ∷ [] }
@@ -49,7 +49,7 @@ pub step-cases :
     (tried listing (sizesOf listing) start (bytes "fire=1\ntake=1\ntoken=1:1,0\ngive=1\ntoken=2:0,1\n")
     ≡ fires 45 (token 0 (0 ∷ 0 ∷ []) ∷ token 1 (0 ∷ 1 ∷ []) ∷ []))
     × (tried listing (sizesOf listing) start (bytes "fire=1\ntake=1\ntoken=1:0,0\ngive=1\ntoken=2:0,0\n") ≡ stops (Turned 9 1))
-unfolding tried readThen judged readStep readBlock readNetToken readToken tokenAt countsAt readNumber behind lines.judged many need then listEnd items item before
+unfolding tried readThen stepJudged readStep readBlock readNetToken readToken tokenAt countsAt readNumber behind lines.judged many need then listEnd items item before
     ended stopOf number numberOf digits starts refusal causes first unless at outerTaken outerGiven innerTaken innerGiven outer inner outerOf innerOf
 step-cases = (refl, refl)
 
@@ -58,8 +58,8 @@ pub run-case :
     running (holdModel listing) (holdMarking start)
     (bytes "run=1\nfire=1\ntake=1\ntoken=1:1,0\ngive=1\ntoken=2:0,1\nfire=1\ntake=1\ntoken=1:0,0\ngive=1\ntoken=2:0,0\n")
     ≡ ran 1 (stop.Turned 9 1) (holdMarking (token 0 (0 ∷ 0 ∷ []) ∷ token 1 (0 ∷ 1 ∷ []) ∷ []))
-unfolding running whereHeld headed runFrom onward heldBoth heldModel heldTypes heldMoves heldNets heldNet heldEvents heldEvent emptyEvent heldAct emptyPast monotonous
+unfolding running runWhereHeld headed runFrom onward heldBoth heldModel heldTypes heldMoves heldNets heldNet heldEvents heldEvent emptyEvent heldAct emptyPast monotonous
     touches takesPart heldMarking rightRow holdModel holdNet holdNets holdEvent holdEvents tabled fill padded holdMarking modelOf netOf eventOf tokensOf sizesIn
-    tried readThen judged readStep readBlock readNetToken readToken tokenAt countsAt readHead readNumber behind lines.judged many need then listEnd items item
+    tried readThen stepJudged readStep readBlock readNetToken readToken tokenAt countsAt readHead readNumber behind lines.judged many need then listEnd items item
     before ended stopOf number numberOf digits starts refusal causes first unless at outerTaken outerGiven innerTaken innerGiven outer inner outerOf innerOf
 run-case = refl

@@ -36,57 +36,57 @@ pub data Input : Type 0 where
   spread : ℕ → ℕ → Input
 
 -- what comes of it: 01's number, what stands beside it, and what is given
-pub data Outcome : Type 0 where
+pub data Result : Type 0 where
   -- the model or the marking is refused
-  unread : Refusal → Outcome
+  unread : Refusal → Result
   -- the sum, and the cover
-  ofWeights : Refusal → Sum → Bool → Outcome
+  ofWeights : Refusal → Sum → Bool → Result
   -- the marking after the step, as it is written
-  ofStep : Refusal → Text → Outcome
+  ofStep : Refusal → Text → Result
   -- the number of ways
-  ofSpread : Refusal → ℕ → Outcome
+  ofSpread : Refusal → ℕ → Result
 
 -- ---- what the definitions give
 
 -- a refused reading ends a case
-unfoldable pub onceRead : ReadAnswer → Outcome → Outcome
+unfoldable pub onceRead : ReadAnswer → Result → Result
 onceRead Accepted o = o
 onceRead TooLong o = unread (readPair TooLong)
 onceRead NotHeld o = unread (readPair NotHeld)
 onceRead (Faulty why line) o = unread (readPair (Faulty why line))
 
-unfoldable pub checked : WeightCheck → Outcome
+unfoldable pub checked : WeightCheck → Result
 checked c = ofWeights (weightPair (c .answer)) (c .sum) (c .cover)
 
-unfoldable pub stepped : Model → Stepped → Outcome
-stepped m r = ofStep (stepPair (r .answer)) (markingText (tokensOf (sizesFor m) (r .marking)))
+unfoldable pub stepOutcome : Model → Stepped → Result
+stepOutcome m r = ofStep (stepPair (r .answer)) (markingText (tokensOf (sizesFor m) (r .marking)))
 
-unfoldable pub counted : Spread → Outcome
+unfoldable pub counted : Spread → Result
 counted a = ofSpread (spreadPair a) (spreadValue a)
 
 -- once the model is read, and once the marking is
-unfoldable pub checkFor : Text → ModelReading → Outcome
+unfoldable pub checkFor : Text → ModelReading → Result
 checkFor file r = onceRead (r .answer) (checked (weightChecking (r .model) (r .start) file))
 
-unfoldable pub stepOn : Text → Model → MarkingReading → Outcome
-stepOn text m r = onceRead (r .answer) (stepped m (stepping m (r .marking) text))
+unfoldable pub stepOn : Text → Model → MarkingReading → Result
+stepOn text m r = onceRead (r .answer) (stepOutcome m (stepping m (r .marking) text))
 
-unfoldable pub stepFor : Text → Text → ModelReading → Outcome
+unfoldable pub stepFor : Text → Text → ModelReading → Result
 stepFor marking text r = onceRead (r .answer) (stepOn text (r .model) (markingReading (r .model) marking))
 
-unfoldable pub outcomeOf : Input → Outcome
+unfoldable pub outcomeOf : Input → Result
 outcomeOf (weights model file) = checkFor file (modelReading model)
 outcomeOf (step model marking text) = stepFor marking text (modelReading model)
 outcomeOf (spread n k) = counted (spreadCall n k)
 
 -- ---- the rows
 
-pub record Row : Type 0 where
+pub record Case : Type 0 where
   pub input : Input
-  pub outcome : Outcome
+  pub outcome : Result
 
 infix 2 _gives_
-abbrev pub _gives_ : Input → Outcome → Row
+abbrev pub _gives_ : Input → Result → Case
 i gives o = record { input = i; outcome = o }
 
 -- accepted, passed, fired
@@ -123,14 +123,14 @@ abbrev pub listedAfter : Text
 listedAfter = bytes "start=2\ntoken=1:0,0\ntoken=2:0,1\n"
 
 -- "That model and weights: sum 3, cover 1. Outer weights 1,0: event 1 gives 7, beside it 1"
-abbrev pub listedWeighings : List Row
+abbrev pub listedWeighings : List Case
 listedWeighings =
     (weights listed listedWeights gives ofWeights fine (amount 3) true)
     ∷ (weights listed (bytes "inv=1\nouter=1,0\ninner=1,1\n") gives ofWeights (pair 7 1) (amount 0) false)
     ∷ []
 
 -- "First step above fires. Second is 9, net 1. Giving 2:1,0 in the first is 10, net 1"
-abbrev pub listedSteps : List Row
+abbrev pub listedSteps : List Case
 listedSteps =
     (step listed listedStart firstStep gives ofStep fine listedAfter)
     ∷ (step listed listedAfter secondStep gives ofStep (pair 9 1) listedAfter)
@@ -139,7 +139,7 @@ listedSteps =
 
 -- "Taking 1:1,0 where the marking has only 1:0,1, all else right: 11"; its token line is the third.
 -- "Two racks taken, insides 1,0 and 0,1, with an inner pre of 1,1: allowed"
-abbrev pub insides : List Row
+abbrev pub insides : List Case
 insides =
     (step listed (bytes "start=1\ntoken=1:0,1\n") firstStep gives ofStep (pair 11 3) (bytes "start=1\ntoken=1:0,1\n"))
     ∷ (step twoRacks (bytes "start=2\ntoken=1:1,0\ntoken=1:0,1\n") (bytes "fire=1\ntake=2\ntoken=1:1,0\ntoken=1:0,1\ngive=2\ntoken=2:0,0\ntoken=2:0,1\n")
@@ -147,20 +147,20 @@ insides =
     ∷ []
 
 -- "A move with empty pre and one typed place in post gives an empty rack; an inside of 1 without a sync is 10"
-abbrev pub newRacks : List Row
+abbrev pub newRacks : List Case
 newRacks =
     (step newRack (bytes "start=0\n") (bytes "fire=1\ntake=0\ngive=1\ntoken=1:0\n") gives ofStep fine (bytes "start=1\ntoken=1:0\n"))
     ∷ (step newRack (bytes "start=0\n") (bytes "fire=1\ntake=0\ngive=1\ntoken=1:1\n") gives ofStep (pair 10 1) (bytes "start=0\n"))
     ∷ []
 
 -- "256 racks, empty but for one token in one of them": "Outer 2, inner 1 gives 513, cover 1"
-abbrev pub fullHallWeighing : List Row
+abbrev pub fullHallWeighing : List Case
 fullHallWeighing = (weights fullHall (bytes "inv=1\nouter=2\ninner=1\n") gives ofWeights fine (amount 513) true) ∷ []
 
 -- "Spread: (0,0) is 1, (3,0) is 0, (2,3) is 6"
-abbrev pub spreads : List Row
-spreads = (spread 0 0 gives ofSpread fine 1) ∷ (spread 3 0 gives ofSpread fine 0) ∷ (spread 2 3 gives ofSpread fine 6) ∷ []
+abbrev pub spreadCases : List Case
+spreadCases = (spread 0 0 gives ofSpread fine 1) ∷ (spread 3 0 gives ofSpread fine 0) ∷ (spread 2 3 gives ofSpread fine 6) ∷ []
 
 -- all starred cases
-abbrev pub rows : List Row
-rows = listedWeighings ++ (listedSteps ++ (insides ++ (newRacks ++ (fullHallWeighing ++ spreads))))
+abbrev pub rows : List Case
+rows = listedWeighings ++ (listedSteps ++ (insides ++ (newRacks ++ (fullHallWeighing ++ spreadCases))))

@@ -20,7 +20,7 @@ use Rattle.eos.proofs.CauseLaws.{no-cause-fires}
 use Rattle.model.specs.Rules.{rightModel}
 use Rattle.model.proofs.RuleLaws.{right-is, few-places}
 use Rattle.model.proofs.PaddedRows.{eq-padded}
-use Rattle.marking.specs.Held.{rowOf}
+use Rattle.marking.specs.Held.{tokenRow}
 use Rattle.step.specs.Rule.{holdSides, holdRule}
 use Rattle.step.specs.Verdict.{outerRows, innerTakenIn, innerGivenIn, causesIn}
 use Rattle.step.proofs.FirstFailing.{failing-same}
@@ -52,7 +52,7 @@ no-more n k = rw (le-leb n n (omega arith))
 module _ (m : Model) (right : rightModel m ≡ true) (s : Step) (of : StepOf m s) where
   -- both outer tests
   outer-same : (side : _) → Side side → (l : Marking) → T (M.every (proper m) l)
-      → eqV (outerRows (map rowOf l)) (holdSides side m (event m (s .event)) .outer) ≡ eqV (outer m l) (outerOf side m (event m (s .event)))
+      → eqV (outerRows (map tokenRow l)) (holdSides side m (event m (s .event)) .outer) ≡ eqV (outer m l) (outerOf side m (event m (s .event)))
   unfolding holdSides
   outer-same side f l h =
       let a = outer-long m right l h in
@@ -60,7 +60,7 @@ module _ (m : Model) (right : rightModel m ≡ true) (s : Step) (of : StepOf m s
       rw (outer-rows m right l h) (eq-padded (outer m l) (outerOf side m (event m (s .event))) (a ∙ sym b) (omega (arith, few-places m (right-is m right))))
 
   -- the tests of net n
-  taken-at : (n : ℕ) → n < length (m .nets) → innerTakenIn (holdRule m (s .event)) (map rowOf (s .taken)) n ≡ innerTaken m (event m (s .event)) (s .taken) n
+  taken-at : (n : ℕ) → n < length (m .nets) → innerTakenIn (holdRule m (s .event)) (map tokenRow (s .taken)) n ≡ innerTaken m (event m (s .event)) (s .taken) n
   unfolding innerTakenIn innerTaken holdRule
   taken-at n k =
       let ev = event m (s .event) in
@@ -70,7 +70,7 @@ module _ (m : Model) (right : rightModel m ≡ true) (s : Step) (of : StepOf m s
       (omega (arith, inner-long m right n k (s .taken) (of .taken))))
 
   given-at : (n : ℕ) → n < length (m .nets)
-      → innerGivenIn (holdRule m (s .event)) (map rowOf (s .taken)) (map rowOf (s .given)) n ≡ innerGiven m (event m (s .event)) (s .taken) (s .given) n
+      → innerGivenIn (holdRule m (s .event)) (map tokenRow (s .taken)) (map tokenRow (s .given)) n ≡ innerGiven m (event m (s .event)) (s .taken) (s .given) n
   unfolding innerGivenIn innerGiven holdRule
   given-at n k =
       let ev = event m (s .event) in
@@ -115,24 +115,24 @@ module _ (m : Model) (right : rightModel m ≡ true) (s : Step) (of : StepOf m s
         omega (arith, length-append (M.less like μ (s .taken)) (s .given), length-less like alike (s .taken) μ w)
 
     -- the same tests over rows
-    rows-are : T (M.every (proper m) μ) → causesIn (holdRule m (s .event)) (map rowOf (s .taken)) (map rowOf (s .given)) (map rowOf μ)
+    rows-are : T (M.every (proper m) μ) → causesIn (holdRule m (s .event)) (map tokenRow (s .taken)) (map tokenRow (s .given)) (map tokenRow μ)
         ≡ before ++ (unless (leb (length μ - length (s .taken) + length (s .given)) 256) 12 (3 + length (s .taken)) ∷ [])
     unfolding causesIn holdRule outerTaken outerGiven
     rows-are h =
         let q = holdRule m (s .event) in
         let ev = event m (s .event) in
-        let taken = map rowOf (s .taken) in
-        let given = map rowOf (s .given) in
+        let taken = map tokenRow (s .taken) in
+        let given = map tokenRow (s .given) in
         let o : eqV (outerRows taken) (holdSides pre m ev .outer) ≡ outerTaken m ev (s .taken) = outer-same pre pre-side (s .taken) (of .taken) in
         let p : eqV (outerRows given) (holdSides post m ev .outer) ≡ outerGiven m ev (s .given) = outer-same post post-side (s .given) (of .given) in
         let a = failing-same (length (m .nets)) 0 (innerTakenIn q taken) (innerTaken m ev (s .taken)) (λ i k. taken-at i (omega arith)) in
         let b = failing-same (length (m .nets)) 0 (innerGivenIn q taken given) (innerGiven m ev (s .taken) (s .given)) (λ i k. given-at i (omega arith)) in
         let l = lacking-rows m right μ 2 [] (s .taken) h tt (of .taken) in
-        rw (o, p, a, b, l, length-map (s .taken) rowOf, length-map (s .given) rowOf, length-map μ rowOf)
+        rw (o, p, a, b, l, length-map (s .taken) tokenRow, length-map (s .given) tokenRow, length-map μ tokenRow)
 
   -- the rows meet the cause that the step meets
   pub causes-are : (μ : Marking) → T (M.every (proper m) μ)
-      → first (causesIn (holdRule m (s .event)) (map rowOf (s .taken)) (map rowOf (s .given)) (map rowOf μ)) ≡ refusal 256 m s μ
+      → first (causesIn (holdRule m (s .event)) (map tokenRow (s .taken)) (map tokenRow (s .given)) (map tokenRow μ)) ≡ refusal 256 m s μ
   causes-are μ h =
       let give = 3 + length (s .taken) in
       ap first (rows-are μ h)

@@ -14,7 +14,7 @@ use Rattle.eos.proofs.MultisetLaws.{within-yes, within-all}
 use Rattle.eos.proofs.VectorLaws.{vectors}
 use Rattle.eos.proofs.FiringLaws.{alike}
 use Rattle.marking.specs.Rows.{Row, laid}
-use Rattle.marking.specs.Held.{Sizes, rowOf}
+use Rattle.marking.specs.Held.{Sizes, tokenRow}
 use Rattle.marking.proofs.RowOrder.{Fitting, All, none, more, map-canonical}
 use Rattle.marking.proofs.CountLaws.{like-rows, count-rows}
 
@@ -30,23 +30,23 @@ module _ (z : Sizes) where
       go false r = more g r
 
   map-without : (t : eos.NetToken) (μ : eos.Marking) → Fitting z t → All z μ
-      → map rowOf (M.without eos.like t μ) ≡ M.without eqV (rowOf t) (map rowOf μ)
+      → map tokenRow (M.without eos.like t μ) ≡ M.without eqV (tokenRow t) (map tokenRow μ)
   map-without t [] f none = refl
   map-without t (u ∷ μ) f (more g a) = go (eos.like t u) (like-rows z t u f g) (map-without t μ f a)
     where
-      go : (b : Bool) → eqV (rowOf t) (rowOf u) ≡ b → map rowOf (M.without eos.like t μ) ≡ M.without eqV (rowOf t) (map rowOf μ)
-          → map rowOf (cond b μ (u ∷ M.without eos.like t μ)) ≡ M.without eqV (rowOf t) (rowOf u ∷ map rowOf μ)
+      go : (b : Bool) → eqV (tokenRow t) (tokenRow u) ≡ b → map tokenRow (M.without eos.like t μ) ≡ M.without eqV (tokenRow t) (map tokenRow μ)
+          → map tokenRow (cond b μ (u ∷ M.without eos.like t μ)) ≡ M.without eqV (tokenRow t) (tokenRow u ∷ map tokenRow μ)
       go true e r = rw e
-      go false e r = rw e (ap (λ (l : List Row). rowOf u ∷ l) r)
+      go false e r = rw e (ap (λ (l : List Row). tokenRow u ∷ l) r)
 
   all-less : (l μ : eos.Marking) → All z μ → All z (M.less eos.like μ l)
   all-less [] μ a = a
   all-less (t ∷ l) μ a = all-less l (M.without eos.like t μ) (all-without t μ a)
 
-  pub map-less : (l μ : eos.Marking) → All z l → All z μ → map rowOf (M.less eos.like μ l) ≡ M.less eqV (map rowOf μ) (map rowOf l)
+  pub map-less : (l μ : eos.Marking) → All z l → All z μ → map tokenRow (M.less eos.like μ l) ≡ M.less eqV (map tokenRow μ) (map tokenRow l)
   map-less [] μ none a = refl
   map-less (t ∷ l) μ (more f b) a =
-      map-less l (M.without eos.like t μ) b (all-without t μ a) ∙ ap (λ (m : List Row). M.less eqV m (map rowOf l)) (map-without t μ f a)
+      map-less l (M.without eos.like t μ) b (all-without t μ a) ∙ ap (λ (m : List Row). M.less eqV m (map tokenRow l)) (map-without t μ f a)
 
   all-append : (μ ν : eos.Marking) → All z μ → All z ν → All z (μ ++ ν)
   all-append [] ν none b = b
@@ -56,26 +56,26 @@ module _ (z : Sizes) where
 
   -- the tests of containment agree, net-token by net-token
   every-rows : (l taken μ : eos.Marking) → All z l → All z taken → All z μ
-      → M.every (λ r. leb (M.count eqV r (map rowOf taken)) (M.count eqV r (map rowOf μ))) (map rowOf l)
+      → M.every (λ r. leb (M.count eqV r (map tokenRow taken)) (M.count eqV r (map tokenRow μ))) (map tokenRow l)
       ≡ M.every (λ t. leb (M.count eos.like t taken) (M.count eos.like t μ)) l
   every-rows [] taken μ none a b = refl
   every-rows (t ∷ l) taken μ (more f c) a b = rw (count-rows z t taken f a, count-rows z t μ f b, every-rows l taken μ c a b)
 
   -- the taken net-tokens are in the marking exactly where their rows are among its rows
-  pub within-rows : (taken μ : eos.Marking) → All z taken → All z μ → M.Within eos.like taken μ ↔ M.Within eqV (map rowOf taken) (map rowOf μ)
+  pub within-rows : (taken μ : eos.Marking) → All z taken → All z μ → M.Within eos.like taken μ ↔ M.Within eqV (map tokenRow taken) (map tokenRow μ)
   within-rows taken μ a b =
       let e = every-rows taken taken μ a a b in (
-        λ h. within-yes eqV vectors (map rowOf taken) (map rowOf μ) (rw e (within-all eos.like alike taken μ h)),
-        λ h. within-yes eos.like alike taken μ (rw e at (within-all eqV vectors (map rowOf taken) (map rowOf μ) h)),
+        λ h. within-yes eqV vectors (map tokenRow taken) (map tokenRow μ) (rw e (within-all eos.like alike taken μ h)),
+        λ h. within-yes eos.like alike taken μ (rw e at (within-all eqV vectors (map tokenRow taken) (map tokenRow μ) h)),
       )
 
   -- ---- the marking after a step
 
   pub change-is : (event : ℕ) (μ taken given : eos.Marking) → All z μ → All z taken → All z given
-      → laid (M.sort lexV (M.less eqV (map rowOf μ) (map rowOf taken) ++ map rowOf given))
-      ≡ laid (map rowOf (eos.canonical (after (record { event = event; taken = taken; given = given }) μ)))
+      → laid (M.sort lexV (M.less eqV (map tokenRow μ) (map tokenRow taken) ++ map tokenRow given))
+      ≡ laid (map tokenRow (eos.canonical (after (record { event = event; taken = taken; given = given }) μ)))
   change-is event μ taken given a b c =
       let rest = M.less eos.like μ taken in
-      let m : map rowOf (rest ++ given) ≡ M.less eqV (map rowOf μ) (map rowOf taken) ++ map rowOf given =
-      map-append rowOf rest given ∙ ap (λ (l : List Row). l ++ map rowOf given) (map-less taken μ b a) in
+      let m : map tokenRow (rest ++ given) ≡ M.less eqV (map tokenRow μ) (map tokenRow taken) ++ map tokenRow given =
+      map-append tokenRow rest given ∙ ap (λ (l : List Row). l ++ map tokenRow given) (map-less taken μ b a) in
       ap laid (ap (M.sort lexV) (sym m) ∙ sym (map-canonical z (rest ++ given) (all-append rest given (all-less taken μ a) c)))

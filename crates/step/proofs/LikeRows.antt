@@ -13,7 +13,7 @@ use Rattle.eos.specs.Causes.{lacking}
 use Rattle.eos.proofs.Basics.{and-l, and-r, and-i}
 use Rattle.model.specs.Rules.{rightModel}
 use Rattle.model.proofs.RuleLaws.{right-is, right-type}
-use Rattle.marking.specs.Held.{rowOf, sizesOf}
+use Rattle.marking.specs.Held.{tokenRow, sizesOf}
 use Rattle.marking.proofs.RowOrder.{Fitting, All, none, more}
 use Rattle.marking.proofs.CountLaws.{count-rows}
 use Rattle.step.specs.Verdict.{lackingRows}
@@ -38,7 +38,7 @@ module _ (m : Model) (right : rightModel m ≡ true) where
   all-fit (t ∷ μ) h = more (fitting t (and-l (proper m t) (M.every (proper m) μ) h)) (all-fit μ (and-r (proper m t) (M.every (proper m) μ) h))
 
   pub lacking-rows : (μ : Marking) (i : ℕ) (seen l : Marking) → T (M.every (proper m) μ) → T (M.every (proper m) seen) → T (M.every (proper m) l)
-      → lackingRows (map rowOf μ) i (map rowOf seen) (map rowOf l) ≡ lacking μ i seen l
+      → lackingRows (map tokenRow μ) i (map tokenRow seen) (map tokenRow l) ≡ lacking μ i seen l
   lacking-rows μ i seen [] a b c = refl
   lacking-rows μ i seen (t ∷ l) a b c =
       let p = and-l (proper m t) (M.every (proper m) l) c in

@@ -1,4 +1,4 @@
--- An event's sides, summed up on a model that is laid flat, are those of the model.
+-- An event's sides, summed up on a model that is packed, are those of the model.
 use Prim.Native.Nat.{ℕ, zero, suc, _+_, _-_, _*_, _≤_, _<_}
 use mathlib.Core.Path.{_≡_, refl, ap, sym, _∙_}
 use mathlib.Core.Bool.{true}
@@ -20,8 +20,8 @@ use Rattle.model.proofs.SlotLaws.{listed-at, length-listed}
 use Rattle.model.proofs.TableLaws.{row-at, length-row, rows-ext, length-tabled, tabled-row}
 use Rattle.model.proofs.HeldTests.{Held, held-is, most-nets, most-events}
 use Rattle.model_packed.specs.Packed.{netFrom, eventFrom, modelIn}
-use Rattle.step.specs.Rule.{holdRule, sidesIn, ruleIn}
-use Rattle.step.specs.RuleParts.{outerIn, sumRows, netSum, Flat, netSumIn, sideIn}
+use Rattle.step.specs.Rule.{holdRule, ruleSides, ruleIn}
+use Rattle.step.specs.RuleParts.{outerIn, sumRows, netSum, PackedEvent, netSumIn, sideIn}
 use Rattle.step.proofs.RuleHeld.{few-transitions, index-few, sidesWith, rule-is}
 use Rattle.step.proofs.ArcSums.{whole-row, outer-wide}
 
@@ -69,7 +69,7 @@ module _ (v : List ℕ) (l : List (List ℕ)) (few : length l ≤ 8) where
       row-at (take 256 (drop 32 nine)) i c (omega arith) ∙ getD-take 256 (drop 32 nine) (i * 32 + c) 0 (omega arith) ∙ getD-drop 32 nine (i * 32 + c) 0
       ∙ ap (nth nine) e ∙ sym (row-at nine (suc i) c (omega arith)))
 
-  nine-rows : sidesIn nine ≡ record { outer = padded v; inner = tabled row 256 l }
+  nine-rows : ruleSides nine ≡ record { outer = padded v; inner = tabled row 256 l }
   nine-rows =
       let n = length-tabled row 288 (v ∷ l) in
       let k : length (take 256 (drop 32 nine)) ≡ 256 = length-take-le 256 (drop 32 nine) (omega (arith, length-drop 32 nine)) in
@@ -82,7 +82,7 @@ listed-same : {A : Type 0} (f g : ℕ → A) (k n : ℕ) → ((i : ℕ) → i < 
 listed-same f g k zero h = refl
 listed-same f g k (suc n) h = rw (h k (omega arith), listed-same f g (suc k) n (λ i p. h i (omega arith)))
 
--- ---- what stands in a flat model
+-- ---- what stands in a packed model
 module _ (plan : List ℕ) where
   abbrev model : Model
   model = modelIn plan
@@ -155,8 +155,8 @@ module _ (plan : List ℕ) (e : ℕ) (long : length plan ≡ 34996) (held : held
   unfolding modelIn
   objects-long = length-listed (λ k. netFrom (drop (2084 + k * 2050) plan)) 0 8
 
-  pub flat-of : Flat plan e
-  flat-of =
+  pub packed-of : PackedEvent plan e
+  packed-of =
       let i = index-few (modelIn plan) is-held e listed-it in
       record {
         long = long;
@@ -169,10 +169,10 @@ module _ (plan : List ℕ) (e : ℕ) (long : length plan ≡ 34996) (held : held
 
   -- a side, from where its arcs stand
   side-is : (pick : ObjectNet → List ℕ) (moves arcs : ℕ) (table : List ℕ) → ((l : List ℕ) → pick (netFrom l) ≡ take 1024 (drop arcs l))
-      → take 1024 (drop moves plan) ≡ table → length table ≡ 1024 → sidesIn (sideIn plan e moves arcs) ≡ sidesWith (modelIn plan) is-held e listed-it pick table
+      → take 1024 (drop moves plan) ≡ table → length table ≡ 1024 → ruleSides (sideIn plan e moves arcs) ≡ sidesWith (modelIn plan) is-held e listed-it pick table
   unfolding sideIn
   side-is pick moves arcs table p q wide =
-      let f = flat-of in
+      let f = packed-of in
       let ev = event plan e known in
       let outer : outerIn (nth plan (18484 + e * 258)) (nth plan (18484 + e * 258 + 1)) (take 1024 (drop moves plan)) ≡ outerIn (ev .kind) (ev .index) table =
       rw (kind-in plan e known, index-in plan e known, q) in
@@ -188,7 +188,7 @@ module _ (plan : List ℕ) (e : ℕ) (long : length plan ≡ 34996) (held : held
   pub rule-in : (a b : List ℕ) → a ≡ sideIn plan e 36 2 → b ≡ sideIn plan e 1060 1026 → ruleIn plan a b ≡ holdRule (modelOf (modelIn plan)) e
   unfolding modelIn
   rule-in a b p q =
-      let x = ap sidesIn p ∙ side-is (λ o. o .pre) 36 2 (modelIn plan .pre) (λ l. refl) (pre-in plan) pre-long in
-      let y = ap sidesIn q ∙ side-is (λ o. o .post) 1060 1026 (modelIn plan .post) (λ l. refl) (post-in plan) post-long in
+      let x = ap ruleSides p ∙ side-is (λ o. o .pre) 36 2 (modelIn plan .pre) (λ l. refl) (pre-in plan) pre-long in
+      let y = ap ruleSides q ∙ side-is (λ o. o .post) 1060 1026 (modelIn plan .post) (λ l. refl) (post-in plan) post-long in
       (λ i. record { nets = modelIn plan .nets; types = modelIn plan .types; pre = x i; post = y i })
       ∙ rule-is (modelIn plan) is-held e listed-it types-long pre-long post-long

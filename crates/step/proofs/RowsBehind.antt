@@ -5,8 +5,8 @@ use mathlib.Core.List.{List, [], _∷_, _++_, append-nil}
 use native.Mathlib.Omega.{arith}
 use lib.ListN.{length, take, drop, length-append}
 use lib.Seq.{paste, take-all}
-use Rattle.marking.specs.Rows.{Row, rowsIn, flat}
-use Rattle.marking.proofs.RowLaws.{Wide, wide-rows, wide-append, length-rows, flat-rows, flat-append, rows-flat}
+use Rattle.marking.specs.Rows.{Row, rowsIn, concat}
+use Rattle.marking.proofs.RowLaws.{Wide, wide-rows, wide-append, length-rows, concat-rows, concat-append, rows-concat}
 
 -- a row laid behind the first i rows
 pub rows-put : (rows row : List ℕ) (i : ℕ) → i * 33 + 33 ≤ length rows → length row ≡ 33
@@ -16,6 +16,6 @@ rows-put rows row i h n =
     let d : List ℕ = drop (i * 33 + 33) rows in
     let w : Wide rs = wide-append (rowsIn i rows) (row ∷ []) (wide-rows i rows (omega arith)) (n, tt) in
     let m : length rs ≡ i + 1 = omega (arith, length-append (rowsIn i rows) (row ∷ []), length-rows i rows) in
-    let f : flat rs ≡ take (i * 33) rows ++ take 33 row =
-    flat-append (rowsIn i rows) (row ∷ []) ∙ rw (flat-rows i rows, append-nil row, take-all 33 row (omega arith)) in
-    subst₂ (λ (k : ℕ) (l : List ℕ). rowsIn k (l ++ d) ≡ rs) m f (rows-flat rs d w)
+    let f : concat rs ≡ take (i * 33) rows ++ take 33 row =
+    concat-append (rowsIn i rows) (row ∷ []) ∙ rw (concat-rows i rows, append-nil row, take-all 33 row (omega arith)) in
+    subst₂ (λ (k : ℕ) (l : List ℕ). rowsIn k (l ++ d) ≡ rs) m f (rows-concat rs d w)

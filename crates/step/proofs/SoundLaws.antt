@@ -27,7 +27,7 @@ use Rattle.model.proofs.PaddedRows.{small-at, nth-zeros, padded-none}
 use Rattle.model.proofs.RuleLaws.{list-is, sides-are, net-is, right-is, few-nets, few-places, right-type, right-net, right-event, sync-at}
 use Rattle.model.proofs.SlotLaws.{by-index, length-listed, listed-at, listed-past}
 use Rattle.model.proofs.TableLaws.{row-at, length-tabled, tabled-row}
-use Rattle.marking.specs.Held.{sizesOf, rowOf}
+use Rattle.marking.specs.Held.{sizesOf, tokenRow}
 use Rattle.marking.specs.Reading.{Limits, rightNetToken}
 use Rattle.marking.proofs.HoldMarking as hold
 use Rattle.step.specs.Rule.{holdSides, holdRule}
@@ -126,7 +126,7 @@ sound-rule m right e known = record {
 
 -- ---- what is required of rows
 
-on-places : (m : Model) → rightModel m ≡ true → (l : Marking) → T (M.every (proper m) l) → OnPlaces (map rowOf l)
+on-places : (m : Model) → rightModel m ≡ true → (l : Marking) → T (M.every (proper m) l) → OnPlaces (map tokenRow l)
 on-places m right [] h = tt
 on-places m right (t ∷ l) h =
     let f = fit m t (and-l (proper m t) (M.every (proper m) l) h) in
@@ -134,7 +134,7 @@ on-places m right (t ∷ l) h =
 
 -- net-tokens whose rows stand in the first rows of an array
 pub placed-rows : (m : Model) → rightModel m ≡ true → (ts : Marking) → T (M.every (proper m) ts) → (n : ℕ) (l : List ℕ)
-    → n ≤ 256 → length l ≡ 8448 → rowsIn n l ≡ map rowOf ts → Placed n l
+    → n ≤ 256 → length l ≡ 8448 → rowsIn n l ≡ map tokenRow ts → Placed n l
 placed-rows m right ts h n l few long is = record { few = few; long = long; places = rw is (on-places m right ts h) }
 
 -- net-tokens that are read for a model are the model's

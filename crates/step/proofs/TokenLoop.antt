@@ -17,7 +17,7 @@ use Rattle.text.proofs.Loops.{got-of, bad-of, loop-turn, loop-bad, loop-done}
 use Rattle.text.proofs.PaddedLaws.{length-padded}
 use Rattle.eos.specs.Model as eos
 use Rattle.marking.specs.Rows.{Row, rowsIn}
-use Rattle.marking.specs.Held.{Sizes, rowOf}
+use Rattle.marking.specs.Held.{Sizes, tokenRow}
 use Rattle.marking.specs.Reading.{Limits, limits, readNetToken, readBlock}
 use Rattle.marking.proofs.BlockLaws.{Read, counted}
 use Rattle.step.specs.Answers.{TokenRows, tokenRows}
@@ -51,7 +51,7 @@ module _ (lim : Limits) (z : Sizes) (s : Text) where
   pub record Going (n from : ℕ) (i at : ℕ) (rows : List ℕ) : Type 0 where
     pub tokens : eos.Marking
     pub long : length tokens ≡ i
-    pub rows-are : rowsIn i rows ≡ map rowOf tokens
+    pub rows-are : rowsIn i rows ≡ map tokenRow tokens
     pub left : many reads n from ≡ filled put i tokens (many reads (n - i) at)
 
   module _ (n from : ℕ) where
@@ -64,12 +64,12 @@ module _ (lim : Limits) (z : Sizes) (s : Text) where
           → row ≡ place ∷ counts → after ≡ paste rows (i * 33) row 33 → Going n from (i + 1) next after
       going-turn next place counts row after h k r e f =
           let t = r .token in
-          let w : row ≡ rowOf t = e ∙ r .row-is in
+          let w : row ≡ tokenRow t = e ∙ r .row-is in
           let m : length row ≡ 33 = ap length w ∙ ap suc (length-padded (t .inside)) in
           record {
             tokens = g .tokens ++ (t ∷ []);
             long = omega (arith, length-append (g .tokens) (t ∷ []), g .long);
-            rows-are = ap (rowsIn (i + 1)) f ∙ rows-put rows row i k m ∙ rw (g .rows-are, w) (sym (map-append rowOf (g .tokens) (t ∷ [])));
+            rows-are = ap (rowsIn (i + 1)) f ∙ rows-put rows row i k m ∙ rw (g .rows-are, w) (sym (map-append tokenRow (g .tokens) (t ∷ [])));
             left = g .left ∙ loop-turn put reads i n at (g .tokens) h t next (r .is);
           }
 
@@ -107,7 +107,7 @@ pub record ReadLines (lines : TokenLines) (rows : List Row) (o : Outcome eos.Mar
   pub is : o ≡ got tokens next
   pub past : lines .ended ≡ Past next
   pub number : lines .count ≡ length tokens
-  pub rows-are : rows ≡ map rowOf tokens
+  pub rows-are : rows ≡ map tokenRow tokens
 
 module _ (lines : TokenLines) (rows : List Row) (o : Outcome eos.Marking) (e : record { lines = lines; rows = rows } ≡ tokenRows o) where
   ended-is : lines .ended ≡ endedOf o

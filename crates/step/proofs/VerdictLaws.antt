@@ -16,7 +16,7 @@ use Rattle.step.specs.Rule.{Rule}
 use Rattle.step.specs.declared.Verdict.{Verdict}
 use Rattle.step.specs.declared.Verdict.the-variants.{Fires, Turned}
 use Rattle.step.specs.Verdict.{outerRows, innerTakenIn, innerGivenIn, lackingRows, causesIn, verdictOf}
-use Rattle.step.specs.VerdictParts.{Inner, balanced}
+use Rattle.step.specs.VerdictParts.{Inner, evenIn}
 use Rattle.step.proofs.FirstFailing.{failing-same}
 
 -- ---- one test
@@ -65,10 +65,10 @@ module _ (q : Rule) (taken : List Row) (held : List ℕ) (few : q .nets ≤ 8) (
   taken-same = failing-same (q .nets) 0 _ (innerTakenIn q taken) (λ i k. rw (h .rows i (omega arith)))
 
   pub given-same : (given : List Row) (made : List ℕ) → Inner (q .types) given made
-      → failing (q .nets) 0 (balanced made held (q .pre .inner) (q .post .inner)) ≡ failing (q .nets) 0 (innerGivenIn q taken given)
+      → failing (q .nets) 0 (evenIn made held (q .pre .inner) (q .post .inner)) ≡ failing (q .nets) 0 (innerGivenIn q taken given)
   unfolding innerGivenIn
   given-same given made m =
-      failing-same (q .nets) 0 (balanced made held (q .pre .inner) (q .post .inner)) (innerGivenIn q taken given)
+      failing-same (q .nets) 0 (evenIn made held (q .pre .inner) (q .post .inner)) (innerGivenIn q taken given)
       (λ i k. rw (h .rows i (omega arith), m .rows i (omega arith)))
 
 -- ---- all tests

@@ -8,7 +8,7 @@ use Rattle.text.specs.declared.Ended.the-variants.{Past, Stopped}
 use Rattle.eos.specs.Model as eos
 use Rattle.eos.specs.Firing.{Step}
 use Rattle.marking.specs.Rows.{Row}
-use Rattle.marking.specs.Held.{rowOf}
+use Rattle.marking.specs.Held.{tokenRow}
 use Rattle.step.specs.declared.TokenLines.{TokenLines}
 use Rattle.step.specs.declared.StepLines.{StepLines}
 
@@ -22,7 +22,7 @@ pub record TokenRows : Type 0 where
   pub rows : List Row
 
 unfoldable pub tokenRows : Outcome eos.Marking → TokenRows
-tokenRows (got ts next) = record { lines = record { ended = Past next; count = length ts }; rows = map rowOf ts }
+tokenRows (got ts next) = record { lines = record { ended = Past next; count = length ts }; rows = map tokenRow ts }
 tokenRows (bad e) = record { lines = record { ended = Stopped e; count = 0 }; rows = [] }
 
 -- what a step's lines say, as the code keeps it
@@ -34,7 +34,7 @@ pub record StepRows : Type 0 where
 unfoldable pub stepRows : Outcome Step → StepRows
 stepRows (got t next) = record {
   lines = record { ended = Past next; event = t .event; take = length (t .taken); give = length (t .given) };
-  taken = map rowOf (t .taken);
-  given = map rowOf (t .given);
+  taken = map tokenRow (t .taken);
+  given = map tokenRow (t .given);
 }
 stepRows (bad e) = record { lines = noStep (Stopped e); taken = []; given = [] }

@@ -35,9 +35,9 @@ holdRule m k = record {
 }
 
 -- a side in nine rows of 32, the first for the places, then one for each net
-abbrev pub sidesIn : List ℕ → Sides
-sidesIn l = record { outer = take 32 l; inner = take 256 (drop 32 l) }
+abbrev pub ruleSides : List ℕ → Sides
+ruleSides l = record { outer = take 32 l; inner = take 256 (drop 32 l) }
 
--- the rule of two sides, with the number of nets and the types of a model that is laid flat
+-- the rule of two sides, with the number of nets and the types of a model that is packed
 abbrev pub ruleIn : List ℕ → List ℕ → List ℕ → Rule
-ruleIn plan pre post = record { nets = nth plan 0; types = take 32 (drop 4 plan); pre = sidesIn pre; post = sidesIn post }
+ruleIn plan pre post = record { nets = nth plan 0; types = take 32 (drop 4 plan); pre = ruleSides pre; post = ruleSides post }

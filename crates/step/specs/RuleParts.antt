@@ -20,17 +20,17 @@ sumRows count rows i zero v = v
 sumRows count rows i (suc n) v = sumRows count rows (suc i) n (v ⊕ times (count i) (rows i))
 
 -- the rows of a net's table, added up over the counts that begin at `from`
-abbrev pub sumOf : (ObjectNet → List ℕ) → ObjectNet → List ℕ → ℕ → List ℕ
-sumOf side net sync from = sumRows (λ t. nth sync (from + t)) (rowIn 32 (side net)) 0 (net .transitions) (zeros 32)
+abbrev pub arcSum : (ObjectNet → List ℕ) → ObjectNet → List ℕ → ℕ → List ℕ
+arcSum side net sync from = sumRows (λ t. nth sync (from + t)) (rowIn 32 (side net)) 0 (net .transitions) (zeros 32)
 
 -- the same of net n
 abbrev pub netSum : (ObjectNet → List ℕ) → List ObjectNet → List ℕ → ℕ → List ℕ
-netSum side objects sync n = sumOf side (getD objects n noNet) sync (n * 32)
+netSum side objects sync n = arcSum side (getD objects n noNet) sync (n * 32)
 
--- ---- on a model that is laid flat
+-- ---- on a model that is packed
 
 -- what is asked of the numbers there, for event e
-pub record Flat (plan : List ℕ) (e : ℕ) : Type 0 where
+pub record PackedEvent (plan : List ℕ) (e : ℕ) : Type 0 where
   pub long : length plan ≡ 34996
   pub nets : nth plan 0 ≤ 8
   pub steps : (n : ℕ) → n < 8 → nth plan (2084 + n * 2050 + 1) ≤ 32

@@ -19,8 +19,8 @@ pub record Sound (q : Rule) : Type 0 where
   pub pre : (k : ℕ) → getD (q .pre .inner) k 0 < 2 ^ 32
   pub post : (k : ℕ) → getD (q .post .inner) k 0 < 2 ^ 32
 
--- an event's sides, beside the model that is laid flat
-pub record Lent (plan pre post : List ℕ) : Type 0 where
+-- an event's sides, beside the model that is packed
+pub record SidesLent (plan pre post : List ℕ) : Type 0 where
   pub plan-long : length plan ≡ 34996
   pub pre-long : length pre ≡ 288
   pub post-long : length post ≡ 288
@@ -52,5 +52,5 @@ pub record Inner (types : List ℕ) (rs : List Row) (table : List ℕ) : Type 0 
   pub small : (k : ℕ) → getD table k 0 < 2 ^ 32
 
 -- what is made of net n is what is held of it, without pre and with post, over tables
-abbrev pub balanced : List ℕ → List ℕ → List ℕ → List ℕ → ℕ → Bool
-balanced made held pre post n = eqV (rowIn 32 made n) (rowIn 32 held n ⊖ rowIn 32 pre n ⊕ rowIn 32 post n)
+abbrev pub evenIn : List ℕ → List ℕ → List ℕ → List ℕ → ℕ → Bool
+evenIn made held pre post n = eqV (rowIn 32 made n) (rowIn 32 held n ⊖ rowIn 32 pre n ⊕ rowIn 32 post n)

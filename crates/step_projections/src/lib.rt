@@ -12,7 +12,7 @@ pub mod containment;
 pub mod nets;
 
 // Whether two vectors of places are the same.
-pub fn same(a: [u64; 32], b: &[u64]) -> bool
+pub fn same_places(a: [u64; 32], b: &[u64]) -> bool
     requires { ⌜ length (now b) ≡ 32 ⌝ }
     ensures { λ r. ⌜ r ≡ eqV a (now (b .entry)) ⌝ }
 {

@@ -5,7 +5,7 @@ ghost use lib.ListN.{length, getD};
 ghost use Rattle.eos.specs.Vector.{leV};
 ghost use Rattle.eos.specs.Causes.{failing, numbered};
 ghost use Rattle.model.specs.Held.{rowIn};
-ghost use Rattle.step.specs.VerdictParts.{balanced};
+ghost use Rattle.step.specs.VerdictParts.{evenIn};
 
 // Whether net n is asked no more than is held of it.
 fn enough<'a>(n: usize, asked: &'a [u64], held: &'a [u64]) -> bool
@@ -53,7 +53,7 @@ fn after(held: u64, taken: u64, given: u64) -> u64
 fn even<'a>(n: usize, made: &'a [u64], held: &'a [u64], pre: &'a [u64], post: &'a [u64]) -> bool
     requires { ⌜ (n < 8) × (length (now made) ≡ 256) × (length (now held) ≡ 256) × (length (now pre) ≡ 256) × (length (now post) ≡ 256)
         × ((k : ℕ) → getD (now held) k 0 < 2 ^ 32) × ((k : ℕ) → getD (now post) k 0 < 2 ^ 32) ⌝ }
-    ensures { λ r. ⌜ r ≡ balanced (now (made .entry)) (now (held .entry)) (now (pre .entry)) (now (post .entry)) n ⌝ }
+    ensures { λ r. ⌜ r ≡ evenIn (now (made .entry)) (now (held .entry)) (now (pre .entry)) (now (post .entry)) n ⌝ }
 {
     let at = n * 32;
     let mut all = true;
@@ -76,7 +76,7 @@ pub fn unbalanced_net<'a>(
 ) -> usize
     requires { ⌜ (nets ≤ 8) × (length (now made) ≡ 256) × (length (now held) ≡ 256) × (length (now pre) ≡ 256) × (length (now post) ≡ 256)
         × ((k : ℕ) → getD (now held) k 0 < 2 ^ 32) × ((k : ℕ) → getD (now post) k 0 < 2 ^ 32) ⌝ }
-    ensures { λ r. ⌜ r ≡ numbered (failing nets 0 (balanced (now (made .entry)) (now (held .entry)) (now (pre .entry)) (now (post .entry)))) ⌝ }
+    ensures { λ r. ⌜ r ≡ numbered (failing nets 0 (evenIn (now (made .entry)) (now (held .entry)) (now (pre .entry)) (now (post .entry)))) ⌝ }
 {
     let mut n = 0;
     while n < nets {

@@ -10,7 +10,7 @@ ghost use Rattle.step.specs.Reading.{readStep};
 ghost use Rattle.step.specs.Answers.{noStep, tokenRows, stepRows};
 use marking::NetToken;
 use marking_edit::put_row;
-use marking_read::row_of;
+use marking_read::token_row;
 use model::Model;
 use step::StepLines;
 use step::TokenLines;
@@ -21,7 +21,7 @@ use text_lines::number_line;
 use text_tokens::token_line;
 
 // The lines of n net-tokens; `sizes` says for each place how many counts its net-tokens have.
-fn tokens_at(
+fn rows_at(
     s: &[u8],
     from: usize,
     places: u16,
@@ -45,7 +45,7 @@ fn tokens_at(
             place: t.place,
             counts,
         };
-        put_row(rows, i * 33, row_of(token));
+        put_row(rows, i * 33, token_row(token));
         at = next;
         i += 1;
     }
@@ -74,7 +74,7 @@ fn tokens_after(
             count: 0,
         };
     };
-    tokens_at(s, next, places, sizes, value as usize, rows)
+    rows_at(s, next, places, sizes, value as usize, rows)
 }
 
 // No step, and how its reading ended.

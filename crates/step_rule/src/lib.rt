@@ -1,5 +1,5 @@
 // What an event asks and gives, added up: the sides of its move or of idling, and those of its object nets' transitions. The model is laid
-// flat (crate flat). A side is nine rows of 32: the net-tokens on each place, and then for each object net the tokens on its places; unused
+// packed (crate packed). A side is nine rows of 32: the net-tokens on each place, and then for each object net the tokens on its places; unused
 // room is 0.
 ghost use mathlib.Core.Path.{_≡_};
 ghost use mathlib.Core.Bool.{true};
@@ -12,7 +12,7 @@ ghost use Rattle.model.specs.Rules.{nth};
 ghost use Rattle.model.specs.Test.{heldModel};
 ghost use Rattle.model_packed.specs.Packed.{modelIn};
 ghost use Rattle.step.specs.Rule.{holdRule, ruleIn};
-ghost use Rattle.step.specs.RuleParts.{outerIn, sumRows, Flat, netSumIn, sideIn};
+ghost use Rattle.step.specs.RuleParts.{outerIn, sumRows, PackedEvent, netSumIn, sideIn};
 use model_packed::EVENT;
 use model_packed::EVENTS;
 use model_packed::OBJECT;
@@ -21,7 +21,7 @@ use model_packed::OBJECT_PRE;
 use model_packed::OBJECTS;
 use model_packed::POST;
 use model_packed::PRE;
-use model_tables::sums::put_row;
+use model_tables::sums::put_sums;
 
 // Row i of a table of arcs.
 fn arcs_at(table: &[u8], i: usize) -> [u64; 32]
@@ -84,7 +84,7 @@ fn summed<'a>(sync: &'a [u8], from: usize, table: &'a [u8], transitions: usize) 
 
 // The rows of the object nets laid behind the first row, for the counts of event e; a net's arcs of this side begin at `arcs`.
 fn inner_side(plan: &[u8], e: usize, arcs: usize, side: &mut [u64; 288])
-    requires { ⌜ Flat (now plan) e × (arcs ≤ 1026) × (length (now side) ≡ 288) ⌝ }
+    requires { ⌜ PackedEvent (now plan) e × (arcs ≤ 1026) × (length (now side) ≡ 288) ⌝ }
     ensures { λ _. ⌜ now (side .exit) ≡ fill (putRow row) 1 (listed (netSumIn (now (plan .entry)) e arcs) 0 (nth (now (plan .entry)) 0)) (now (side .entry)) ⌝ }
 {
     let sync = EVENTS + e * EVENT + 2;
@@ -100,19 +100,19 @@ fn inner_side(plan: &[u8], e: usize, arcs: usize, side: &mut [u64; 288])
             &plan[from..from + 1024],
             transitions,
         );
-        put_row(side, (n + 1) * 32, sum);
+        put_sums(side, (n + 1) * 32, sum);
         n += 1;
     }
 }
 
 // A side of event e; the arcs of the moves of this side begin at `moves`.
 fn side_of(plan: &[u8], e: usize, moves: usize, arcs: usize, side: &mut [u64; 288])
-    requires { ⌜ Flat (now plan) e × (moves ≤ 1060) × (arcs ≤ 1026) × (now side ≡ replicate 288 0) ⌝ }
+    requires { ⌜ PackedEvent (now plan) e × (moves ≤ 1060) × (arcs ≤ 1026) × (now side ≡ replicate 288 0) ⌝ }
     ensures { λ _. ⌜ now (side .exit) ≡ sideIn (now (plan .entry)) e moves arcs ⌝ }
 {
     let at = EVENTS + e * EVENT;
     let outer = outer_side(plan[at], plan[at + 1], &plan[moves..moves + 1024]);
-    put_row(side, 0, outer);
+    put_sums(side, 0, outer);
     inner_side(plan, e, arcs, side);
 }
 

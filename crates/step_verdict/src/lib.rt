@@ -9,7 +9,7 @@ ghost use Rattle.marking.specs.Rows.{rowsIn, Kept};
 ghost use Rattle.step.specs.declared.Verdict.the-variants.{Turned};
 ghost use Rattle.step.specs.Verdict.{lackingRows, causesIn, verdictOf};
 ghost use Rattle.step.specs.Rule.{ruleIn};
-ghost use Rattle.step.specs.VerdictParts.{Lent, Placed};
+ghost use Rattle.step.specs.VerdictParts.{SidesLent, Placed};
 use model::Model;
 use model_packed::PRE;
 use model_packed::TYPES;
@@ -19,7 +19,7 @@ use step_projections::inner_of;
 use step_projections::nets::short_net;
 use step_projections::nets::unbalanced_net;
 use step_projections::outer_of;
-use step_projections::same;
+use step_projections::same_places;
 
 fn turned(cause: u8, beside: usize) -> Verdict
     ensures { λ r. ⌜ r ≡ Turned cause beside ⌝ }
@@ -47,7 +47,7 @@ fn on_marking(taken: &[u16], take: usize, give: usize, rows: &[u16], len: usize)
     Verdict::Fires
 }
 
-// Why a step is turned down, or that it fires: an event with the sides `pre` and `post`, of a model that is laid flat; `take` rows of `taken`
+// Why a step is turned down, or that it fires: an event with the sides `pre` and `post`, of a model that is packed; `take` rows of `taken`
 // and `give` rows of `given`, on a marking of `len` rows.
 pub fn verdict<'a>(
     plan: &[u8],
@@ -60,13 +60,13 @@ pub fn verdict<'a>(
     rows: &[u16],
     len: usize,
 ) -> Verdict
-    requires { ⌜ Lent (now plan) (now pre) (now post) × Placed take (now taken) × Placed give (now given) × Kept len (now rows) ⌝ }
+    requires { ⌜ SidesLent (now plan) (now pre) (now post) × Placed take (now taken) × Placed give (now given) × Kept len (now rows) ⌝ }
     ensures { λ r. ⌜ r ≡ verdictOf (first (causesIn (ruleIn (now (plan .entry)) (now (pre .entry)) (now (post .entry))) (rowsIn take (now (taken .entry))) (rowsIn give (now (given .entry))) (rowsIn len (now (rows .entry))))) ⌝ }
 {
-    if !same(outer_of(taken, take), &pre[0..32]) {
+    if !same_places(outer_of(taken, take), &pre[0..32]) {
         return turned(8, 2);
     }
-    if !same(outer_of(given, give), &post[0..32]) {
+    if !same_places(outer_of(given, give), &post[0..32]) {
         return turned(8, take + 3);
     }
     let nets = plan[0] as usize;

@@ -1,4 +1,4 @@
--- Laws of lists in a line: of a loop that reads one, over any kind of value, and of what the code keeps of the values.
+-- Laws of lists in a line: of the loop that reads one, and of a list of numbers read as weights.
 use Prim.Native.Nat.{ℕ, zero, suc, _+_, _-_, _%_, _≤_, _<_}
 use mathlib.Core.Path.{_≡_, refl, ap, sym, _∙_}
 use mathlib.Core.List.{List, [], _∷_, map}
@@ -9,19 +9,19 @@ use native.Mathlib.Numerals.{add-one}
 use lib.Dec.{leb, eqb, lit<}
 use lib.IntN.{ℤ, pos, negsuc}
 use borrow.Author.Tests.{leb-true, le-leb, eq-eqb, ne-eqb}
-use lib.ListN.{replicate, length, set, getD}
+use lib.ListN.{replicate, length, drop, set, getD}
 use lib.Seq.{sets}
-use Rattle.text.specs.Bytes.{Text, lf, comma}
+use Rattle.text.specs.Bytes.{Text, lf, comma, starts}
 use Rattle.text.proofs.Basics.{by-test, and-true}
-use Rattle.text.specs.Number.{Read, missing, found, number, signed, ended, item}
+use Rattle.text.specs.Number.{Read, missing, found, number, plainly, signedIf, ended, item}
 use Rattle.text.specs.Lists.{stopOf, before, items, listEnd, anyItems, anyList}
-use Rattle.text.specs.Lines.{Outcome, got, bad, fault, need, judged, every, modest}
+use Rattle.text.specs.Lines.{bad, fault, need, judged, every, behind, modest}
 use Rattle.text.specs.Capped.{above, below}
 use Rattle.text.specs.Answers.{endedOf, keptOr, padded, rowOf, weightRowOf}
-use Rattle.text.specs.declared.Fault.{Fault}
 use Rattle.text.specs.declared.Ended.the-variants.{Past}
+use Rattle.text.specs.declared.WeightRow.{WeightRow}
 use Rattle.text.proofs.ReadLaws.{by-read, past-other}
-use Rattle.text.proofs.NumberLaws.{Exact, Capped, CappedSigned, number-end, number-forward, ended-here, ended-other, ended-past}
+use Rattle.text.proofs.NumberLaws.{Exact, CappedSigned, number-end, number-forward, ended-here, ended-other, ended-past, item-plain}
 use Rattle.text.proofs.LineLaws.{capped-most}
 
 -- ---- what ends a value
@@ -35,144 +35,9 @@ pub stop-last : (n : ℕ) → n ≡ 0 → lf ≡ stopOf n
 unfolding stopOf
 stop-last n h = rw h
 
--- ---- a loop over a list of any kind of value, which are put one after the other
+-- ---- a loop over a list of weights, which are put one after the other, each in two rows
 
--- the values of l put, the first at i
-abbrev pub fill : {A R : Type 0} → (ℕ → A → R → R) → ℕ → List A → R → R
-fill put i [] kept = kept
-fill put i (a ∷ l) kept = fill put (suc i) l (put i a kept)
-
-module _ {A R : Type 0} (range : A → Bool) (put : ℕ → A → R → R) (top : ℕ) where
-  -- the outcome where i values were put, all in the range or not, and r is what follows
-  unfoldable pub going : Bool → ℕ → R → Read (List A) → Outcome R
-  going inside i kept missing = bad (fault 2 top)
-  going inside i kept (found l next) = need (inside && every range l) 3 top (got (fill put i l kept) next)
-
-  -- one value more; what is kept of one out of the range does not matter
-  going-before : (inside : Bool) (i : ℕ) (kept now : R) (a : A) (r : Read (List A)) → (range a ≡ true → now ≡ put i a kept)
-      → going inside i kept (before a r) ≡ going (inside && range a) (i + 1) now r
-  unfolding going before need
-  going-before inside i kept now a missing e = refl
-  going-before inside i kept now a (found l t) e =
-      by-test (inside && range a)
-      (λ h. rw (add-one i, e (and-true inside (range a) h .1), and-assoc inside (range a) (every range l)))
-      (λ h. rw (← and-assoc inside (range a) (every range l), h))
-
-  -- the turn i of n, at `at`
-  module _ (value : Text → ℕ → Read A) (s : Text) (n at : ℕ) (inside : Bool) (i : ℕ) (kept : R) where
-    pub turn-missing : i < n → item value (stopOf (n - i - 1)) s at ≡ missing → going inside i kept (items value (n - i) s at) ≡ bad (fault 2 top)
-    unfolding items going
-    turn-missing h e = let left : n - i ≡ suc (n - i - 1) = omega arith in rw (left, e, items)
-
-    pub turn-more : i < n → (a : A) (u : ℕ) → item value (stopOf (n - i - 1)) s at ≡ found a u → (b : Bool) → b ≡ (inside && range a) → (now : R) → (range a ≡ true → now ≡ put i a kept)
-        → going inside i kept (items value (n - i) s at) ≡ going b (i + 1) now (items value (n - (i + 1)) s u)
-    unfolding items
-    turn-more h a u e b f now k =
-        let left : n - i ≡ suc (n - i - 1) = omega arith in
-        let less : n - (i + 1) ≡ n - i - 1 = omega arith in
-        rw (left, less, e, f, items) (going-before inside i kept now a (items value (n - i - 1) s u) k)
-
-    pub turn-done : n ≤ i → (b : Bool) → inside ≡ b → going inside i kept (items value (n - i) s at) ≡ need b 3 top (got kept at)
-    unfolding items going
-    turn-done h true e = let none : n - i ≡ 0 = omega arith in rw (none, e)
-    turn-done h false e = let none : n - i ≡ 0 = omega arith in rw (none, e)
-
--- ---- from the loop's outcome to what the code answers
-
-module _ {A R : Type 0} (range : A → Bool) (put : ℕ → A → R → R) (top : ℕ) (empty : R) where
-  abbrev looped : Read (List A) → Outcome R
-  looped r = going range put top true 0 empty r
-
-  looped-ended : (r : Read (List A)) → endedOf (judged (every range) top r) ≡ endedOf (looped r)
-  unfolding going judged need endedOf
-  looped-ended missing = refl
-  looped-ended (found l next) = by-test (every range l) (λ h. rw h) (λ h. rw h)
-
-  looped-kept : {Q : Type 0} (none : Q) (f : List A → Q) (g : R → Q) → ((l : List A) → g (fill put 0 l empty) ≡ f l)
-      → (r : Read (List A)) → keptOr none f (judged (every range) top r) ≡ keptOr none g (looped r)
-  unfolding going judged need keptOr
-  looped-kept none f g e missing = refl
-  looped-kept none f g e (found l next) = by-test (every range l) (λ h. rw (h, e l)) (λ h. rw h)
-
--- ---- numbers
-
-abbrev pub upTo : ℕ → ℕ → Bool
-upTo hi v = leb v hi
-
-abbrev pub putNumber : ℕ → ℕ → List ℕ → List ℕ
-putNumber i v row = set row i v
-
-abbrev pub numbersGoing : ℕ → ℕ → Bool → ℕ → List ℕ → Read (List ℕ) → Outcome (List ℕ)
-numbersGoing hi top = going (upTo hi) putNumber top
-
-fill-numbers : (l : List ℕ) (i : ℕ) (row : List ℕ) → fill putNumber i l row ≡ sets row i l
-fill-numbers [] i row = refl
-fill-numbers (v ∷ l) i row = fill-numbers l (suc i) (set row i v)
-
-numbers-answer : (hi top : ℕ) (r : Read (List ℕ)) (o : Outcome (List ℕ)) → numbersGoing hi top true 0 (replicate 32 0) r ≡ o
-    → rowOf (judged (every (upTo hi)) top r) ≡ record { ended = endedOf o; values = keptOr (replicate 32 0) (λ row. row) o }
-unfolding rowOf padded
-numbers-answer hi top r o e =
-    rw (
-      looped-ended (upTo hi) putNumber top (replicate 32 0) r,
-      looped-kept (upTo hi) putNumber top (replicate 32 0) (replicate 32 0) padded (λ row. row) (λ l. fill-numbers l 0 (replicate 32 0)) r,
-      e,
-    )
-
-module _ (hi top : ℕ) (r : Read (List ℕ)) where
-  pub numbers-got : (row : List ℕ) (next : ℕ) → numbersGoing hi top true 0 (replicate 32 0) r ≡ got row next
-      → record { ended = Past next; values = row } ≡ rowOf (judged (every (upTo hi)) top r)
-  unfolding endedOf keptOr
-  numbers-got row next e = sym (numbers-answer hi top r (got row next) e)
-
-  pub numbers-bad : (d : Fault) → numbersGoing hi top true 0 (replicate 32 0) r ≡ bad d → rowOf (bad d) ≡ rowOf (judged (every (upTo hi)) top r)
-  unfolding rowOf endedOf keptOr
-  numbers-bad d e = sym (numbers-answer hi top r (bad d) e)
-
-pub number-turn : (hi top : ℕ) → hi < 65536 → (s : Text) (n at : ℕ) (inside : Bool) (i : ℕ) (row : List ℕ) → i < n
-    → (v u : ℕ) → Exact (item number (stopOf (n - i - 1)) s at) (Capped v) u → (b : Bool) → b ≡ (inside && leb v hi) → (now : List ℕ) → now ≡ set row i (v % 65536)
-    → numbersGoing hi top inside i row (items number (n - i) s at) ≡ numbersGoing hi top b (i + 1) now (items number (n - (i + 1)) s u)
-number-turn hi top fits s n at inside i row h v u x b f now k =
-    turn-more (upTo hi) putNumber top number s n at inside i row h (x .value) u (x .is) b (f ∙ rw (capped-most hi v (x .value) fits (x .told))) now
-    (λ e. let same : v % 65536 ≡ x .value = omega (arith, x .told, leb-true (x .value) hi e) in k ∙ rw same)
-
--- ---- weights, each in two rows
-
-abbrev pub putWeight : ℕ → ℤ → List ℕ × List ℕ → List ℕ × List ℕ
-putWeight i w rows = (set (rows .0) i (above w), set (rows .1) i (below w))
-
-abbrev pub weightsGoing : ℕ → ℕ → Bool → ℕ → List ℕ × List ℕ → Read (List ℤ) → Outcome (List ℕ × List ℕ)
-weightsGoing hi top = going (modest hi) putWeight top
-
-abbrev pub noWeights : List ℕ × List ℕ
-noWeights = (replicate 32 0, replicate 32 0)
-
-fill-weights : (l : List ℤ) (i : ℕ) (rows : List ℕ × List ℕ) → fill putWeight i l rows ≡ (sets (rows .0) i (map above l), sets (rows .1) i (map below l))
-fill-weights [] i rows = refl
-fill-weights (w ∷ l) i rows = fill-weights l (suc i) (putWeight i w rows)
-
-weights-answer : (hi top : ℕ) (r : Read (List ℤ)) (o : Outcome (List ℕ × List ℕ)) → weightsGoing hi top true 0 noWeights r ≡ o
-    → weightRowOf (judged (every (modest hi)) top r)
-    ≡ record { ended = endedOf o; above = keptOr (replicate 32 0) (λ rows. rows .0) o; below = keptOr (replicate 32 0) (λ rows. rows .1) o }
-unfolding weightRowOf padded
-weights-answer hi top r o e =
-    rw (
-      looped-ended (modest hi) putWeight top noWeights r,
-      looped-kept (modest hi) putWeight top noWeights (replicate 32 0) (λ ws. padded (map above ws)) (λ rows. rows .0) (λ l. ap (λ (rows : List ℕ × List ℕ). rows .0) (fill-weights l 0 noWeights)) r,
-      looped-kept (modest hi) putWeight top noWeights (replicate 32 0) (λ ws. padded (map below ws)) (λ rows. rows .1) (λ l. ap (λ (rows : List ℕ × List ℕ). rows .1) (fill-weights l 0 noWeights)) r,
-      e,
-    )
-
-module _ (hi top : ℕ) (r : Read (List ℤ)) where
-  pub weights-got : (rows : List ℕ × List ℕ) (next : ℕ) → weightsGoing hi top true 0 noWeights r ≡ got rows next
-      → record { ended = Past next; above = rows .0; below = rows .1 } ≡ weightRowOf (judged (every (modest hi)) top r)
-  unfolding endedOf keptOr
-  weights-got rows next e = sym (weights-answer hi top r (got rows next) e)
-
-  pub weights-bad : (d : Fault) → weightsGoing hi top true 0 noWeights r ≡ bad d → weightRowOf (bad d) ≡ weightRowOf (judged (every (modest hi)) top r)
-  unfolding weightRowOf endedOf keptOr
-  weights-bad d e = sym (weights-answer hi top r (bad d) e)
-
+-- the range of a weight, by its two capped parts
 modest-is : (hi x y : ℕ) (w : ℤ) → hi < 65536 → CappedSigned x y w → modest hi w ≡ (leb x hi && leb y hi)
 modest-is hi x y (pos n) fits t =
     let z : y ≤ hi = omega arith in
@@ -185,13 +50,53 @@ modest-parts : (hi x y : ℕ) (w : ℤ) → hi < 65536 → CappedSigned x y w �
 modest-parts hi x y (pos n) fits t e = (omega (arith, leb-true n hi e), omega arith)
 modest-parts hi x y (negsuc n) fits t e = (omega arith, omega (arith, leb-true (suc n) hi e))
 
-pub weight-turn : (hi top : ℕ) → hi < 65536 → (s : Text) (n at : ℕ) (inside : Bool) (i : ℕ) (ups downs : List ℕ) → i < n
-    → (x y u : ℕ) → Exact (item signed (stopOf (n - i - 1)) s at) (CappedSigned x y) u → (b : Bool) → b ≡ (inside && (leb x hi && leb y hi))
-    → (ups′ downs′ : List ℕ) → ups′ ≡ set ups i (x % 65536) → downs′ ≡ set downs i (y % 65536)
-    → weightsGoing hi top inside i (ups, downs) (items signed (n - i) s at) ≡ weightsGoing hi top b (i + 1) (ups′, downs′) (items signed (n - (i + 1)) s u)
-weight-turn hi top fits s n at inside i ups downs h x y u w b f ups′ downs′ k l =
-    turn-more (modest hi) putWeight top signed s n at inside i (ups, downs) h (w .value) u (w .is) b (f ∙ rw (modest-is hi x y (w .value) fits (w .told))) (ups′, downs′)
-    (λ e. let same = modest-parts hi x y (w .value) fits (w .told) e in rw (k, l, same .0, same .1))
+-- the answer where every weight was put: both rows if all are in the range, else the fault
+unfoldable pub rowsIf : ℕ → Bool → List ℕ → List ℕ → ℕ → WeightRow
+rowsIf top true ups downs next = record { ended = Past next; above = ups; below = downs }
+rowsIf top false ups downs next = weightRowOf (bad (fault 3 top))
+
+module _ (hi top : ℕ) where
+  -- the answer where i weights were put, all in the range or not, and r is what follows
+  unfoldable pub going : Bool → ℕ → List ℕ → List ℕ → Read (List ℤ) → WeightRow
+  going inside i ups downs missing = weightRowOf (bad (fault 2 top))
+  going inside i ups downs (found l next) = rowsIf top (inside && every (modest hi) l) (sets ups i (map above l)) (sets downs i (map below l)) next
+
+  pub going-start : (r : Read (List ℤ)) → weightRowOf (judged (every (modest hi)) top r) ≡ going true 0 (replicate 32 0) (replicate 32 0) r
+  unfolding going rowsIf weightRowOf judged need endedOf keptOr padded
+  going-start missing = refl
+  going-start (found l next) = by-test (every (modest hi) l) (λ h. rw h) (λ h. rw h)
+
+  -- one weight more; what is kept of one out of the range does not matter
+  going-before : (inside : Bool) (i : ℕ) (ups downs ups′ downs′ : List ℕ) (w : ℤ) (r : Read (List ℤ))
+      → (modest hi w ≡ true → (ups′ ≡ set ups i (above w)) × (downs′ ≡ set downs i (below w)))
+      → going inside i ups downs (before w r) ≡ going (inside && modest hi w) (i + 1) ups′ downs′ r
+  unfolding going before rowsIf
+  going-before inside i ups downs ups′ downs′ w missing e = refl
+  going-before inside i ups downs ups′ downs′ w (found l t) e =
+      by-test (inside && modest hi w)
+      (λ h. let k = e (and-true inside (modest hi w) h .1) in rw (add-one i, k .0, k .1, and-assoc inside (modest hi w) (every (modest hi) l)))
+      (λ h. rw (← and-assoc inside (modest hi w) (every (modest hi) l), h))
+
+  -- the turn i of n, at `at`
+  module _ (value : Text → ℕ → Read ℤ) (s : Text) (n at : ℕ) (inside : Bool) (i : ℕ) (ups downs : List ℕ) where
+    pub turn-missing : i < n → item value (stopOf (n - i - 1)) s at ≡ missing → going inside i ups downs (items value (n - i) s at) ≡ weightRowOf (bad (fault 2 top))
+    unfolding items going
+    turn-missing h e = let left : n - i ≡ suc (n - i - 1) = omega arith in rw (left, e, items)
+
+    pub turn-more : hi < 65536 → i < n → (x y u : ℕ) → Exact (item value (stopOf (n - i - 1)) s at) (CappedSigned x y) u
+        → (b : Bool) → b ≡ (inside && (leb x hi && leb y hi)) → (ups′ downs′ : List ℕ) → ups′ ≡ set ups i (x % 65536) → downs′ ≡ set downs i (y % 65536)
+        → going inside i ups downs (items value (n - i) s at) ≡ going b (i + 1) ups′ downs′ (items value (n - (i + 1)) s u)
+    unfolding items
+    turn-more fits h x y u w b f ups′ downs′ k l =
+        let left : n - i ≡ suc (n - i - 1) = omega arith in
+        let less : n - (i + 1) ≡ n - i - 1 = omega arith in
+        rw (left, less, w .is, f, ← modest-is hi x y (w .value) fits (w .told), items)
+        (going-before inside i ups downs ups′ downs′ (w .value) (items value (n - i - 1) s u)
+        (λ e. let same = modest-parts hi x y (w .value) fits (w .told) e in (rw (← same .0) k, rw (← same .1) l)))
+
+    pub turn-done : n ≤ i → (b : Bool) → inside ≡ b → going inside i ups downs (items value (n - i) s at) ≡ rowsIf top b ups downs at
+    unfolding items going
+    turn-done h b e = let none : n - i ≡ 0 = omega arith in rw (none, e, bool.and-true b)
 
 -- ---- a list to the end of its line
 
@@ -214,6 +119,51 @@ module _ {A : Type 0} (value : Text → ℕ → Read A) (s : Text) (at : ℕ) wh
 
     pub end-past : length s ≤ at → listEnd value n s at ≡ missing
     end-past h = end-none ∙ ended-past lf s [] at (lit< tt) h
+
+-- ---- a list of numbers, read as weights
+
+-- numbers as weights
+unfoldable pub asWeights : Read (List ℕ) → Read (List ℤ)
+asWeights missing = missing
+asWeights (found l end) = found (map pos l) end
+
+numbers-before : (v : ℕ) (r : Read (List ℕ)) → before (pos v) (asWeights r) ≡ asWeights (before v r)
+unfolding before asWeights
+numbers-before v missing = refl
+numbers-before v (found l end) = refl
+
+module _ (s : Text) where
+  numbers-items : (n at : ℕ) → items (signedIf false) n s at ≡ asWeights (items number n s at)
+  unfolding items plainly asWeights
+  numbers-items zero at = refl
+  numbers-items (suc n) at =
+      by-read (item number (stopOf n) s at)
+      (λ e. rw (item-plain (stopOf n) s at false refl, e, items))
+      (λ v u e. rw (item-plain (stopOf n) s at false refl, e, items, numbers-items n u) (numbers-before v (items number n s u)))
+
+  pub numbers-end : (n at : ℕ) → listEnd (signedIf false) n s at ≡ asWeights (listEnd number n s at)
+  unfolding listEnd ended asWeights
+  numbers-end zero at = by-test (eqb (getD s at 0) lf) (λ h. rw (h, ended)) (λ h. rw (h, ended))
+  numbers-end (suc n) at = numbers-items (suc n) at
+
+  pub numbers-behind : (key : Text) (n at : ℕ) → behind key (listEnd (signedIf false) n s) s at ≡ asWeights (behind key (listEnd number n s) s at)
+  unfolding behind asWeights
+  numbers-behind key n at = by-test (starts key (drop at s)) (λ h. rw (h, behind) (numbers-end n (at + length key))) (λ h. rw (h, behind))
+
+numbers-every : (hi : ℕ) (l : List ℕ) → every (modest hi) (map pos l) ≡ every (λ v. leb v hi) l
+numbers-every hi [] = refl
+numbers-every hi (v ∷ l) = ap (λ (b : Bool). leb v hi && b) (numbers-every hi l)
+
+numbers-above : (l : List ℕ) → map above (map pos l) ≡ l
+numbers-above [] = refl
+numbers-above (v ∷ l) = ap (_∷_ v) (numbers-above l)
+
+-- the parts above 0 are the numbers
+pub numbers-row : (hi top : ℕ) (r : Read (List ℕ)) (q : Read (List ℤ)) (w : WeightRow) → w ≡ weightRowOf (judged (every (modest hi)) top q) → q ≡ asWeights r
+    → record { ended = w .ended; values = w .above } ≡ rowOf (judged (every (λ v. leb v hi)) top r)
+unfolding weightRowOf rowOf judged need endedOf keptOr asWeights
+numbers-row hi top missing q w e f = rw (e, f)
+numbers-row hi top (found l end) q w e f = by-test (every (λ v. leb v hi) l) (λ h. rw (e, f, numbers-every hi l, h, numbers-above l)) (λ h. rw (e, f, numbers-every hi l, h))
 
 -- ---- a list of any length
 

@@ -1,8 +1,8 @@
 -- Laws of the numbers in a text, with and without a sign, and of the byte that ends a value.
 use Prim.Native.Nat.{ℕ, zero, suc, _+_, _-_, _*_, _≤_, _<_, min}
-use mathlib.Core.Path.{_≡_, refl, ap, sym, _∙_}
+use mathlib.Core.Path.{_≡_, refl, sym, _∙_}
 use mathlib.Core.List.{[], _∷_}
-use mathlib.Core.Bool.{true, false}
+use mathlib.Core.Bool.{Bool, true, false, _&&_, false≢true}
 use lib.Dec.{eqb, ltb}
 use lib.IntN.{ℤ}
 use borrow.Author.Tests.{ltb-true, ltb-false, eq-eqb, ne-eqb, eqb-true, eqb-false}
@@ -15,7 +15,7 @@ use Rattle.text.specs.declared.Decimal.the-variants.{Found, Missing}
 use Rattle.text.specs.declared.Signed.the-variants.{Weight, Unsaid}
 use Rattle.text.specs.Bytes.{Text, minus}
 use Rattle.text.proofs.Basics.{by-test}
-use Rattle.text.specs.Number.{Read, missing, found, isDigit, digits, numberOf, number, plainly, negated, signed, ended, item}
+use Rattle.text.specs.Number.{Read, missing, found, isDigit, digits, numberOf, number, plainly, negated, signed, signedIf, ended, item}
 use Rattle.text.specs.Capped.{capped, above, below, cappedSigned}
 use Rattle.text.proofs.ReadLaws.{missing≢found, found-is, past-other}
 use Rattle.text.proofs.NumberSteps.{digits-more, digits-stop, of-zero, of-digit, of-other}
@@ -101,35 +101,6 @@ number-forward s at w t e = number-span s at w t e .0
 pub number-within : (s : Text) (at w t : ℕ) → number s at ≡ found w t → t ≤ length s
 number-within s at w t e = number-span s at w t e .1
 
--- ---- a number with a sign, by the byte at its position
-
-module _ (s : Text) (at : ℕ) where
-  pub signed-minus : getD s at 0 ≡ minus → signed s at ≡ negated (number s (at + 1))
-  unfolding signed
-  signed-minus e = rw (eq-eqb _ _ e, signed)
-
-  pub signed-plain : (getD s at 0 ≡ minus → ⊥) → signed s at ≡ plainly (number s at)
-  unfolding signed
-  signed-plain n = rw (ne-eqb _ _ n, signed)
-
--- a number with a sign ends where its digits end
-plainly-end : (x : Read ℕ) (w : ℤ) (t : ℕ) → plainly x ≡ found w t → (n : ℕ) × (x ≡ found n t)
-unfolding plainly
-plainly-end missing w t e = absurd (missing≢found e)
-plainly-end (found n u) w t e = (n, ap (found n) (found-is e .1))
-
-negated-end : (x : Read ℕ) (w : ℤ) (t : ℕ) → negated x ≡ found w t → (n : ℕ) × (x ≡ found n t)
-unfolding negated
-negated-end missing w t e = absurd (missing≢found e)
-negated-end (found zero u) w t e = absurd (missing≢found e)
-negated-end (found (suc n) u) w t e = (suc n, ap (found (suc n)) (found-is e .1))
-
-pub signed-within : (s : Text) (at : ℕ) (w : ℤ) (t : ℕ) → signed s at ≡ found w t → t ≤ length s
-signed-within s at w t e =
-    by-test (eqb (getD s at 0) minus)
-    (λ m. let n = negated-end (number s (at + 1)) w t (sym (signed-minus s at (eqb-true _ _ m)) ∙ e) in number-within s (at + 1) (n .0) t (n .1))
-    (λ m. let n = plainly-end (number s at) w t (sym (signed-plain s at (eqb-false _ _ m)) ∙ e) in number-within s at (n .0) t (n .1))
-
 -- ---- from an answer of the code to the exact reading, and back
 
 -- a reading that found a value, of which the answer says what `Told` states
@@ -162,9 +133,6 @@ exact-signed (found w t) a b u e = record { value = w; is = (cc); told = ((cc), 
 pub missing-signed : (x : Read ℤ) → Unsaid ≡ cappedSigned x → x ≡ missing
 missing-signed missing e = refl
 missing-signed (found w t) e = cc
-
-pub answer-signed : (x : Read ℤ) (a b u : ℕ) → Exact x (CappedSigned a b) u → Weight a b u ≡ cappedSigned x
-answer-signed x a b u h = rw (h .is, ← h .told .0, ← h .told .1)
 
 -- ---- the sign put on a number
 
@@ -223,3 +191,28 @@ module _ {A : Type 0} (value : Text → ℕ → Read A) (stop : ℕ) (s : Text) 
     pub item-other : (getD s u 0 ≡ stop → ⊥) → item value stop s at ≡ missing
     unfolding item
     item-other n = rw (h .is) (ended-other stop s (h .value) u n)
+
+-- ---- a number with a sign and the byte right after it, by the byte at its position
+
+module _ (stop : ℕ) (s : Text) where
+  plainly-ended : (x : Read ℕ) → ended stop s (plainly x) ≡ plainly (ended stop s x)
+  unfolding plainly ended
+  plainly-ended missing = refl
+  plainly-ended (found n u) = by-test (eqb (getD s u 0) stop) (λ h. rw (h, ended)) (λ h. rw (h, ended))
+
+  negated-ended : (x : Read ℕ) → ended stop s (negated x) ≡ negated (ended stop s x)
+  unfolding negated ended
+  negated-ended missing = refl
+  negated-ended (found zero u) = by-test (eqb (getD s u 0) stop) (λ h. rw (h, ended)) (λ h. rw (h, ended))
+  negated-ended (found (suc n) u) = by-test (eqb (getD s u 0) stop) (λ h. rw (h, ended)) (λ h. rw (h, ended))
+
+  module _ (at : ℕ) where
+    pub item-plain : (sign : Bool) → (sign && eqb (getD s at 0) minus) ≡ false → item (signedIf sign) stop s at ≡ plainly (item number stop s at)
+    unfolding item signedIf signed
+    item-plain true e = rw (e, signed) (plainly-ended (number s at))
+    item-plain false e = plainly-ended (number s at)
+
+    pub item-minus : (sign : Bool) → (sign && eqb (getD s at 0) minus) ≡ true → item (signedIf sign) stop s at ≡ negated (item number stop s (at + 1))
+    unfolding item signedIf signed
+    item-minus true e = rw (e, signed) (negated-ended (number s (at + 1)))
+    item-minus false e = absurd (false≢true e)

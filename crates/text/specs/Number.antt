@@ -48,6 +48,11 @@ negated (found (suc n) end) = found (negsuc n) end
 unfoldable pub signed : Text → ℕ → Read ℤ
 signed s at = elim (eqb (getD s at 0) minus) [ true ↦ negated (number s (at + 1)) | false ↦ plainly (number s at) ]
 
+-- a number that may have a minus sign, or may not
+unfoldable pub signedIf : Bool → Text → ℕ → Read ℤ
+signedIf true s at = signed s at
+signedIf false s at = plainly (number s at)
+
 module _ {A : Type 0} where
   -- what was found, if the byte `stop` stands right after it
   unfoldable pub ended : ℕ → Text → Read A → Read A

@@ -1,32 +1,32 @@
-// Lines `key=list` and `key=weights`, and the lists in them. A key has its '=' at its end.
+// Lines `key=list` and `key=weights`, and the lists in them. A key has its '=' at its end. Every list is read as a list of weights: a list of
+// numbers is one in which no minus sign is allowed.
 ghost use mathlib.Core.Path.{_≡_};
 ghost use Prim.Native.Nat.{_+_, _%_};
 ghost use lib.Dec.{leb};
 ghost use lib.ListN.{length, set};
-ghost use Rattle.text.specs.Number.{number, signed};
+ghost use Rattle.text.specs.Number.{number, signedIf};
 ghost use Rattle.text.specs.Lists.{items, listEnd};
-ghost use Rattle.text.specs.Lines.{judged, every, modest, fault, bad, readList, readWeights};
+ghost use Rattle.text.specs.Lines.{judged, every, modest, fault, bad, behind, readList, readWeights};
 ghost use Rattle.text.specs.Answers.{rowOf, weightRowOf};
-use text::Decimal;
 use text::Ended;
 use text::Fault;
 use text::Row;
 use text::Signed;
 use text::WeightRow;
-use text_scan::item;
-use text_scan::signed_item;
 use text_scan::starts;
 use text_scan::stop_of;
+use text_scan::value_item;
 
-// No numbers, and the fault.
-fn no_row(why: u8, at: usize) -> Row
-    ensures { λ r. ⌜ r ≡ rowOf (bad (fault why at)) ⌝ }
+// No values, and the fault.
+fn no_values(why: u8, at: usize) -> WeightRow
+    ensures { λ r. ⌜ r ≡ weightRowOf (bad (fault why at)) ⌝ }
 {
-    Row {
+    WeightRow {
         ended: Ended::Stopped {
             fault: Fault { why, at },
         },
-        values: [0u16; 32],
+        above: [0u16; 32],
+        below: [0u16; 32],
     }
 }
 
@@ -40,76 +40,9 @@ fn keep(row: &mut [u16; 32], i: usize, v: u32)
     }
 }
 
-// n numbers up to hi from `from` on, joined by commas and ended by LF; their line begins at `top`.
-fn items(s: &[u8], top: usize, from: usize, n: usize, hi: u16) -> Row
-    ensures { λ r. ⌜ r ≡ rowOf (judged (every (λ v. leb v hi)) top (items number n (now (s .entry)) from)) ⌝ }
-{
-    let mut values = [0u16; 32];
-    let mut inside = true;
-    let mut at = from;
-    let mut i = 0;
-    while i < n {
-        let Decimal::Found { value, end } = item(s, at, stop_of(n - i - 1)) else {
-            return no_row(2, top);
-        };
-        inside = inside & (value <= hi as u32);
-        keep(&mut values, i, value);
-        at = end;
-        i += 1;
-    }
-    if inside {
-        return Row {
-            ended: Ended::Past { next: at },
-            values,
-        };
-    }
-    no_row(3, top)
-}
-
-// The list of n numbers up to hi from `at` to the end of its line, which begins at `top`.
-pub fn list_end(s: &[u8], top: usize, at: usize, n: usize, hi: u16) -> Row
-    ensures { λ r. ⌜ r ≡ rowOf (judged (every (λ v. leb v hi)) top (listEnd number n (now (s .entry)) at)) ⌝ }
-{
-    if n != 0 {
-        return items(s, top, at, n, hi);
-    }
-    if at < s.len() {
-        if s[at] == 10 {
-            return Row {
-                ended: Ended::Past { next: at + 1 },
-                values: [0u16; 32],
-            };
-        }
-    }
-    no_row(2, top)
-}
-
-// The line of key and n numbers up to hi.
-pub fn list_line(s: &[u8], at: usize, key: &[u8], n: usize, hi: u16) -> Row
-    ensures { λ r. ⌜ r ≡ rowOf (readList (now (key .entry)) n (λ v. leb v hi) (now (s .entry)) at) ⌝ }
-{
-    if starts(s, at, key) {
-        return list_end(s, at, at + key.len(), n, hi);
-    }
-    no_row(2, at)
-}
-
-// No weights, and the fault.
-fn no_weights(why: u8, at: usize) -> WeightRow
-    ensures { λ r. ⌜ r ≡ weightRowOf (bad (fault why at)) ⌝ }
-{
-    WeightRow {
-        ended: Ended::Stopped {
-            fault: Fault { why, at },
-        },
-        above: [0u16; 32],
-        below: [0u16; 32],
-    }
-}
-
-// n weights of at most hi either side of 0, joined by commas and ended by LF.
-fn weights(s: &[u8], top: usize, from: usize, n: usize, hi: u16) -> WeightRow
-    ensures { λ r. ⌜ r ≡ weightRowOf (judged (every (modest hi)) top (items signed n (now (s .entry)) from)) ⌝ }
+// n values of at most hi either side of 0 from `from` on, joined by commas and ended by LF; their line begins at `top`.
+fn values(s: &[u8], top: usize, from: usize, n: usize, hi: u16, minus: bool) -> WeightRow
+    ensures { λ r. ⌜ r ≡ weightRowOf (judged (every (modest hi)) top (items (signedIf minus) n (now (s .entry)) from)) ⌝ }
 {
     let mut ups = [0u16; 32];
     let mut downs = [0u16; 32];
@@ -117,8 +50,9 @@ fn weights(s: &[u8], top: usize, from: usize, n: usize, hi: u16) -> WeightRow
     let mut at = from;
     let mut i = 0;
     while i < n {
-        let Signed::Weight { above, below, end } = signed_item(s, at, stop_of(n - i - 1)) else {
-            return no_weights(2, top);
+        let stop = stop_of(n - i - 1);
+        let Signed::Weight { above, below, end } = value_item(s, at, stop, minus) else {
+            return no_values(2, top);
         };
         inside = inside & ((above <= hi as u32) & (below <= hi as u32));
         keep(&mut ups, i, above);
@@ -133,15 +67,15 @@ fn weights(s: &[u8], top: usize, from: usize, n: usize, hi: u16) -> WeightRow
             below: downs,
         };
     }
-    no_weights(3, top)
+    no_values(3, top)
 }
 
-// The list of n weights of at most hi either side of 0 from `at` to the end of its line, which begins at `top`.
-fn weights_end(s: &[u8], top: usize, at: usize, n: usize, hi: u16) -> WeightRow
-    ensures { λ r. ⌜ r ≡ weightRowOf (judged (every (modest hi)) top (listEnd signed n (now (s .entry)) at)) ⌝ }
+// The list of n values from `at` to the end of its line, which begins at `top`.
+fn values_end(s: &[u8], top: usize, at: usize, n: usize, hi: u16, minus: bool) -> WeightRow
+    ensures { λ r. ⌜ r ≡ weightRowOf (judged (every (modest hi)) top (listEnd (signedIf minus) n (now (s .entry)) at)) ⌝ }
 {
     if n != 0 {
-        return weights(s, top, at, n, hi);
+        return values(s, top, at, n, hi, minus);
     }
     if at < s.len() {
         if s[at] == 10 {
@@ -152,15 +86,45 @@ fn weights_end(s: &[u8], top: usize, at: usize, n: usize, hi: u16) -> WeightRow
             };
         }
     }
-    no_weights(2, top)
+    no_values(2, top)
+}
+
+// The line of key and n values.
+fn values_line(s: &[u8], at: usize, key: &[u8], n: usize, hi: u16, minus: bool) -> WeightRow
+    ensures { λ r. ⌜ r ≡ weightRowOf (judged (every (modest hi)) at (behind (now (key .entry)) (listEnd (signedIf minus) n (now (s .entry))) (now (s .entry)) at)) ⌝ }
+{
+    if starts(s, at, key) {
+        return values_end(s, at, at + key.len(), n, hi, minus);
+    }
+    no_values(2, at)
+}
+
+// The numbers of a list in which no value is below 0.
+fn numbers(r: WeightRow) -> Row
+    ensures { λ q. ⌜ q ≡ record { ended = r .ended; values = r .above } ⌝ }
+{
+    let ended = r.ended;
+    let values = r.above;
+    Row { ended, values }
+}
+
+// The list of n numbers up to hi from `at` to the end of its line, which begins at `top`.
+pub fn list_end(s: &[u8], top: usize, at: usize, n: usize, hi: u16) -> Row
+    ensures { λ r. ⌜ r ≡ rowOf (judged (every (λ v. leb v hi)) top (listEnd number n (now (s .entry)) at)) ⌝ }
+{
+    numbers(values_end(s, top, at, n, hi, false))
+}
+
+// The line of key and n numbers up to hi.
+pub fn list_line(s: &[u8], at: usize, key: &[u8], n: usize, hi: u16) -> Row
+    ensures { λ r. ⌜ r ≡ rowOf (readList (now (key .entry)) n (λ v. leb v hi) (now (s .entry)) at) ⌝ }
+{
+    numbers(values_line(s, at, key, n, hi, false))
 }
 
 // The line of key and n weights of at most hi either side of 0.
 pub fn weight_line(s: &[u8], at: usize, key: &[u8], n: usize, hi: u16) -> WeightRow
     ensures { λ r. ⌜ r ≡ weightRowOf (readWeights (now (key .entry)) n (modest hi) (now (s .entry)) at) ⌝ }
 {
-    if starts(s, at, key) {
-        return weights_end(s, at, at + key.len(), n, hi);
-    }
-    no_weights(2, at)
+    values_line(s, at, key, n, hi, true)
 }

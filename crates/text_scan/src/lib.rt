@@ -3,7 +3,7 @@ ghost use mathlib.Core.Path.{_≡_};
 ghost use lib.ListN.{drop, getD, length};
 ghost use Rattle.text.specs.Bytes.{starts, lineAt};
 ghost use Prim.Native.Nat.{_+_, _-_, _*_, _≤_, _<_, min};
-ghost use Rattle.text.specs.Number.{isDigit, digits, number, signed, negated, plainly, item};
+ghost use Rattle.text.specs.Number.{isDigit, digits, number, negated, plainly, signedIf, item};
 ghost use Rattle.text.specs.Capped.{capped, cappedSigned};
 ghost use Rattle.text.specs.Lists.{stopOf};
 use text::Decimal;
@@ -129,11 +129,11 @@ pub fn item(s: &[u8], at: usize, stop: u8) -> Decimal
     Decimal::Missing
 }
 
-// The number behind a minus sign, which stands before `at`: never 0.
-fn negated(s: &[u8], at: usize) -> Signed
-    ensures { λ r. ⌜ r ≡ cappedSigned (negated (number (now (s .entry)) at)) ⌝ }
+// The number behind a minus sign, which stands before `at`, and the byte `stop` right after it: never 0.
+fn negated(s: &[u8], at: usize, stop: u8) -> Signed
+    ensures { λ r. ⌜ r ≡ cappedSigned (negated (item number stop (now (s .entry)) at)) ⌝ }
 {
-    let Decimal::Found { value, end } = number(s, at) else {
+    let Decimal::Found { value, end } = item(s, at, stop) else {
         return Signed::Unsaid;
     };
     if value == 0 {
@@ -146,10 +146,10 @@ fn negated(s: &[u8], at: usize) -> Signed
     }
 }
 
-fn plain(s: &[u8], at: usize) -> Signed
-    ensures { λ r. ⌜ r ≡ cappedSigned (plainly (number (now (s .entry)) at)) ⌝ }
+fn plain(s: &[u8], at: usize, stop: u8) -> Signed
+    ensures { λ r. ⌜ r ≡ cappedSigned (plainly (item number stop (now (s .entry)) at)) ⌝ }
 {
-    let Decimal::Found { value, end } = number(s, at) else {
+    let Decimal::Found { value, end } = item(s, at, stop) else {
         return Signed::Unsaid;
     };
     Signed::Weight {
@@ -159,31 +159,14 @@ fn plain(s: &[u8], at: usize) -> Signed
     }
 }
 
-// The number at `at`, which may have a minus sign.
-fn signed_at(s: &[u8], at: usize) -> Signed
-    ensures { λ r. ⌜ r ≡ cappedSigned (signed (now (s .entry)) at) ⌝ }
+// A number, which may have a minus sign where `minus` says so, and the byte `stop` right after it.
+pub fn value_item(s: &[u8], at: usize, stop: u8, minus: bool) -> Signed
+    ensures { λ r. ⌜ r ≡ cappedSigned (item (signedIf minus) stop (now (s .entry)) at) ⌝ }
 {
-    if byte_at(s, at) == 45 {
-        return negated(s, at + 1);
+    if minus & (byte_at(s, at) == 45) {
+        return negated(s, at + 1, stop);
     }
-    plain(s, at)
-}
-
-// A signed number and the byte `stop` right after it.
-pub fn signed_item(s: &[u8], at: usize, stop: u8) -> Signed
-    ensures { λ r. ⌜ r ≡ cappedSigned (item signed stop (now (s .entry)) at) ⌝ }
-{
-    let Signed::Weight { above, below, end } = signed_at(s, at) else {
-        return Signed::Unsaid;
-    };
-    if byte_at(s, end) != stop {
-        return Signed::Unsaid;
-    }
-    Signed::Weight {
-        above,
-        below,
-        end: end + 1,
-    }
+    plain(s, at, stop)
 }
 
 // What ends a number of a list with `left` more to come: LF after the last, else a comma.

@@ -10,7 +10,7 @@ ghost use Rattle.model.specs.Held.{noEvent};
 ghost use Rattle.weigh.specs.Sums.{total, product, GainRow, NetGains, TableGains, Small, eventGain, balanced, balancedAt, leastAfter, ActIn};
 use model::Event;
 use model::ObjectNet;
-use model_tables::sums::put_row;
+use model_tables::sums::put_sums;
 
 // A weight times an arc.
 fn scaled(w: u16, v: u8) -> u64
@@ -73,12 +73,12 @@ fn gain_table(
     ensures { λ r. ⌜ NetGains moves nets objects up down r ⌝ }
 {
     let mut table = [0u64; 288];
-    put_row(&mut table, 0, moves);
+    put_sums(&mut table, 0, moves);
     let mut n = 0;
     while n < nets {
         let o = objects[n];
         let row = net_row(o, up, down, n * 32 + 32);
-        put_row(&mut table, n * 32 + 32, row);
+        put_sums(&mut table, n * 32 + 32, row);
         n += 1;
     }
     table

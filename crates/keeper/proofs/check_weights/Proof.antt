@@ -1,9 +1,7 @@
 -- `check_weights` meets its contract: it makes a reader of the text and calls `weights_from`, which checks a weight file from its first byte on.
-use mathlib.Core.Path.{_∙_}
 use mathlib.Core.List.{[], _∷_}
 use base.Logic.{emp}
 use contract.Monad.{factI}
-use denote.Ref.{now}
 use Rattle.text_reader.proofs.ReaderWalks.{makes}
 use Rattle.reader.proofs.Passing.{model, marking}
 use Rattle.keeper.specs.Answers.{weightsFrom}

@@ -50,8 +50,8 @@ returns c =
     ap₂ block (d .1) (c .empty .ensures)
     ∙ going-bad _ _ _ _ _ _ _ _ (l .before .loop .inv .2) _ (l .loop-test .taken) (read-stopped _ _ _ _ (t .token-line .result) (t .token-line .ensures) _ (d .1))
 
-row-of-requires : tie.Need-row-of-requires Inv-loop μ-loop
-row-of-requires c κs = search needs
+token-row-requires : tie.Need-token-row-requires Inv-loop μ-loop
+token-row-requires c κs = search needs
 
 insert-requires : tie.Need-insert-requires Inv-loop μ-loop
 insert-requires c κs =
@@ -73,7 +73,7 @@ loop-again c =
       omega arith,
       going-turn _ _ _ _ _ _ _ _ (l .before .loop .inv .2) _ _ _ _ _ (l .loop-test .taken)
           (read-past _ _ _ _ (t .token-line .result) (t .token-line .ensures) _ (l .before .before .before .pre .1) (k .before .e .given .1))
-          (c .before .row-of .ensures) (c .insert .ensures),
+          (c .before .token-row .ensures) (c .insert .ensures),
     )
 
 returns-2 : tie.Need-returns-2 Inv-loop μ-loop
@@ -93,7 +93,7 @@ tokens-at-spec =
     enum-told
     empty-requires
     returns
-    row-of-requires
+    token-row-requires
     insert-requires
     add-i
     loop-less

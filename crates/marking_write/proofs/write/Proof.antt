@@ -76,11 +76,11 @@ put-number-line-requires c κs =
     let a = w .before .before .before .before .args in
     omega (arith, number-line-length (a .key .now) (a .k .len), w .width .ensures)
 
-slice-aggregate-put-rows : tie.Need-slice-aggregate-put-rows
-slice-aggregate-put-rows c = search needs
+slice-aggregate-put-tokens : tie.Need-slice-aggregate-put-tokens
+slice-aggregate-put-tokens c = search needs
 
-put-rows-requires : tie.Need-put-rows-requires
-put-rows-requires c κs =
+put-tokens-requires : tie.Need-put-tokens-requires
+put-tokens-requires c κs =
     let p = c .before .before .before .before in
     let r = p .before .before .before in
     let w = r .before .before in
@@ -105,7 +105,7 @@ returns-2 c =
     let a = s .args in
     let e = counted r in
     lay-whole (blockText (a .key .now) (tokensOf (sizesAt (a .places) (a .sizes)) (a .k))) (a .out .now) (a .at) (omega (arith, e)) (omega (arith, e))
-    (text-laid (a .places) (a .sizes) (a .k) (s .pre .0) (a .key .now) (a .out .now) (a .at) (p .put-number-line .ensures) (q .put-rows .ensures))
+    (text-laid (a .places) (a .sizes) (a .k) (s .pre .0) (a .key .now) (a .out .now) (a .at) (p .put-number-line .ensures) (q .put-tokens .ensures))
 
 pub write-spec : {M : Type 1} → statement M
 write-spec =
@@ -120,7 +120,7 @@ write-spec =
     add-end-4
     returns
     put-number-line-requires
-    slice-aggregate-put-rows
-    put-rows-requires
+    slice-aggregate-put-tokens
+    put-tokens-requires
     same-length
     returns-2)

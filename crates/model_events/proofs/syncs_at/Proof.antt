@@ -43,14 +43,14 @@ returns c =
     syncs-refused _ _ _ (c .enum-told .given .1)
     (l .before .loop .inv .2 ∙ syncs-stop _ _ _ _ _ (l .loop-test .taken) _ (r .sync-at .ensures) _ (c .enum-told .given .1))
 
-slice-aggregate-put-row : tie.Need-slice-aggregate-put-row Inv-loop μ-loop
-slice-aggregate-put-row c = search needs
+slice-aggregate-put-bytes : tie.Need-slice-aggregate-put-bytes Inv-loop μ-loop
+slice-aggregate-put-bytes c = search needs
 
-mul-put-row : tie.Need-mul-put-row Inv-loop μ-loop
-mul-put-row c = search needs
+mul-put-bytes : tie.Need-mul-put-bytes Inv-loop μ-loop
+mul-put-bytes c = search needs
 
-put-row-requires : tie.Need-put-row-requires Inv-loop μ-loop
-put-row-requires c κs = search needs
+put-bytes-requires : tie.Need-put-bytes-requires Inv-loop μ-loop
+put-bytes-requires c κs = search needs
 
 add-i : tie.Need-add-i Inv-loop μ-loop
 add-i c = search needs
@@ -65,8 +65,8 @@ loop-again c =
     let r = e .before .before in
     let l = r .before in (
       omega arith,
-      p .put-row .kept .0 ∙ l .before .loop .inv .1,
-      l .before .loop .inv .2 ∙ syncs-more _ _ _ _ _ (l .loop-test .taken) _ (r .sync-at .ensures) _ (e .e .given .1) _ (p .put-row .ensures),
+      p .put-bytes .kept .0 ∙ l .before .loop .inv .1,
+      l .before .loop .inv .2 ∙ syncs-more _ _ _ _ _ (l .loop-test .taken) _ (r .sync-at .ensures) _ (e .e .given .1) _ (p .put-bytes .ensures),
     )
 
 returns-2 : tie.Need-returns-2 Inv-loop μ-loop
@@ -83,9 +83,9 @@ syncs-at-spec =
     enum-known-e
     enum-told
     returns
-    slice-aggregate-put-row
-    mul-put-row
-    put-row-requires
+    slice-aggregate-put-bytes
+    mul-put-bytes
+    put-bytes-requires
     add-i
     loop-less
     loop-again

@@ -52,23 +52,23 @@ returns c =
     tables-bad _ _ _ (c .enum-told .given .1)
     (l .inv .3 ∙ rows-stop _ _ _ _ (r .before .loop-test .taken) _ (r .sides-at .ensures) _ (c .enum-told .given .1) _)
 
-slice-aggregate-put-row : tie.Need-slice-aggregate-put-row Inv-loop μ-loop
-slice-aggregate-put-row c = search needs
+slice-aggregate-put-bytes : tie.Need-slice-aggregate-put-bytes Inv-loop μ-loop
+slice-aggregate-put-bytes c = search needs
 
-mul-put-row : tie.Need-mul-put-row Inv-loop μ-loop
-mul-put-row c = search needs
+mul-put-bytes : tie.Need-mul-put-bytes Inv-loop μ-loop
+mul-put-bytes c = search needs
 
-put-row-requires : tie.Need-put-row-requires Inv-loop μ-loop
-put-row-requires c κs = search needs
+put-bytes-requires : tie.Need-put-bytes-requires Inv-loop μ-loop
+put-bytes-requires c κs = search needs
 
-slice-aggregate-put-row-2 : tie.Need-slice-aggregate-put-row-2 Inv-loop μ-loop
-slice-aggregate-put-row-2 c = search needs
+slice-aggregate-put-bytes-2 : tie.Need-slice-aggregate-put-bytes-2 Inv-loop μ-loop
+slice-aggregate-put-bytes-2 c = search needs
 
-mul-put-row-2 : tie.Need-mul-put-row-2 Inv-loop μ-loop
-mul-put-row-2 c = search needs
+mul-put-bytes-2 : tie.Need-mul-put-bytes-2 Inv-loop μ-loop
+mul-put-bytes-2 c = search needs
 
-put-row-requires-2 : tie.Need-put-row-requires-2 Inv-loop μ-loop
-put-row-requires-2 c κs = search needs
+put-bytes-requires-2 : tie.Need-put-bytes-requires-2 Inv-loop μ-loop
+put-bytes-requires-2 c κs = search needs
 
 add-i : tie.Need-add-i Inv-loop μ-loop
 add-i c = search needs
@@ -84,10 +84,10 @@ loop-again c =
     let r = e .before .before in
     let l = r .before .before .loop in (
       omega arith,
-      p₁ .put-row .kept .0 ∙ l .inv .1,
-      p₂ .put-row2 .kept .0 ∙ l .inv .2,
-      l .inv .3 ∙ pre-more _ _ _ _ (r .before .loop-test .taken) _ (r .sides-at .ensures) _ (e .e .given .1) _ _ (p₁ .put-row .ensures),
-      l .inv .4 ∙ post-more _ _ _ _ (r .before .loop-test .taken) _ (r .sides-at .ensures) _ (e .e .given .1) _ _ (p₂ .put-row2 .ensures),
+      p₁ .put-bytes .kept .0 ∙ l .inv .1,
+      p₂ .put-bytes2 .kept .0 ∙ l .inv .2,
+      l .inv .3 ∙ pre-more _ _ _ _ (r .before .loop-test .taken) _ (r .sides-at .ensures) _ (e .e .given .1) _ _ (p₁ .put-bytes .ensures),
+      l .inv .4 ∙ post-more _ _ _ _ (r .before .loop-test .taken) _ (r .sides-at .ensures) _ (e .e .given .1) _ _ (p₂ .put-bytes2 .ensures),
     )
 
 returns-2 : tie.Need-returns-2 Inv-loop μ-loop
@@ -107,12 +107,12 @@ tables-at-spec =
     enum-known-e
     enum-told
     returns
-    slice-aggregate-put-row
-    mul-put-row
-    put-row-requires
-    slice-aggregate-put-row-2
-    mul-put-row-2
-    put-row-requires-2
+    slice-aggregate-put-bytes
+    mul-put-bytes
+    put-bytes-requires
+    slice-aggregate-put-bytes-2
+    mul-put-bytes-2
+    put-bytes-requires-2
     add-i
     loop-less
     loop-again

@@ -11,22 +11,22 @@ use lib.Seq.{sets}
 use Rattle.text.proofs.PaddedLaws.{put-next, put-done}
 
 abbrev Inv-loop : tie.InvT-loop
-Inv-loop flat₀ at part i₀ flat i = (i ≤ length part) × (length flat ≡ 34996) × (sets flat₀ at part ≡ sets flat (at + i) (drop i part))
+Inv-loop packed₀ at part i₀ packed i = (i ≤ length part) × (length packed ≡ 34996) × (sets packed₀ at part ≡ sets packed (at + i) (drop i part))
 
 abbrev μ-loop : tie.MeasureT-loop
-μ-loop flat₀ at part i₀ flat i = length part - i
+μ-loop packed₀ at part i₀ packed i = length part - i
 
 loop-holds : tie.Need-loop-holds Inv-loop μ-loop
 loop-holds c = (omega arith, search needs, rw add-zero)
 
-shared-slice-read-flat : tie.Need-shared-slice-read-flat Inv-loop μ-loop
-shared-slice-read-flat c = search needs
+shared-slice-read-packed : tie.Need-shared-slice-read-packed Inv-loop μ-loop
+shared-slice-read-packed c = search needs
 
-add-flat : tie.Need-add-flat Inv-loop μ-loop
-add-flat c = search needs
+add-packed : tie.Need-add-packed Inv-loop μ-loop
+add-packed c = search needs
 
-element-write-flat : tie.Need-element-write-flat Inv-loop μ-loop
-element-write-flat c = search needs
+element-write-packed : tie.Need-element-write-packed Inv-loop μ-loop
+element-write-packed c = search needs
 
 add-i : tie.Need-add-i Inv-loop μ-loop
 add-i c = search needs
@@ -53,9 +53,9 @@ lay-spec =
     Inv-loop
     μ-loop
     loop-holds
-    shared-slice-read-flat
-    add-flat
-    element-write-flat
+    shared-slice-read-packed
+    add-packed
+    element-write-packed
     add-i
     loop-less
     loop-again

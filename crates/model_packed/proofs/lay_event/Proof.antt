@@ -7,14 +7,14 @@ use native.Mathlib.Omega.{arith}
 use lib.ListN.{length}
 use Rattle.model_packed.proofs.PartsLaid.{pair-laid}
 
-element-write-flat : tie.Need-element-write-flat
-element-write-flat c = search needs
+element-write-packed : tie.Need-element-write-packed
+element-write-packed c = search needs
 
-add-flat : tie.Need-add-flat
-add-flat c = search needs
+add-packed : tie.Need-add-packed
+add-packed c = search needs
 
-element-write-flat-2 : tie.Need-element-write-flat-2
-element-write-flat-2 c = search needs
+element-write-packed-2 : tie.Need-element-write-packed-2
+element-write-packed-2 c = search needs
 
 add-lay : tie.Need-add-lay
 add-lay c = search needs
@@ -27,9 +27,9 @@ returns c =
     let s = c .before .before .before .before .before in
     let a = s .args in
     let n : length (a .t3 .sync) ≡ 256 = search needs in
-    (c .lay .ensures .0, omega arith, c .lay .ensures .1 ∙ pair-laid (a .flat .now) (a .at) (a .t3 .kind) (a .t3 .index) (a .t3 .sync))
+    (c .lay .ensures .0, omega arith, c .lay .ensures .1 ∙ pair-laid (a .packed .now) (a .at) (a .t3 .kind) (a .t3 .index) (a .t3 .sync))
 
 pub lay-event-spec : {M : Type 1} → statement M
 lay-event-spec =
     tie.close
-    (tie.spec element-write-flat add-flat element-write-flat-2 add-lay lay-requires returns)
+    (tie.spec element-write-packed add-packed element-write-packed-2 add-lay lay-requires returns)

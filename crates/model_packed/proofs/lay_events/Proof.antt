@@ -8,15 +8,15 @@ use native.Mathlib.Omega.{arith}
 use mathlib.Core.List.{[]}
 use lib.ListN.{length, drop}
 use lib.Seq.{sets}
-use Rattle.model_packed.specs.Packed.{eventBytes, joined}
+use Rattle.model_packed.specs.Packed.{eventBytes, concatMap}
 use Rattle.model.specs.declared.Event.{Event}
 use Rattle.model_packed.proofs.PartsLaid.{next-laid, all-laid}
 
 abbrev Inv-loop : tie.InvT-loop
-Inv-loop flat₀ events e₀ flat e = (e ≤ 64) × (length flat ≡ 34996) × (sets flat₀ 18484 (joined eventBytes events) ≡ sets flat (18484 + e * 258) (joined eventBytes (drop e events)))
+Inv-loop packed₀ events e₀ packed e = (e ≤ 64) × (length packed ≡ 34996) × (sets packed₀ 18484 (concatMap eventBytes events) ≡ sets packed (18484 + e * 258) (concatMap eventBytes (drop e events)))
 
 abbrev μ-loop : tie.MeasureT-loop
-μ-loop flat₀ events e₀ flat e = 64 - e
+μ-loop packed₀ events e₀ packed e = 64 - e
 
 loop-holds : tie.Need-loop-holds Inv-loop μ-loop
 loop-holds c = (omega arith, search needs, refl)
@@ -52,7 +52,7 @@ loop-again c =
     let d : Event = record { kind = 0; index = 0; sync = [] } in (
       omega arith,
       c .lay-event .ensures .0,
-      next-laid eventBytes d 18484 258 (a .t2) (a .flat .now) (l .loop .flat) _ e (l .loop .inv .2) (omega arith) (c .lay-event .ensures .1) (c .lay-event .ensures .2),
+      next-laid eventBytes d 18484 258 (a .t2) (a .packed .now) (l .loop .packed) _ e (l .loop .inv .2) (omega arith) (c .lay-event .ensures .1) (c .lay-event .ensures .2),
     )
 
 returns : tie.Need-returns Inv-loop μ-loop
@@ -61,7 +61,7 @@ returns c =
     let a = l .before .args in
     let m : length (a .t2) ≡ 64 = search needs in
     let d : Event = record { kind = 0; index = 0; sync = [] } in
-    (l .loop .inv .1, all-laid eventBytes d 18484 258 (a .t2) (a .flat .now) (l .loop .flat) (l .loop .e) (l .loop .inv .2) (omega (arith, c .loop-test .left)))
+    (l .loop .inv .1, all-laid eventBytes d 18484 258 (a .t2) (a .packed .now) (l .loop .packed) (l .loop .e) (l .loop .inv .2) (omega (arith, c .loop-test .left)))
 
 pub lay-events-spec : {M : Type 1} → statement M
 lay-events-spec =

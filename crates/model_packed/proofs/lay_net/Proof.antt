@@ -17,17 +17,17 @@ start c = c .before .before .before .before .before .before
 byte-requires : tie.Need-byte-requires
 byte-requires c κs = search needs
 
-element-write-flat : tie.Need-element-write-flat
-element-write-flat c = search needs
+element-write-packed : tie.Need-element-write-packed
+element-write-packed c = search needs
 
 byte-requires-2 : tie.Need-byte-requires-2
 byte-requires-2 c κs = search needs
 
-add-flat : tie.Need-add-flat
-add-flat c = search needs
+add-packed : tie.Need-add-packed
+add-packed c = search needs
 
-element-write-flat-2 : tie.Need-element-write-flat-2
-element-write-flat-2 c = search needs
+element-write-packed-2 : tie.Need-element-write-packed-2
+element-write-packed-2 c = search needs
 
 add-lay : tie.Need-add-lay
 add-lay c = search needs
@@ -37,7 +37,7 @@ lay-requires c κs =
     let s = start c in
     let a = s .args in
     let n : length (a .t3 .pre) ≡ 1024 = search needs in
-    (length-pair (a .flat .now) (a .at) _ _ ∙ s .pre .0, omega arith)
+    (length-pair (a .packed .now) (a .at) _ _ ∙ s .pre .0, omega arith)
 
 add-lay-2 : tie.Need-add-lay-2
 add-lay-2 c = search needs
@@ -61,7 +61,7 @@ returns c =
     let o : length (a .t3 .post) ≡ 1024 = search needs in (
       c .lay2 .ensures .0,
       omega (arith, length-append (a .t3 .pre) (a .t3 .post)),
-      net-laid (a .flat .now) (a .at) _ _ (a .t3 .pre) (a .t3 .post) _ _ n (b .lay .ensures .1) (c .lay2 .ensures .1) ∙ ap (sets (a .flat .now) (a .at)) e,
+      net-laid (a .packed .now) (a .at) _ _ (a .t3 .pre) (a .t3 .post) _ _ n (b .lay .ensures .1) (c .lay2 .ensures .1) ∙ ap (sets (a .packed .now) (a .at)) e,
     )
 
 pub lay-net-spec : {M : Type 1} → statement M
@@ -69,10 +69,10 @@ lay-net-spec =
     tie.close
     (tie.spec
     byte-requires
-    element-write-flat
+    element-write-packed
     byte-requires-2
-    add-flat
-    element-write-flat-2
+    add-packed
+    element-write-packed-2
     add-lay
     lay-requires
     add-lay-2

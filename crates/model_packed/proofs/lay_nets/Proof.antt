@@ -8,15 +8,15 @@ use native.Mathlib.Omega.{arith}
 use mathlib.Core.List.{[]}
 use lib.ListN.{length, drop}
 use lib.Seq.{sets}
-use Rattle.model_packed.specs.Packed.{netBytes, joined}
+use Rattle.model_packed.specs.Packed.{netBytes, concatMap}
 use Rattle.model.specs.declared.ObjectNet.{ObjectNet}
 use Rattle.model_packed.proofs.PartsLaid.{next-laid, all-laid}
 
 abbrev Inv-loop : tie.InvT-loop
-Inv-loop flat₀ objects n₀ flat n = (n ≤ 8) × (length flat ≡ 34996) × (sets flat₀ 2084 (joined netBytes objects) ≡ sets flat (2084 + n * 2050) (joined netBytes (drop n objects)))
+Inv-loop packed₀ objects n₀ packed n = (n ≤ 8) × (length packed ≡ 34996) × (sets packed₀ 2084 (concatMap netBytes objects) ≡ sets packed (2084 + n * 2050) (concatMap netBytes (drop n objects)))
 
 abbrev μ-loop : tie.MeasureT-loop
-μ-loop flat₀ objects n₀ flat n = 8 - n
+μ-loop packed₀ objects n₀ packed n = 8 - n
 
 loop-holds : tie.Need-loop-holds Inv-loop μ-loop
 loop-holds c = (omega arith, search needs, refl)
@@ -52,7 +52,7 @@ loop-again c =
     let d : ObjectNet = record { places = 0; transitions = 0; pre = []; post = [] } in (
       omega arith,
       c .lay-net .ensures .0,
-      next-laid netBytes d 2084 2050 (a .t2) (a .flat .now) (l .loop .flat) _ n (l .loop .inv .2) (omega arith) (c .lay-net .ensures .1) (c .lay-net .ensures .2),
+      next-laid netBytes d 2084 2050 (a .t2) (a .packed .now) (l .loop .packed) _ n (l .loop .inv .2) (omega arith) (c .lay-net .ensures .1) (c .lay-net .ensures .2),
     )
 
 returns : tie.Need-returns Inv-loop μ-loop
@@ -61,7 +61,7 @@ returns c =
     let a = l .before .args in
     let m : length (a .t2) ≡ 8 = search needs in
     let d : ObjectNet = record { places = 0; transitions = 0; pre = []; post = [] } in
-    (l .loop .inv .1, all-laid netBytes d 2084 2050 (a .t2) (a .flat .now) (l .loop .flat) (l .loop .n) (l .loop .inv .2) (omega (arith, c .loop-test .left)))
+    (l .loop .inv .1, all-laid netBytes d 2084 2050 (a .t2) (a .packed .now) (l .loop .packed) (l .loop .n) (l .loop .inv .2) (omega (arith, c .loop-test .left)))
 
 pub lay-nets-spec : {M : Type 1} → statement M
 lay-nets-spec =

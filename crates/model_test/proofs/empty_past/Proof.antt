@@ -18,14 +18,14 @@ Inv-loop rows table n widths all₀ i₀ all i = (i ≤ n) × (all ≡ (empty (d
 abbrev μ-loop : tie.MeasureT-loop
 μ-loop rows table n widths all₀ i₀ all i = n - i
 
-mul-empty-from : tie.Need-mul-empty-from Inv-loop μ-loop
-mul-empty-from c = search needs
+mul-empty-bytes : tie.Need-mul-empty-bytes Inv-loop μ-loop
+mul-empty-bytes c = search needs
 
-empty-from-requires : tie.Need-empty-from-requires Inv-loop μ-loop
-empty-from-requires c κs = search needs
+empty-bytes-requires : tie.Need-empty-bytes-requires Inv-loop μ-loop
+empty-bytes-requires c κs = search needs
 
 loop-holds : tie.Need-loop-holds Inv-loop μ-loop
-loop-holds c = (search needs, c .empty-from .ensures ∙ sym (and-true _))
+loop-holds c = (search needs, c .empty-bytes .ensures ∙ sym (and-true _))
 
 mul-at : tie.Need-mul-at Inv-loop μ-loop
 mul-at c = search needs
@@ -36,20 +36,20 @@ mul-used c = search needs
 shared-slice-read-used : tie.Need-shared-slice-read-used Inv-loop μ-loop
 shared-slice-read-used c = search needs
 
-add-empty-from : tie.Need-add-empty-from Inv-loop μ-loop
-add-empty-from c = search needs
+add-empty-bytes : tie.Need-add-empty-bytes Inv-loop μ-loop
+add-empty-bytes c = search needs
 
-sub-empty-from : tie.Need-sub-empty-from Inv-loop μ-loop
-sub-empty-from c = search needs
+sub-empty-bytes : tie.Need-sub-empty-bytes Inv-loop μ-loop
+sub-empty-bytes c = search needs
 
-part-empty-from-start : tie.Need-part-empty-from-start Inv-loop μ-loop
-part-empty-from-start c = search needs
+part-empty-bytes-start : tie.Need-part-empty-bytes-start Inv-loop μ-loop
+part-empty-bytes-start c = search needs
 
-part-empty-from-end : tie.Need-part-empty-from-end Inv-loop μ-loop
-part-empty-from-end c = search needs
+part-empty-bytes-end : tie.Need-part-empty-bytes-end Inv-loop μ-loop
+part-empty-bytes-end c = search needs
 
-empty-from-requires-2 : tie.Need-empty-from-requires-2 Inv-loop μ-loop
-empty-from-requires-2 c κs = search needs
+empty-bytes-requires-2 : tie.Need-empty-bytes-requires-2 Inv-loop μ-loop
+empty-bytes-requires-2 c κs = search needs
 
 add-i : tie.Need-add-i Inv-loop μ-loop
 add-i c = search needs
@@ -64,8 +64,8 @@ loop-again c =
     let q : l .loop .i * 32 + 32 - l .loop .i * 32 ≡ 32 = omega arith in (
       omega arith,
       turn (emptyAt (nth (a .widths .now)) (a .table .now)) (l .loop .i) (empty (drop (a .n * 32) (a .table .now))) (l .loop .all)
-          (c .empty-from2 .result) (l .loop .inv .1)
-          (c .empty-from2 .ensures
+          (c .empty-bytes2 .result) (l .loop .inv .1)
+          (c .empty-bytes2 .ensures
           ∙ ap (λ (n : ℕ). empty (drop (nth (a .widths .now) (l .loop .i)) (take n (drop (l .loop .i * 32) (a .table .now))))) q),
     )
 
@@ -83,17 +83,17 @@ empty-past-spec =
     (tie.spec
     Inv-loop
     μ-loop
-    mul-empty-from
-    empty-from-requires
+    mul-empty-bytes
+    empty-bytes-requires
     loop-holds
     mul-at
     mul-used
     shared-slice-read-used
-    add-empty-from
-    sub-empty-from
-    part-empty-from-start
-    part-empty-from-end
-    empty-from-requires-2
+    add-empty-bytes
+    sub-empty-bytes
+    part-empty-bytes-start
+    part-empty-bytes-end
+    empty-bytes-requires-2
     add-i
     loop-less
     loop-again

@@ -1,4 +1,4 @@
--- `test` is `heldModel`: the counts first, then types, moves, nets and events.
+-- `is_held` is `heldModel`: the counts first, then types, moves, nets and events.
 use borrow.Author.Needs.{needs}
 use Rattle.model_test.proofs.is_held.Statement.{statement}
 use Rattle.model_test.proofs.is_held.Tie as tie
@@ -7,8 +7,8 @@ use mathlib.Core.Path.{_≡_, sym, _∙_}
 use mathlib.Core.Bool.{true}
 use native.Mathlib.Omega.{arith}
 use borrow.Author.Tests.{not-true, not-false}
-use Rattle.model.specs.Test.{heldTypes, heldMoves, heldNets, countsAre}
-use Rattle.model.proofs.HeldTestLoops.{and-no, and-yes, few-counts, counts-first, events-are}
+use Rattle.model.specs.Test.{heldTypes, heldMoves, heldNets, countsAre, heldModel}
+use Rattle.model.proofs.HeldTestLoops.{and-no, and-yes, few-counts, events-are}
 
 -- the counts are in range
 counted : (c : tie.Else1) → let m = c .before .before .args .t1 in countsAre (m .nets) (m .places) (m .moves) (m .listed) ≡ true
@@ -21,7 +21,8 @@ counts-held-requires : tie.Need-counts-held-requires
 counts-held-requires c κs = search needs
 
 returns : tie.Need-returns
-returns c = and-no _ _ (sym (c .before .counts-held .ensures) ∙ not-true _ (c .if1 .taken)) ∙ counts-first (c .before .before .args .t1)
+unfolding heldModel
+returns c = and-no _ _ (sym (c .before .counts-held .ensures) ∙ not-true _ (c .if1 .taken))
 
 types-held-requires : tie.Need-types-held-requires
 types-held-requires c κs = search needs
@@ -38,8 +39,8 @@ moves-held-requires c κs =
 nets-held-requires : tie.Need-nets-held-requires
 nets-held-requires c κs = search needs
 
-steps-of-requires : tie.Need-steps-of-requires
-steps-of-requires c κs = search needs
+transitions-of-requires : tie.Need-transitions-of-requires
+transitions-of-requires c κs = search needs
 
 events-held-requires : tie.Need-events-held-requires
 events-held-requires c κs =
@@ -48,7 +49,7 @@ events-held-requires c κs =
     (r .1, r .2, r .0)
 
 returns-2 : tie.Need-returns-2
-unfolding heldTypes heldMoves heldNets
+unfolding heldModel heldTypes heldMoves heldNets
 returns-2 c =
     let s = c .before in
     let n = s .before in
@@ -56,10 +57,9 @@ returns-2 c =
     let t = v .before .before .before .before .before .before in
     let b = t .before .before .before .before in
     let m = b .before .before .args .t1 in
-    let e = events-are m (s .steps-of .result) (s .steps-of .ensures) in
+    let e = events-are m (s .transitions-of .result) (s .transitions-of .ensures) in
     and-yes _ _ _ (counted b)
     (rw (t .types-held .ensures, v .moves-held .ensures, n .nets-held .ensures, c .events-held .ensures, e))
-    ∙ counts-first m
 
 pub is-held-spec : {M : Type 1} → statement M
 is-held-spec =
@@ -71,6 +71,6 @@ is-held-spec =
     cast-moves-held
     moves-held-requires
     nets-held-requires
-    steps-of-requires
+    transitions-of-requires
     events-held-requires
     returns-2)

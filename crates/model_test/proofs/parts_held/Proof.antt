@@ -22,8 +22,8 @@ returns c = let a = c .before .before .args in rw (c .if1 .taken) (parts-move (a
 loop-holds : tie.Need-loop-holds Inv-loop μ-loop
 loop-holds c = (search needs, refl)
 
-row-at-requires : tie.Need-row-at-requires Inv-loop μ-loop
-row-at-requires c κs = search needs
+table-row-requires : tie.Need-table-row-requires Inv-loop μ-loop
+table-row-requires c κs = search needs
 
 takes-part-requires : tie.Need-takes-part-requires Inv-loop μ-loop
 takes-part-requires c κs = search needs
@@ -41,7 +41,7 @@ loop-again c =
     let a = l .before .before .before .args in (
       omega arith,
       turn (partAt (a .own) (a .sync .now)) (l .loop .n) true (l .loop .all) (c .takes-part .result) (l .loop .inv .1)
-          (c .takes-part .ensures ∙ rw (b .row-at .ensures)),
+          (c .takes-part .ensures ∙ rw (b .table-row .ensures)),
     )
 
 returns-2 : tie.Need-returns-2 Inv-loop μ-loop
@@ -58,7 +58,7 @@ parts-held-spec =
     μ-loop
     returns
     loop-holds
-    row-at-requires
+    table-row-requires
     takes-part-requires
     add-n
     loop-less

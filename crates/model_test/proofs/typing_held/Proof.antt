@@ -19,11 +19,11 @@ abbrev μ-loop : tie.MeasureT-loop
 loop-holds : tie.Need-loop-holds Inv-loop μ-loop
 loop-holds c = (search needs, refl)
 
-row-at-requires : tie.Need-row-at-requires Inv-loop μ-loop
-row-at-requires c κs = search needs
+table-row-requires : tie.Need-table-row-requires Inv-loop μ-loop
+table-row-requires c κs = search needs
 
-row-at-requires-2 : tie.Need-row-at-requires-2 Inv-loop μ-loop
-row-at-requires-2 c κs = search needs
+table-row-requires-2 : tie.Need-table-row-requires-2 Inv-loop μ-loop
+table-row-requires-2 c κs = search needs
 
 monotonous-requires : tie.Need-monotonous-requires Inv-loop μ-loop
 monotonous-requires c κs = search needs
@@ -41,7 +41,7 @@ loop-again c =
     let a = l .before .before .before .args in (
       omega arith,
       turn (moveAt (a .nets) (a .places) (a .types) (a .pre .now) (a .post .now)) (l .loop .i) true (l .loop .all)
-          (c .monotonous .result) (l .loop .inv .1) (c .monotonous .ensures ∙ rw (b .before .row-at .ensures, b .row-at2 .ensures)),
+          (c .monotonous .result) (l .loop .inv .1) (c .monotonous .ensures ∙ rw (b .before .table-row .ensures, b .table-row2 .ensures)),
     )
 
 returns : tie.Need-returns Inv-loop μ-loop
@@ -57,8 +57,8 @@ typing-held-spec =
     Inv-loop
     μ-loop
     loop-holds
-    row-at-requires
-    row-at-requires-2
+    table-row-requires
+    table-row-requires-2
     monotonous-requires
     add-i
     loop-less

@@ -33,14 +33,14 @@ returns-2 c =
     let t = c .before .before in
     marking-unheld _ _ _ (t .before .if1 .left) _ (c .no-tokens2 .ensures) (sym (t .is-held .ensures) ∙ not-true _ (c .before .if2 .taken))
 
-cast-tokens-at : tie.Need-cast-tokens-at
-cast-tokens-at c = omega (arith, most-places _ (held-is _ (passed (c .before))))
+cast-tokens-to-end : tie.Need-cast-tokens-to-end
+cast-tokens-to-end c = omega (arith, most-places _ (held-is _ (passed (c .before))))
 
 sizes-requires : tie.Need-sizes-requires
 sizes-requires c κs = passed (c .before)
 
-tokens-at-requires : tie.Need-tokens-at-requires
-tokens-at-requires c κs = roomy-of _ (passed (c .before .before)) _ (c .sizes .ensures)
+tokens-to-end-requires : tie.Need-tokens-to-end-requires
+tokens-to-end-requires c κs = roomy-of _ (passed (c .before .before)) _ (c .sizes .ensures)
 
 enum-told : tie.Need-enum-told
 enum-told c = search needs
@@ -61,7 +61,7 @@ returns-3 c =
     let e = b .before .before .before in
     c .no-tokens3 .ensures ∙ ap noTokens (c .before .answer-of .ensures ∙ ap (answerOf _) (t .enum-told2 .given .1))
     ∙ marking-stopped _ _ _ (e .before .before .if1 .left) (passed e) _ (b .before .sizes .ensures)
-    (b .tokens-at .result) (b .tokens-at .ensures) _ (t .enum-told2 .given .1)
+    (b .tokens-to-end .result) (b .tokens-to-end .ensures) _ (t .enum-told2 .given .1)
 
 returns-4 : tie.Need-returns-4
 returns-4 c =
@@ -69,7 +69,7 @@ returns-4 c =
     let b = t .before .before in
     let e = b .before .before .before in
     marking-read _ _ _ (e .before .before .if1 .left) (passed e) _ (b .before .sizes .ensures)
-    (b .tokens-at .result) (b .tokens-at .ensures) _ (t .enum-told .given .1)
+    (b .tokens-to-end .result) (b .tokens-to-end .ensures) _ (t .enum-told .given .1)
 
 pub marking-at-spec : {M : Type 1} → statement M
 marking-at-spec =
@@ -80,9 +80,9 @@ marking-at-spec =
     is-held-requires
     no-tokens-requires-2
     returns-2
-    cast-tokens-at
+    cast-tokens-to-end
     sizes-requires
-    tokens-at-requires
+    tokens-to-end-requires
     enum-told
     enum-told-2
     answer-of-requires

@@ -43,14 +43,14 @@ returns-2 c =
     c .no-reading2 .ensures ∙ ap noReading (c .before .answer-of .ensures ∙ ap (answerOf _) (t .enum-told .given .1))
     ∙ model-stopped _ _ (p .before .if1 .left) (p .read-plant .result) (p .read-plant .ensures) _ (t .enum-told .given .1)
 
-cast-tokens-at : tie.Need-cast-tokens-at
-cast-tokens-at c = omega (arith, most-places _ (held-is _ (held (c .before .before .before))))
+cast-tokens-to-end : tie.Need-cast-tokens-to-end
+cast-tokens-to-end c = omega (arith, most-places _ (held-is _ (held (c .before .before .before))))
 
 sizes-requires : tie.Need-sizes-requires
 sizes-requires c κs = held (c .before .before .before)
 
-tokens-at-requires : tie.Need-tokens-at-requires
-tokens-at-requires c κs = roomy-of _ (held (c .before .before .before .before)) _ (c .sizes .ensures)
+tokens-to-end-requires : tie.Need-tokens-to-end-requires
+tokens-to-end-requires c κs = roomy-of _ (held (c .before .before .before .before)) _ (c .sizes .ensures)
 
 enum-told-2 : tie.Need-enum-told-2
 enum-told-2 c = search needs
@@ -72,7 +72,7 @@ returns-3 c =
     let p = l .before .before in
     c .no-reading3 .ensures ∙ ap noReading (c .before .answer-of2 .ensures ∙ ap (answerOf _) (t .enum-told3 .given .1))
     ∙ start-stopped _ _ (p .before .if1 .left) (p .read-plant .result) (p .read-plant .ensures) _ (l .lines .given .1)
-    _ (b .before .sizes .ensures) (b .tokens-at .result) (b .tokens-at .ensures) _ (t .enum-told3 .given .1)
+    _ (b .before .sizes .ensures) (b .tokens-to-end .result) (b .tokens-to-end .ensures) _ (t .enum-told3 .given .1)
 
 returns-4 : tie.Need-returns-4
 returns-4 c =
@@ -81,7 +81,7 @@ returns-4 c =
     let l = b .before .before .before .before .before in
     let p = l .before .before in
     model-read _ _ (p .before .if1 .left) (p .read-plant .result) (p .read-plant .ensures) _ (l .lines .given .1)
-    _ (b .before .sizes .ensures) (b .tokens-at .result) (b .tokens-at .ensures) _ (t .enum-told2 .given .1)
+    _ (b .before .sizes .ensures) (b .tokens-to-end .result) (b .tokens-to-end .ensures) _ (t .enum-told2 .given .1)
 
 pub model-at-spec : {M : Type 1} → statement M
 model-at-spec =
@@ -95,9 +95,9 @@ model-at-spec =
     answer-of-requires
     no-reading-requires-2
     returns-2
-    cast-tokens-at
+    cast-tokens-to-end
     sizes-requires
-    tokens-at-requires
+    tokens-to-end-requires
     enum-told-2
     enum-told-3
     answer-of-requires-2

@@ -5,11 +5,11 @@ use Rattle.runner_trace.proofs.progress_of.Tie as tie
 use mathlib.Core.Path.{ap, sym, subst}
 use native.Mathlib.Omega.{arith}
 use Rattle.runner_trace.specs.declared.Turn.the-variants.{On}
-use Rattle.runner_trace.specs.Parts.{Fits, progressOf}
+use Rattle.runner_trace.specs.Parts.{TurnFits, progressOf}
 
 -- the sums of a turn that goes on
-fits : (c : tie.After-known-told) → let a = c .before .before .before .args in Fits (a .at) (a .fired) (On (c .before .turn .given .0 .0))
-fits c = let s = c .before .before .before in subst (Fits (s .args .at) (s .args .fired)) (c .before .turn .given .1) (s .pre)
+fits : (c : tie.After-known-told) → let a = c .before .before .before .args in TurnFits (a .at) (a .fired) (On (c .before .turn .given .0 .0))
+fits c = let s = c .before .before .before in subst (TurnFits (s .args .at) (s .args .fired)) (c .before .turn .given .1) (s .pre)
 
 enum-known-turn : tie.Need-enum-known-turn
 enum-known-turn c = search needs

@@ -8,12 +8,12 @@ use lib.ListN.{length, drop}
 use borrow.Author.Tests.{not-true, not-false}
 use denote.Ref.{now}
 use Rattle.text.proofs.Loops.{line-got, line-bad}
-use Rattle.model.specs.Held.{Sized}
+use Rattle.model.specs.Held.{SizedModel}
 use Rattle.model.specs.declared.Model.{Model}
 use Rattle.model.proofs.HeldTests.{held-is}
 use Rattle.model_packed.specs.Packed.{modelIn}
 use Rattle.model_packed.proofs.ModelSized.{model-sized}
-use Rattle.model_packed.proofs.FlatLaws.{flat-again}
+use Rattle.model_packed.proofs.PackedLaws.{packed-again}
 use Rattle.marking.specs.Sizes.{sizesIn}
 use Rattle.reader.specs.Answers.{heldBoth}
 use Rattle.reader.proofs.ReadingLaws.{both-model}
@@ -80,33 +80,33 @@ returns-3 c =
     ∙ trace-unheaded _ _ _ (p .before .before .if1 .left) (passed p) _ (line-bad _ _ (sym (t .enum-told .given .1) ∙ h .head-line .ensures))
     ∙ on-rest (rest p)
 
--- the model that was laid flat is read there
-again : (f : tie.After-flatten) →
+-- the model that was packed is read there
+again : (f : tie.After-pack) →
     let p = f .before .before .before .before .before .before .before in
-    modelIn (f .flatten .last .1 .0) ≡ start (rest p) .args .m
+    modelIn (f .pack .last .1 .0) ≡ start (rest p) .args .m
 again f =
     let p = f .before .before .before .before .before .before .before in
     let s = start (rest p) in
     let m = s .args .m in
-    ap modelIn (f .flatten .ensures .1) ∙ flat-again m (model-sized m _ (s .good .0)) (held-is m (both-model m _ (passed p)))
+    ap modelIn (f .pack .ensures .1) ∙ packed-again m (model-sized m _ (s .good .0)) (held-is m (both-model m _ (passed p)))
 
-flatten-requires : tie.Need-flatten-requires
-flatten-requires c κs = search needs
+pack-requires : tie.Need-pack-requires
+pack-requires c κs = search needs
 
-slice-aggregate-steps-of : tie.Need-slice-aggregate-steps-of
-slice-aggregate-steps-of c = search needs
+slice-aggregate-run-steps : tie.Need-slice-aggregate-run-steps
+slice-aggregate-run-steps c = search needs
 
 sizes-requires : tie.Need-sizes-requires
 sizes-requires c κs = both-model _ _ (passed (c .before .before .before .before .before .before .before .before))
 
-steps-of-requires : tie.Need-steps-of-requires
-steps-of-requires c κs =
+run-steps-requires : tie.Need-run-steps-requires
+run-steps-requires c κs =
     let f = c .before .before in
     let p = f .before .before .before .before .before .before .before in
     let s = start (rest p) in
     let e = again f in (
-      f .flatten .ensures .0,
-      subst Sized (sym e) (model-sized (s .args .m) _ (s .good .0)),
+      f .pack .ensures .0,
+      subst SizedModel (sym e) (model-sized (s .args .m) _ (s .good .0)),
       ap (λ (x : Model). heldBoth x (s .args .k)) e ∙ passed p,
       c .sizes .ensures ∙ ap sizesIn (sym e),
       p .before .before .if1 .left,
@@ -120,7 +120,7 @@ returns-4 c =
     let p = h .before .before in
     let l = rest p in
     let next = d .head .given .0 .1 .0 in
-    c .steps-of .ensures ∙ ap (λ (x : Model). runFrom (length (now (l .left .result))) x (start l .args .k) (drop next (now (l .left .result))) 0) (again f)
+    c .run-steps .ensures ∙ ap (λ (x : Model). runFrom (length (now (l .left .result))) x (start l .args .k) (drop next (now (l .left .result))) 0) (again f)
     ∙ trace-headed _ _ _ (p .before .before .if1 .left) (passed p) _ _ (line-got _ _ _ (sym (d .head .given .1) ∙ h .head-line .ensures))
     ∙ on-rest l
 
@@ -140,8 +140,8 @@ run-at-spec =
     enum-told
     refused-requires-3
     returns-3
-    flatten-requires
-    slice-aggregate-steps-of
+    pack-requires
+    slice-aggregate-run-steps
     sizes-requires
-    steps-of-requires
+    run-steps-requires
     returns-4)

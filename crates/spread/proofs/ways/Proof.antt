@@ -11,8 +11,8 @@ returns c = call-tokens _ _ (omega arith)
 returns-2 : tie.Need-returns-2
 returns-2 c = call-racks _ _ (omega arith) (omega arith)
 
-row-of-requires : tie.Need-row-of-requires
-row-of-requires c κs = search needs
+spread-row-requires : tie.Need-spread-row-requires
+spread-row-requires c κs = search needs
 
 mul-t6 : tie.Need-mul-t6
 mul-t6 c = search needs
@@ -21,7 +21,7 @@ array-read-t9 : tie.Need-array-read-t9
 array-read-t9 c = search needs
 
 returns-3 : tie.Need-returns-3
-returns-3 c = call-ways _ _ (c .row-of .result) (omega arith) (omega arith) (c .row-of .ensures)
+returns-3 c = call-ways _ _ (c .spread-row .result) (omega arith) (omega arith) (c .spread-row .ensures)
 
 pub ways-spec : {M : Type 1} → statement M
-ways-spec = tie.close (tie.spec returns returns-2 row-of-requires mul-t6 array-read-t9 returns-3)
+ways-spec = tie.close (tie.spec returns returns-2 spread-row-requires mul-t6 array-read-t9 returns-3)

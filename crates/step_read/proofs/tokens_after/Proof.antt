@@ -27,11 +27,11 @@ returns c =
     let d = c .before .enum-told .given in
     ap noRows (c .ended-of .ensures ∙ ap endedIn (d .1)) ∙ tokens-refused _ _ _ _ _ (line-bad _ _ (sym (d .1) ∙ l .number-line .ensures))
 
-cast-tokens-at : tie.Need-cast-tokens-at
-cast-tokens-at c = search needs
+cast-rows-at : tie.Need-cast-rows-at
+cast-rows-at c = search needs
 
-tokens-at-requires : tie.Need-tokens-at-requires
-tokens-at-requires c κs =
+rows-at-requires : tie.Need-rows-at-requires
+rows-at-requires c κs =
     let k = c .before .before in
     let l = k .before .before in
     (counted-few _ _ _ _ _ (line-got _ _ _ (sym (k .line .given .1) ∙ l .number-line .ensures)), l .before .before .before .pre)
@@ -40,7 +40,7 @@ returns-2 : tie.Need-returns-2
 returns-2 c =
     let k = c .before .before .before in
     let l = k .before .before in
-    c .tokens-at .ensures ∙ ap tokenRows (tokens-counted _ _ _ _ _ _ (line-got _ _ _ (sym (k .line .given .1) ∙ l .number-line .ensures)))
+    c .rows-at .ensures ∙ ap tokenRows (tokens-counted _ _ _ _ _ _ (line-got _ _ _ (sym (k .line .given .1) ∙ l .number-line .ensures)))
 
 pub tokens-after-spec : {M : Type 1} → statement M
 tokens-after-spec =
@@ -51,6 +51,6 @@ tokens-after-spec =
     enum-told
     ended-of-requires
     returns
-    cast-tokens-at
-    tokens-at-requires
+    cast-rows-at
+    rows-at-requires
     returns-2)

@@ -101,14 +101,14 @@ summed-requires c κs =
     let y = length-part (s .args .plan .now) (2084 + n * 2050 + s .args .arcs) 1024 (omega (arith, f .long, s .pre .1)) in
     (omega (arith, x), x, f .steps n (omega arith), y)
 
-add-put-row : tie.Need-add-put-row Inv-loop μ-loop
-add-put-row c = search needs
+add-put-sums : tie.Need-add-put-sums Inv-loop μ-loop
+add-put-sums c = search needs
 
-mul-put-row : tie.Need-mul-put-row Inv-loop μ-loop
-mul-put-row c = search needs
+mul-put-sums : tie.Need-mul-put-sums Inv-loop μ-loop
+mul-put-sums c = search needs
 
-put-row-requires : tie.Need-put-row-requires Inv-loop μ-loop
-put-row-requires c κs = search needs
+put-sums-requires : tie.Need-put-sums-requires Inv-loop μ-loop
+put-sums-requires c κs = search needs
 
 add-n : tie.Need-add-n Inv-loop μ-loop
 add-n c = search needs
@@ -130,9 +130,9 @@ loop-again c =
     let e = m .summed .ensures ∙ sum-in (a .plan .now) (a .e) (a .arcs) n _ _ p q in
     let x : length (m .summed .result) ≡ 32 = search needs in (
       omega arith,
-      c .put-row .kept .0 ∙ l .loop .inv .1,
+      c .put-sums .kept .0 ∙ l .loop .inv .1,
       nets-next (netSumIn (a .plan .now) (a .e) (a .arcs)) n (nth (a .plan .now) 0) (l .loop .side) _ h (sym (ap length e) ∙ x)
-          (c .put-row .ensures ∙ ap (sets (l .loop .side) ((n + 1) * 32)) e)
+          (c .put-sums .ensures ∙ ap (sets (l .loop .side) ((n + 1) * 32)) e)
           ∙ l .loop .inv .2,
     )
 
@@ -170,9 +170,9 @@ inner-side-spec =
     part-summed-start-2
     part-summed-end-2
     summed-requires
-    add-put-row
-    mul-put-row
-    put-row-requires
+    add-put-sums
+    mul-put-sums
+    put-sums-requires
     add-n
     loop-less
     loop-again

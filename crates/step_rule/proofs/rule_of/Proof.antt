@@ -1,24 +1,24 @@
--- `rule_of` meets its contract: on a held model that is laid flat, the two sides are the event's.
+-- `rule_of` meets its contract: on a held model that is packed, the two sides are the event's.
 use Rattle.step_rule.proofs.rule_of.Statement.{statement}
 use Rattle.step_rule.proofs.rule_of.Tie as tie
 use mathlib.Core.Path.{ap, _∙_}
 use lib.ListN.{length}
 use native.Mathlib.Omega.{arith}
-use Rattle.step.specs.RuleParts.{Flat}
-use Rattle.step.proofs.PlanLaws.{length-side, flat-of, rule-in}
+use Rattle.step.specs.RuleParts.{PackedEvent}
+use Rattle.step.proofs.PlanLaws.{length-side, packed-of, rule-in}
 
-flat : (s : tie.Start) → Flat (s .args .plan .now) (s .args .e)
-flat s = flat-of (s .args .plan .now) (s .args .e) (s .pre .0) (s .pre .1) (s .pre .2)
+packed : (s : tie.Start) → PackedEvent (s .args .plan .now) (s .args .e)
+packed s = packed-of (s .args .plan .now) (s .args .e) (s .pre .0) (s .pre .1) (s .pre .2)
 
 side-of-requires : tie.Need-side-of-requires
 side-of-requires c κs =
     let s = c .before .before in
-    (flat s, omega arith, omega arith, s .pre .3)
+    (packed s, omega arith, omega arith, s .pre .3)
 
 side-of-requires-2 : tie.Need-side-of-requires-2
 side-of-requires-2 c κs =
     let s = c .before .before .before .before in
-    (flat s, omega arith, omega arith, s .pre .4)
+    (packed s, omega arith, omega arith, s .pre .4)
 
 returns : tie.Need-returns
 returns c =

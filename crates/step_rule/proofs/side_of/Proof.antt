@@ -45,14 +45,14 @@ outer-side-requires c κs =
 long : (c : tie.Start) → length (c .args .side .now) ≡ 288
 long c = ap length (c .pre .3) ∙ length-replicate {A = ℕ} 288 0
 
-put-row-requires : tie.Need-put-row-requires
-put-row-requires c κs = omega (arith, long (c .before .before .before .before .before .before))
+put-sums-requires : tie.Need-put-sums-requires
+put-sums-requires c κs = omega (arith, long (c .before .before .before .before .before .before))
 
 inner-side-requires : tie.Need-inner-side-requires
 inner-side-requires c κs =
     let p = c .before in
     let s = p .before .before .before .before .before .before .before in
-    (s .pre .0, s .pre .2, p .put-row .kept .0 ∙ long s)
+    (s .pre .0, s .pre .2, p .put-sums .kept .0 ∙ long s)
 
 returns : tie.Need-returns
 returns c =
@@ -62,7 +62,7 @@ returns c =
     let a = s .args in
     let q : a .moves + 1024 - a .moves ≡ 1024 = omega arith in
     let w : length (o .outer-side .result) ≡ 32 = search needs in
-    side-laid (a .plan .now) (a .e) (a .moves) (a .arcs) _ _ _ _ _ (s .pre .3) q w (o .outer-side .ensures) (p .put-row .ensures) (c .inner-side .ensures)
+    side-laid (a .plan .now) (a .e) (a .moves) (a .arcs) _ _ _ _ _ (s .pre .3) q w (o .outer-side .ensures) (p .put-sums .ensures) (c .inner-side .ensures)
 
 pub side-of-spec : {M : Type 1} → statement M
 side-of-spec =
@@ -78,6 +78,6 @@ side-of-spec =
     part-outer-side-start
     part-outer-side-end
     outer-side-requires
-    put-row-requires
+    put-sums-requires
     inner-side-requires
     returns)

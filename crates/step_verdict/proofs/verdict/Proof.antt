@@ -34,11 +34,11 @@ given s = rowsIn (s .args .give) (s .args .given .now)
 abbrev marked : tie.Start → List Row
 marked s = rowsIn (s .args .len) (s .args .rows .now)
 
-abbrev from-same : tie.After-same → tie.Start
-from-same c = start (c .before .before)
+abbrev from-same-places : tie.After-same-places → tie.Start
+from-same-places c = start (c .before .before)
 
-abbrev from-same2 : tie.After-same2 → tie.Start
-from-same2 c = from-same (c .before .before .before .before)
+abbrev from-same-places2 : tie.After-same-places2 → tie.Start
+from-same-places2 c = from-same-places (c .before .before .before .before)
 
 abbrev from-short : tie.After-short-net → tie.After-inner-of
 from-short c = c .before .before .before
@@ -47,20 +47,20 @@ abbrev from-unbalanced : tie.After-unbalanced-net → tie.After-inner-of2
 from-unbalanced c = c .before .before .before .before .before
 
 -- what each test says, and that it is passed
-outer-taken : (c : tie.After-same) → c .same .result ≡ eqV (outerRows (taken (from-same c))) (rule (from-same c) .pre .outer)
-outer-taken c = c .same .ensures ∙ ap (λ (v : List ℕ). eqV v (rule (from-same c) .pre .outer)) (c .before .before .outer-of .ensures)
+outer-taken : (c : tie.After-same-places) → c .same-places .result ≡ eqV (outerRows (taken (from-same-places c))) (rule (from-same-places c) .pre .outer)
+outer-taken c = c .same-places .ensures ∙ ap (λ (v : List ℕ). eqV v (rule (from-same-places c) .pre .outer)) (c .before .before .outer-of .ensures)
 
-passed : (c : tie.Else1) → eqV (outerRows (taken (from-same (c .before)))) (rule (from-same (c .before)) .pre .outer) ≡ true
-passed c = sym (outer-taken (c .before)) ∙ not-false (c .before .same .result) (c .if1 .left)
+passed : (c : tie.Else1) → eqV (outerRows (taken (from-same-places (c .before)))) (rule (from-same-places (c .before)) .pre .outer) ≡ true
+passed c = sym (outer-taken (c .before)) ∙ not-false (c .before .same-places .result) (c .if1 .left)
 
-outer-given : (c : tie.After-same2) → c .same2 .result ≡ eqV (outerRows (given (from-same2 c))) (rule (from-same2 c) .post .outer)
-outer-given c = c .same2 .ensures ∙ ap (λ (v : List ℕ). eqV v (rule (from-same2 c) .post .outer)) (c .before .before .outer-of2 .ensures)
+outer-given : (c : tie.After-same-places2) → c .same-places2 .result ≡ eqV (outerRows (given (from-same-places2 c))) (rule (from-same-places2 c) .post .outer)
+outer-given c = c .same-places2 .ensures ∙ ap (λ (v : List ℕ). eqV v (rule (from-same-places2 c) .post .outer)) (c .before .before .outer-of2 .ensures)
 
-passed2 : (c : tie.Else2) → eqV (outerRows (given (from-same2 (c .before)))) (rule (from-same2 (c .before)) .post .outer) ≡ true
-passed2 c = sym (outer-given (c .before)) ∙ not-false (c .before .same2 .result) (c .if2 .left)
+passed2 : (c : tie.Else2) → eqV (outerRows (given (from-same-places2 (c .before)))) (rule (from-same-places2 (c .before)) .post .outer) ≡ true
+passed2 c = sym (outer-given (c .before)) ∙ not-false (c .before .same-places2 .result) (c .if2 .left)
 
 abbrev from-nets : tie.After-inner-of → tie.Start
-from-nets c = from-same2 (c .before .before .before .before .before)
+from-nets c = from-same-places2 (c .before .before .before .before .before)
 
 inner-taken : (c : tie.After-short-net)
     → c .short-net .result ≡ numbered (failing (rule (from-nets (from-short c)) .nets) 0 (innerTakenIn (rule (from-nets (from-short c))) (taken (from-nets (from-short c)))))
@@ -93,8 +93,8 @@ length-inner l e = length-take-le 256 (drop 32 l) (omega (arith, length-drop 32 
 outer-of-requires : tie.Need-outer-of-requires
 outer-of-requires c κs = search needs
 
-sub-same : tie.Need-sub-same
-sub-same c = search needs
+sub-same-places : tie.Need-sub-same-places
+sub-same-places c = search needs
 
 part-same-start : tie.Need-part-same-start
 part-same-start c = search needs
@@ -102,8 +102,8 @@ part-same-start c = search needs
 part-same-end : tie.Need-part-same-end
 part-same-end c = search needs
 
-same-requires : tie.Need-same-requires
-same-requires c κs = search needs
+same-places-requires : tie.Need-same-places-requires
+same-places-requires c κs = search needs
 
 turned-requires : tie.Need-turned-requires
 turned-requires c κs = search needs
@@ -111,14 +111,14 @@ turned-requires c κs = search needs
 returns : tie.Need-returns
 returns c =
     let b = c .before .before in
-    let s = from-same b in
-    c .turned .ensures ∙ sym (stop-8 (rule s) (taken s) (given s) (marked s) (sym (outer-taken b) ∙ not-true (b .same .result) (c .before .if1 .taken)))
+    let s = from-same-places b in
+    c .turned .ensures ∙ sym (stop-8 (rule s) (taken s) (given s) (marked s) (sym (outer-taken b) ∙ not-true (b .same-places .result) (c .before .if1 .taken)))
 
 outer-of-requires-2 : tie.Need-outer-of-requires-2
 outer-of-requires-2 c κs = search needs
 
-sub-same-2 : tie.Need-sub-same-2
-sub-same-2 c = search needs
+sub-same-places-2 : tie.Need-sub-same-places-2
+sub-same-places-2 c = search needs
 
 part-same-start-2 : tie.Need-part-same-start-2
 part-same-start-2 c = search needs
@@ -126,8 +126,8 @@ part-same-start-2 c = search needs
 part-same-end-2 : tie.Need-part-same-end-2
 part-same-end-2 c = search needs
 
-same-requires-2 : tie.Need-same-requires-2
-same-requires-2 c κs = search needs
+same-places-requires-2 : tie.Need-same-places-requires-2
+same-places-requires-2 c κs = search needs
 
 add-turned : tie.Need-add-turned
 add-turned c = search needs
@@ -138,16 +138,16 @@ turned-requires-2 c κs = search needs
 returns-2 : tie.Need-returns-2
 returns-2 c =
     let b = c .before .before in
-    let s = from-same2 b in
+    let s = from-same-places2 b in
     c .turned2 .ensures
     ∙ sym (stop-8-given (rule s) (taken s) (given s) (marked s) (passed (b .before .before .before)) (s .args .take) (length-rows (s .args .take) (s .args .taken .now))
-    (sym (outer-given b) ∙ not-true (b .same2 .result) (c .before .if2 .taken)))
+    (sym (outer-given b) ∙ not-true (b .same-places2 .result) (c .before .if2 .taken)))
 
 shared-slice-read-nets : tie.Need-shared-slice-read-nets
 shared-slice-read-nets c = search needs
 
 cast-nets : tie.Need-cast-nets
-cast-nets c = omega (arith, from-same2 (c .before .before) .pre .0 .sound .nets)
+cast-nets c = omega (arith, from-same-places2 (c .before .before) .pre .0 .sound .nets)
 
 sub-inner-of : tie.Need-sub-inner-of
 sub-inner-of c = search needs
@@ -160,7 +160,7 @@ part-inner-of-end c = search needs
 
 inner-of-requires : tie.Need-inner-of-requires
 inner-of-requires c κs =
-    let s = from-same2 (c .before .before .before .before) in
+    let s = from-same-places2 (c .before .before .before .before) in
     (s .pre .1, search needs, s .pre .0 .sound .types, refl)
 
 sub-short-net : tie.Need-sub-short-net
@@ -188,7 +188,7 @@ returns-3 : tie.Need-returns-3
 returns-3 c =
     let b = c .before .before in
     let e = from-short b .before .before .before .before in
-    let s = from-same2 (e .before) in
+    let s = from-same-places2 (e .before) in
     c .turned3 .ensures
     ∙ sym (stop-9 (rule s) (taken s) (given s) (marked s) (passed (e .before .before .before .before)) (passed2 e) (b .short-net .result) (inner-taken b) (c .before .if3 .taken))
 
@@ -246,7 +246,7 @@ returns-4 c =
     let b = c .before .before in
     let f = from-unbalanced b .before .before .before in
     let e = from-short (f .before) .before .before .before .before in
-    let s = from-same2 (e .before) in
+    let s = from-same-places2 (e .before) in
     c .turned4 .ensures
     ∙ sym (stop-10 (rule s) (taken s) (given s) (marked s) (passed (e .before .before .before .before)) (passed2 e) (passed3 f) (b .unbalanced-net .result) (inner-given b)
     (c .before .if4 .taken))
@@ -261,7 +261,7 @@ returns-5 c =
     let b = c .before .before in
     let f = from-unbalanced b .before .before .before in
     let e = from-short (f .before) .before .before .before .before in
-    let s = from-same2 (e .before) in
+    let s = from-same-places2 (e .before) in
     let a = s .args in
     c .on-marking .ensures
     ∙ sym (go-on (rule s) (taken s) (given s) (marked s) (passed (e .before .before .before .before)) (passed2 e) (passed3 f) (a .take) (a .give) (a .len)
@@ -273,17 +273,17 @@ verdict-spec =
     tie.close
     (tie.spec
     outer-of-requires
-    sub-same
+    sub-same-places
     part-same-start
     part-same-end
-    same-requires
+    same-places-requires
     turned-requires
     returns
     outer-of-requires-2
-    sub-same-2
+    sub-same-places-2
     part-same-start-2
     part-same-end-2
-    same-requires-2
+    same-places-requires-2
     add-turned
     turned-requires-2
     returns-2

@@ -18,18 +18,18 @@ Inv-loop nets up down objects table₀ n₀ table n = (n ≤ nets) × Laid table
 abbrev μ-loop : tie.MeasureT-loop
 μ-loop nets up down objects table₀ n₀ table n = nets - n
 
-slice-aggregate-put-row : tie.Need-slice-aggregate-put-row Inv-loop μ-loop
-slice-aggregate-put-row c = search needs
+slice-aggregate-put-sums : tie.Need-slice-aggregate-put-sums Inv-loop μ-loop
+slice-aggregate-put-sums c = search needs
 
-put-row-requires : tie.Need-put-row-requires Inv-loop μ-loop
-put-row-requires c κs = search needs
+put-sums-requires : tie.Need-put-sums-requires Inv-loop μ-loop
+put-sums-requires c κs = search needs
 
 loop-holds : tie.Need-loop-holds Inv-loop μ-loop
 loop-holds c =
     let p = c .before in
     let a = p .before .before in
     let m : length (a .args .moves) ≡ 32 = search needs in
-    (search needs, laid-none _ _ _ _ (first-long (a .args .moves) _ m (a .pre .1) (p .put-row .ensures)) (first-small (a .args .moves) _ m (a .pre .1) (p .put-row .ensures)))
+    (search needs, laid-none _ _ _ _ (first-long (a .args .moves) _ m (a .pre .1) (p .put-sums .ensures)) (first-small (a .args .moves) _ m (a .pre .1) (p .put-sums .ensures)))
 
 mul-o : tie.Need-mul-o Inv-loop μ-loop
 mul-o c = search needs
@@ -46,17 +46,17 @@ add-net-row c = search needs
 net-row-requires : tie.Need-net-row-requires Inv-loop μ-loop
 net-row-requires c κs = search needs
 
-slice-aggregate-put-row-2 : tie.Need-slice-aggregate-put-row-2 Inv-loop μ-loop
-slice-aggregate-put-row-2 c = search needs
+slice-aggregate-put-sums-2 : tie.Need-slice-aggregate-put-sums-2 Inv-loop μ-loop
+slice-aggregate-put-sums-2 c = search needs
 
-mul-put-row : tie.Need-mul-put-row Inv-loop μ-loop
-mul-put-row c = search needs
+mul-put-sums : tie.Need-mul-put-sums Inv-loop μ-loop
+mul-put-sums c = search needs
 
-add-put-row : tie.Need-add-put-row Inv-loop μ-loop
-add-put-row c = search needs
+add-put-sums : tie.Need-add-put-sums Inv-loop μ-loop
+add-put-sums c = search needs
 
-put-row-requires-2 : tie.Need-put-row-requires-2 Inv-loop μ-loop
-put-row-requires-2 c κs = omega (arith, c .before .before .before .before .loop .inv .1 .long)
+put-sums-requires-2 : tie.Need-put-sums-requires-2 Inv-loop μ-loop
+put-sums-requires-2 c κs = omega (arith, c .before .before .before .before .loop .inv .1 .long)
 
 add-n : tie.Need-add-n Inv-loop μ-loop
 add-n c = search needs
@@ -74,7 +74,7 @@ loop-again c =
     let m : length (a .args .t3) ≡ 8 = search needs in
     let d : ObjectNet = record { places = 0; transitions = 0; pre = []; post = [] } in
     let e = at-any (a .args .t3) (l .loop .n) d noNet (omega (arith, t .loop-test .taken)) in
-    (search needs, laid-next _ _ _ _ _ _ _ _ (l .loop .inv .1) (omega arith) (rw e at (r .net-row .ensures)) (p .put-row2 .ensures))
+    (search needs, laid-next _ _ _ _ _ _ _ _ (l .loop .inv .1) (omega arith) (rw e at (r .net-row .ensures)) (p .put-sums2 .ensures))
 
 returns : tie.Need-returns Inv-loop μ-loop
 returns c =
@@ -83,7 +83,7 @@ returns c =
     let a = p .before .before in
     let m : length (a .args .moves) ≡ 32 = search needs in
     let e : l .loop .n ≡ a .args .nets = omega arith in
-    first-gains (a .args .moves) _ m (a .pre .1) (p .put-row .ensures) _ _ _ _ _ (rw e at (l .loop .inv .1 .gains))
+    first-gains (a .args .moves) _ m (a .pre .1) (p .put-sums .ensures) _ _ _ _ _ (rw e at (l .loop .inv .1 .gains))
 
 pub gain-table-spec : {M : Type 1} → statement M
 gain-table-spec =
@@ -91,18 +91,18 @@ gain-table-spec =
     (tie.spec
     Inv-loop
     μ-loop
-    slice-aggregate-put-row
-    put-row-requires
+    slice-aggregate-put-sums
+    put-sums-requires
     loop-holds
     mul-o
     array-copy-out-o
     mul-net-row
     add-net-row
     net-row-requires
-    slice-aggregate-put-row-2
-    mul-put-row
-    add-put-row
-    put-row-requires-2
+    slice-aggregate-put-sums-2
+    mul-put-sums
+    add-put-sums
+    put-sums-requires-2
     add-n
     loop-less
     loop-again

@@ -15,7 +15,7 @@ use Rattle.text.proofs.Loops.{done-at}
 use Rattle.model.specs.Held.{noNet}
 use Rattle.model.specs.declared.ObjectNet.{ObjectNet}
 use Rattle.model.proofs.HeldTestLoops.{at-any}
-use Rattle.keeper.specs.Parts.{readNet}
+use Rattle.keeper.specs.Parts.{readNetWeights}
 use Rattle.keeper.proofs.WeightFileLines.{putAbove, putBelow, above-more, below-more, nets-stop, inners-bad, inners-read, net-line}
 
 -- what the code reads past the last net
@@ -25,8 +25,8 @@ outside = record { places = 0; transitions = 0; pre = []; post = [] }
 abbrev Inv-loop : tie.InvT-loop
 Inv-loop s from nets objects above₀ below₀ at₀ i₀ t18 above below at i =
     (i ≤ nets) × (length above ≡ 288) × (length below ≡ 288)
-    × (filled putAbove 0 above₀ (manyAt (readNet objects s) 0 nets from) ≡ filled putAbove i above (manyAt (readNet objects s) i (nets - i) at))
-    × (filled putBelow 0 below₀ (manyAt (readNet objects s) 0 nets from) ≡ filled putBelow i below (manyAt (readNet objects s) i (nets - i) at))
+    × (filled putAbove 0 above₀ (manyAt (readNetWeights objects s) 0 nets from) ≡ filled putAbove i above (manyAt (readNetWeights objects s) i (nets - i) at))
+    × (filled putBelow 0 below₀ (manyAt (readNetWeights objects s) 0 nets from) ≡ filled putBelow i below (manyAt (readNetWeights objects s) i (nets - i) at))
 
 abbrev μ-loop : tie.MeasureT-loop
 μ-loop s from nets objects above₀ below₀ at₀ i₀ t18 above below at i = nets - i
@@ -71,29 +71,29 @@ returns c =
     c .no-lines .ensures
     ∙ inners-bad _ _ _ _ (o .enum-told .given .1) (l .loop .inv .3 ∙ nets-stop _ _ _ _ (t .loop-test .taken) _ line _ (o .enum-told .given .1) _)
 
-slice-aggregate-put-row : tie.Need-slice-aggregate-put-row Inv-loop μ-loop
-slice-aggregate-put-row c = search needs
+slice-aggregate-put-counts : tie.Need-slice-aggregate-put-counts Inv-loop μ-loop
+slice-aggregate-put-counts c = search needs
 
-mul-put-row : tie.Need-mul-put-row Inv-loop μ-loop
-mul-put-row c = search needs
+mul-put-counts : tie.Need-mul-put-counts Inv-loop μ-loop
+mul-put-counts c = search needs
 
-add-put-row : tie.Need-add-put-row Inv-loop μ-loop
-add-put-row c = search needs
+add-put-counts : tie.Need-add-put-counts Inv-loop μ-loop
+add-put-counts c = search needs
 
-put-row-requires : tie.Need-put-row-requires Inv-loop μ-loop
-put-row-requires c κs = search needs
+put-counts-requires : tie.Need-put-counts-requires Inv-loop μ-loop
+put-counts-requires c κs = search needs
 
-slice-aggregate-put-row-2 : tie.Need-slice-aggregate-put-row-2 Inv-loop μ-loop
-slice-aggregate-put-row-2 c = search needs
+slice-aggregate-put-counts-2 : tie.Need-slice-aggregate-put-counts-2 Inv-loop μ-loop
+slice-aggregate-put-counts-2 c = search needs
 
-mul-put-row-2 : tie.Need-mul-put-row-2 Inv-loop μ-loop
-mul-put-row-2 c = search needs
+mul-put-counts-2 : tie.Need-mul-put-counts-2 Inv-loop μ-loop
+mul-put-counts-2 c = search needs
 
-add-put-row-2 : tie.Need-add-put-row-2 Inv-loop μ-loop
-add-put-row-2 c = search needs
+add-put-counts-2 : tie.Need-add-put-counts-2 Inv-loop μ-loop
+add-put-counts-2 c = search needs
 
-put-row-requires-2 : tie.Need-put-row-requires-2 Inv-loop μ-loop
-put-row-requires-2 c κs = search needs
+put-counts-requires-2 : tie.Need-put-counts-requires-2 Inv-loop μ-loop
+put-counts-requires-2 c κs = search needs
 
 add-i : tie.Need-add-i Inv-loop μ-loop
 add-i c = search needs
@@ -114,10 +114,10 @@ loop-again c =
     let e = at-any (a .args .t4) (l .loop .i) outside noNet (omega (arith, a .pre, t .loop-test .taken)) in
     let line = net-line (a .args .t4) (now (a .args .s)) (l .loop .i) (l .loop .at) outside e _ (r .weight-line .ensures) in (
       omega arith,
-      p .put-row .kept .0 ∙ l .loop .inv .1,
-      q .put-row2 .kept .0 ∙ l .loop .inv .2,
-      l .loop .inv .3 ∙ above-more _ _ _ _ (t .loop-test .taken) _ line _ (k .e .given .1) _ _ (p .put-row .ensures),
-      l .loop .inv .4 ∙ below-more _ _ _ _ (t .loop-test .taken) _ line _ (k .e .given .1) _ _ (q .put-row2 .ensures),
+      p .put-counts .kept .0 ∙ l .loop .inv .1,
+      q .put-counts2 .kept .0 ∙ l .loop .inv .2,
+      l .loop .inv .3 ∙ above-more _ _ _ _ (t .loop-test .taken) _ line _ (k .e .given .1) _ _ (p .put-counts .ensures),
+      l .loop .inv .4 ∙ below-more _ _ _ _ (t .loop-test .taken) _ line _ (k .e .given .1) _ _ (q .put-counts2 .ensures),
     )
 
 returns-2 : tie.Need-returns-2 Inv-loop μ-loop
@@ -142,14 +142,14 @@ inner-lines-spec =
     enum-told
     no-lines-requires
     returns
-    slice-aggregate-put-row
-    mul-put-row
-    add-put-row
-    put-row-requires
-    slice-aggregate-put-row-2
-    mul-put-row-2
-    add-put-row-2
-    put-row-requires-2
+    slice-aggregate-put-counts
+    mul-put-counts
+    add-put-counts
+    put-counts-requires
+    slice-aggregate-put-counts-2
+    mul-put-counts-2
+    add-put-counts-2
+    put-counts-requires-2
     add-i
     loop-less
     loop-again

@@ -26,7 +26,7 @@ use Rattle.runner.proofs.StepAnswers.{both-stands, reading, reading-is,
 abbrev start : tie.After-read-step → tie.Start
 start c = c .before .before .before .before .before .before .before
 
--- the model that is laid flat
+-- the model that is packed
 abbrev model : tie.Start → Model
 model s = modelIn (s .args .plan .now)
 

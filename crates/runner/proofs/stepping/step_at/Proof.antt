@@ -7,12 +7,12 @@ use mathlib.Core.Bool.{true}
 use lib.ListN.{drop}
 use borrow.Author.Tests.{not-true, not-false}
 use denote.Ref.{now}
-use Rattle.model.specs.Held.{Sized}
+use Rattle.model.specs.Held.{SizedModel}
 use Rattle.model.specs.declared.Model.{Model}
 use Rattle.model.proofs.HeldTests.{held-is}
 use Rattle.model_packed.specs.Packed.{modelIn}
 use Rattle.model_packed.proofs.ModelSized.{model-sized}
-use Rattle.model_packed.proofs.FlatLaws.{flat-again}
+use Rattle.model_packed.proofs.PackedLaws.{packed-again}
 use Rattle.marking.specs.Sizes.{sizesIn}
 use Rattle.reader.specs.Answers.{heldBoth}
 use Rattle.runner.specs.Answers.{heldStep, stepping}
@@ -35,13 +35,13 @@ rest c = c .before .before .before
 passed : (c : tie.Else2) → heldBoth (start (rest c) .args .m) (start (rest c) .args .k) ≡ true
 passed c = sym (c .before .test-marking .ensures) ∙ not-false _ (c .if2 .left)
 
--- the model that was laid flat is read there
-again : (f : tie.After-flatten) → modelIn (f .flatten .last .1 .0) ≡ start (rest (f .before .before .before)) .args .m
+-- the model that was packed is read there
+again : (f : tie.After-pack) → modelIn (f .pack .last .1 .0) ≡ start (rest (f .before .before .before)) .args .m
 again f =
     let p = f .before .before .before in
     let s = start (rest p) in
     let m = s .args .m in
-    ap modelIn (f .flatten .ensures .1) ∙ flat-again m (model-sized m _ (s .good .0)) (held-is m (both-model m _ (passed p)))
+    ap modelIn (f .pack .ensures .1) ∙ packed-again m (model-sized m _ (s .good .0)) (held-is m (both-model m _ (passed p)))
 
 left-requires : tie.Need-left-requires
 left-requires c κs = search needs
@@ -55,8 +55,8 @@ test-marking-requires c κs = search needs
 returns-2 : tie.Need-returns-2
 returns-2 c = step-unheld _ _ _ (c .before .before .if1 .left) (sym (c .before .test-marking .ensures) ∙ not-true _ (c .if2 .taken)) ∙ on-rest (c .before .before .before)
 
-flatten-requires : tie.Need-flatten-requires
-flatten-requires c κs = search needs
+pack-requires : tie.Need-pack-requires
+pack-requires c κs = search needs
 
 slice-aggregate-step-on : tie.Need-slice-aggregate-step-on
 slice-aggregate-step-on c = search needs
@@ -72,8 +72,8 @@ step-on-requires c κs =
     let s = start (rest p) in
     let m = s .args .m in
     let e = again f in (
-      f .flatten .ensures .0,
-      subst Sized (sym e) (model-sized m _ (s .good .0)),
+      f .pack .ensures .0,
+      subst SizedModel (sym e) (model-sized m _ (s .good .0)),
       ap (λ (x : Model). heldBoth x (s .args .k)) e ∙ passed p,
       z .sizes .ensures ∙ ap sizesIn (sym e),
       p .before .before .if1 .left,
@@ -96,7 +96,7 @@ step-at-spec =
     returns
     test-marking-requires
     returns-2
-    flatten-requires
+    pack-requires
     slice-aggregate-step-on
     sizes-requires
     step-on-requires

@@ -8,11 +8,11 @@ use native.Mathlib.Nat.{sub-zero}
 use borrow.Author.Needs.{needs}
 use borrow.Author.Tests.{not-true, not-false}
 use Rattle.eos.specs.Causes.{failing, numbered}
-use Rattle.step.specs.VerdictParts.{balanced}
+use Rattle.step.specs.VerdictParts.{evenIn}
 use Rattle.step.proofs.FirstFailing.{failing-on, failing-here, failing-end}
 
 abbrev Inv-loop : tie.InvT-loop
-Inv-loop nets made held pre post n₀ n = (n ≤ nets) × (failing nets 0 (balanced made held pre post) ≡ failing (nets - n) n (balanced made held pre post))
+Inv-loop nets made held pre post n₀ n = (n ≤ nets) × (failing nets 0 (evenIn made held pre post) ≡ failing (nets - n) n (evenIn made held pre post))
 
 abbrev μ-loop : tie.MeasureT-loop
 μ-loop nets made held pre post n₀ n = nets - n
@@ -20,7 +20,7 @@ abbrev μ-loop : tie.MeasureT-loop
 loop-holds : tie.Need-loop-holds Inv-loop μ-loop
 loop-holds c =
     let a = c .before .before .before .before .args in
-    (omega arith, ap (λ (d : ℕ). failing d 0 (balanced (a .made .now) (a .held .now) (a .pre .now) (a .post .now))) (sym (sub-zero (a .nets))))
+    (omega arith, ap (λ (d : ℕ). failing d 0 (evenIn (a .made .now) (a .held .now) (a .pre .now) (a .post .now))) (sym (sub-zero (a .nets))))
 
 even-requires : tie.Need-even-requires Inv-loop μ-loop
 even-requires c κs = search needs
@@ -32,7 +32,7 @@ returns : tie.Need-returns Inv-loop μ-loop
 returns c =
     let l = c .before .before .before in
     let a = l .before .before .before .before .before .args in
-    let f = balanced (a .made .now) (a .held .now) (a .pre .now) (a .post .now) in
+    let f = evenIn (a .made .now) (a .held .now) (a .pre .now) (a .post .now) in
     let e = c .before .even in
     let k : suc (l .loop .n) ≡ l .loop .n + 1 = omega arith in
     sym (ap numbered (l .loop .inv .1
@@ -48,7 +48,7 @@ loop-again : tie.Need-loop-again Inv-loop μ-loop
 loop-again c =
     let l = c .before .before .before in
     let a = l .before .before .before .before .before .args in
-    let f = balanced (a .made .now) (a .held .now) (a .pre .now) (a .post .now) in
+    let f = evenIn (a .made .now) (a .held .now) (a .pre .now) (a .post .now) in
     let e = c .before .even in (
       omega arith,
       l .loop .inv .1 ∙ failing-on (a .nets) (l .loop .n) f (c .before .before .loop-test .taken) (sym (e .ensures) ∙ not-false (e .result) (c .if1 .left)),
@@ -58,7 +58,7 @@ returns-2 : tie.Need-returns-2 Inv-loop μ-loop
 returns-2 c =
     let l = c .before in
     let a = l .before .before .before .before .before .args in
-    sym (ap numbered (l .loop .inv .1 ∙ failing-end (a .nets) (l .loop .n) (balanced (a .made .now) (a .held .now) (a .pre .now) (a .post .now)) (c .loop-test .left)))
+    sym (ap numbered (l .loop .inv .1 ∙ failing-end (a .nets) (l .loop .n) (evenIn (a .made .now) (a .held .now) (a .pre .now) (a .post .now)) (c .loop-test .left)))
 
 pub unbalanced-net-spec : {M : Type 1} → statement M
 unbalanced-net-spec =
