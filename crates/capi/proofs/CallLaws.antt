@@ -6,7 +6,7 @@ use Prim.Native.Nat.{ℕ}
 use Rattle.eos.specs.Causes.{Refusal}
 use Rattle.pairs.specs.Pairs.{refusalOf}
 use Rattle.pairs.specs.declared.Pair.{Pair}
-use Rattle.reader.specs.Answers.{readPair, writePair, Lent}
+use Rattle.reader.specs.Answers.{readPair, writePair, Answered}
 use Rattle.reader.specs.declared.ModelReading.{ModelReading}
 use Rattle.reader.specs.declared.MarkingReading.{MarkingReading}
 use Rattle.reader.specs.declared.WriteAnswer.{WriteAnswer}
@@ -37,9 +37,9 @@ pub text-is : (a : WriteAnswer) (p : Pair) {n : ℕ} → refusalOf p ≡ writePa
     → record { number = p .number; beside = p .beside; bytes = n } ≡ textWritten a
 text-is a p h e = let n = numbers p (writePair a) h in rw (n .0, n .1, e)
 
-pub lent-is : (a : WriteAnswer) (t : TextWritten) {after : List ℕ} {l : Lent} → t ≡ textWritten a → record { answer = a; bytes = after } ≡ l
+pub answered-is : (a : WriteAnswer) (t : TextWritten) {after : List ℕ} {l : Answered} → t ≡ textWritten a → record { answer = a; bytes = after } ≡ l
     → record { answer = t; bytes = after } ≡ writtenToC l
-lent-is a t e h = rw e (ap writtenToC h)
+answered-is a t e h = rw e (ap writtenToC h)
 
 pub weighed-is : (c : WeightCheck) (p : Pair) {n : ℕ} {s : WeightCheck} → c ≡ s → refusalOf p ≡ weightPair (c .answer) → n ≡ cond (c .cover) 1 0
     → record { number = p .number; beside = p .beside; above = c .sum .above; below = c .sum .below; cover = n } ≡ weightsChecked s

@@ -2,7 +2,7 @@
 use Prim.Native.Nat.{ℕ}
 use mathlib.Core.Bool.{cond}
 use mathlib.Core.List.{List}
-use Rattle.reader.specs.Answers.{readPair, writePair, Lent}
+use Rattle.reader.specs.Answers.{readPair, writePair, Answered}
 use Rattle.reader.specs.declared.ModelReading.{ModelReading}
 use Rattle.reader.specs.declared.MarkingReading.{MarkingReading}
 use Rattle.reader.specs.declared.WriteAnswer.{WriteAnswer}
@@ -39,11 +39,11 @@ abbrev pub textWritten : WriteAnswer → TextWritten
 textWritten a = record { number = writePair a .number; beside = writePair a .beside; bytes = bytesOf a }
 
 -- what a writer answers to C, and the lent bytes after it
-pub record LentToC : Type 0 where
+pub record AnsweredToC : Type 0 where
   pub answer : TextWritten
   pub bytes : List ℕ
 
-abbrev pub writtenToC : Lent → LentToC
+abbrev pub writtenToC : Answered → AnsweredToC
 writtenToC l = record { answer = textWritten (l .answer); bytes = l .bytes }
 
 abbrev pub weightsChecked : WeightCheck → Weighed

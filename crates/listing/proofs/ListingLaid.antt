@@ -1,4 +1,4 @@
--- A listing laid over the lent bytes: its head alone, or its head and behind it the net-tokens, which are laid first.
+-- The head of a listing and behind it the net-tokens, which are laid first.
 use Prim.Native.Nat.{ℕ, _+_, _≤_, _<_}
 use mathlib.Core.Path.{_≡_, refl, ap, sym, _∙_}
 use mathlib.Core.List.{List, _++_}
@@ -7,41 +7,24 @@ use native.Mathlib.Nat.{zero-add}
 use lib.ListN.{length, length-append}
 use lib.Seq.{sets, length-sets}
 use Rattle.text.specs.Bytes.{bytes}
-use Rattle.text.specs.Writing.{write}
-use Rattle.text.specs.declared.Written.{Written}
-use Rattle.text.specs.declared.Written.the-variants.{Upto, Full}
-use Rattle.text.proofs.WritingLaws.{by-le, sets-append, sets-apart, upto-is, full-is}
+use Rattle.text.specs.Writing.{Laying, lay}
+use Rattle.text.specs.declared.Wrote.{Wrote}
+use Rattle.text.specs.declared.Wrote.the-variants.{Whole, Short}
+use Rattle.text.proofs.Basics.{by-le}
+use Rattle.text.proofs.SetsLaws.{sets-append, sets-apart}
+use Rattle.text.proofs.LaidLaws.{lay-whole, lay-short}
 use Rattle.model.specs.declared.Model.{Model}
 use Rattle.marking.specs.Held.{sizesAt, tokensOf}
 use Rattle.marking.specs.Printed.{blockText}
-use Rattle.marking.specs.Writing.{Lent, lay}
 use Rattle.marking.specs.declared.Marking.{Marking}
-use Rattle.marking.specs.declared.Wrote.{Wrote}
-use Rattle.marking.specs.declared.Wrote.the-variants.{Whole, Short}
-use Rattle.marking.proofs.WriteLaws.{lay-whole, lay-short}
 use Rattle.marking.specs.Sizes.{sizesIn, sizesFor}
 use Rattle.reader.specs.Answers.{layWhole}
 use Rattle.reader.specs.declared.WriteAnswer.the-variants as answer
 use Rattle.reader.proofs.WriteAnswers.{whole-fits, whole-short}
 
--- ---- the head alone
-module _ (head out : List ℕ) {w : Written} {after : List ℕ} (e : record { answer = w; bytes = after } ≡ write head out 0) where
-  pub head-whole : {next : ℕ} → w ≡ Upto next → record { answer = answer.Written next; bytes = after } ≡ layWhole head out
-  head-whole u =
-      let p = upto-is head out 0 e u in
-      let n = zero-add (length head) in
-      rw (p .1 ∙ n, p .2) (whole-fits head out (omega (arith, n)))
-
-  pub head-short : {n : ℕ} → w ≡ Full → n ≡ length head → record { answer = answer.TooSmall n; bytes = after } ≡ layWhole head out
-  head-short u q =
-      let p = full-is head out 0 e u in
-      let n = zero-add (length head) in
-      rw (q, p .1) (whole-short head out (omega (arith, n)))
-
--- ---- net-tokens behind the head
 module _ (head block out : List ℕ) {w : Wrote} {mid : List ℕ} (e : record { answer = w; bytes = mid } ≡ lay block out (length head)) where
-  same : {l : Lent} → l ≡ lay block out (length head) → (w ≡ l .answer) × (mid ≡ l .bytes)
-  same f = (ap (λ (l : Lent). l .answer) (e ∙ sym f), ap (λ (l : Lent). l .bytes) (e ∙ sym f))
+  same : {l : Laying} → l ≡ lay block out (length head) → (w ≡ l .answer) × (mid ≡ l .bytes)
+  same f = (ap (λ (l : Laying). l .answer) (e ∙ sym f), ap (λ (l : Laying). l .bytes) (e ∙ sym f))
 
   abbrev Behind : ℕ → Type 0
   Behind end = (length head + length block ≤ length out) × (end ≡ length head + length block) × (mid ≡ sets out (length head) block)

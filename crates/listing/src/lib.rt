@@ -18,7 +18,6 @@ use head::put_cover;
 use head::put_pair;
 use head::put_sum;
 use marking::Marking;
-use marking::Wrote;
 use marking_test::sizes;
 use marking_write::write;
 use model::Model;
@@ -26,10 +25,9 @@ use pairs::read_pair;
 use pairs::stop_pair;
 use pairs::weight_pair;
 use reader::WriteAnswer;
-use text::Written;
+use text::Wrote;
 use text_write::put_number_line;
 use text_write::put_text;
-use text_write::write_text;
 
 mod files;
 mod head;
@@ -38,11 +36,11 @@ mod head;
 fn lay_head(head: &[u8], out: &mut [u8]) -> WriteAnswer
     ensures { λ r. ⌜ record { answer = r; bytes = now (out .exit) } ≡ layWhole (now (head .entry)) (now (out .entry)) ⌝ }
 {
-    let wrote = write_text(out, 0, head);
-    match wrote {
-        Written::Upto { next } => WriteAnswer::Written { bytes: next },
-        Written::Full => WriteAnswer::TooSmall { needed: head.len() },
+    if out.len() < head.len() {
+        return WriteAnswer::TooSmall { needed: head.len() };
     }
+    put_text(out, 0, head);
+    WriteAnswer::Written { bytes: head.len() }
 }
 
 // The head of a listing, and behind it the net-tokens of a held marking. These are laid first: where they do not fit, no byte is touched.

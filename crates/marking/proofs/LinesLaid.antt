@@ -8,7 +8,7 @@ use lib.Seq.{sets, take-take, drop-drop}
 use Rattle.text.specs.Bytes.{Text, bytes, colon}
 use Rattle.text.specs.Printed.{decimal, endText, texts, tokenText}
 use Rattle.text.proofs.DecimalLaws.{length-below}
-use Rattle.text.proofs.WritingLaws.{sets-append}
+use Rattle.text.proofs.SetsLaws.{sets-append}
 use Rattle.text.proofs.LaidLaws.{Laid, laid-then}
 use Rattle.marking.specs.Rows.{Row}
 use Rattle.marking.specs.Held.{sizesAt, Roomy}

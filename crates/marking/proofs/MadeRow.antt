@@ -6,7 +6,7 @@ use native.Mathlib.Omega.{arith}
 use native.Mathlib.Nat.{add-comm}
 use lib.ListN.{length, take, drop, getD, set, replicate, length-replicate, drop-of-length-le}
 use lib.Seq.{sets, sets-eq, take-all}
-use Rattle.text.proofs.WritingLaws.{sets-more}
+use Rattle.text.proofs.SetsLaws.{sets-more}
 
 -- a row with i counts laid
 abbrev pub begun : ℕ → List ℕ → ℕ → List ℕ

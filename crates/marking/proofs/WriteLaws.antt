@@ -8,7 +8,7 @@ use native.Mathlib.Nat.{zero-add}
 use lib.Dec.{leb, eqb}
 use lib.ListN.{length, drop, getD, length-append, length-map}
 use lib.Seq.{sets, drop-length}
-use borrow.Author.Tests.{leb-true, le-leb, lt-leb}
+use borrow.Author.Tests.{leb-true}
 use Rattle.text.specs.Bytes.{Text, bytes}
 use Rattle.text.proofs.Basics.{and-true}
 use Rattle.text.specs.Lines.{got, every, within}
@@ -18,7 +18,7 @@ use Rattle.text.specs.declared.Ended.the-variants.{Past}
 use Rattle.text.proofs.TestLaws.{within-is, every-at}
 use Rattle.text.proofs.TextLengths.{texts-length, end-length}
 use Rattle.text.proofs.Standing.{Stands}
-use Rattle.text.proofs.WritingLaws.{sets-append}
+use Rattle.text.proofs.SetsLaws.{sets-append}
 use Rattle.text.proofs.LaidLaws.{Laid, number-line-length}
 use Rattle.eos.specs.Model as eos
 use Rattle.marking.specs.Rows.{Row, rowsIn, ascending}
@@ -27,9 +27,7 @@ use Rattle.marking.specs.Held.{Sizes, sizesAt, Roomy, holdMarking, token
 use Rattle.marking.specs.Reading.{limits, readBlock, rightNetToken, rightBlock}
 use Rattle.marking.specs.Printed.{netTokenText, blockText, markingText, rowText}
 use Rattle.marking.specs.Answers.{blockOf}
-use Rattle.marking.specs.Writing.{lay}
 use Rattle.marking.specs.declared.Marking.{Marking}
-use Rattle.marking.specs.declared.Wrote.the-variants.{Whole, Short}
 use Rattle.marking.proofs.BlockExactly.{block-exactly}
 use Rattle.marking.proofs.HoldMarking.{Right, right-is, Held, held-tokens}
 use Rattle.marking.proofs.HeldRowTests.{row-front}
@@ -120,18 +118,6 @@ module _ (places : ℕ) (sizes : List ℕ) where
           → l ≡ sets m next (texts (rowText sizes) (rowsIn (k .len) (k .rows)))
           → l ≡ sets out at (blockText key (tokensOf (sizesAt places sizes) k))
       text-laid out at p e = e ∙ rw (p .0, p .1, held-text, sets-append)
-
--- ---- what the writer answers and leaves
-
-pub lay-whole : (text out : List ℕ) (at : ℕ) {n : ℕ} {m : List ℕ} → at + length text ≤ length out → n ≡ at + length text → m ≡ sets out at text
-    → record { answer = Whole n; bytes = m } ≡ lay text out at
-unfolding lay
-lay-whole text out at h p q = rw (p, q, le-leb (at + length text) (length out) h, lay)
-
-pub lay-short : (text out : List ℕ) (at : ℕ) {n : ℕ} → length out < at + length text → n ≡ at + length text
-    → record { answer = Short n; bytes = out } ≡ lay text out at
-unfolding lay
-lay-short text out at h p = rw (p, lt-leb (at + length text) (length out) h, lay)
 
 -- ---- it reads back
 

@@ -3,5 +3,4 @@ pub mod Held
 pub mod Reading
 pub mod Printed
 pub mod Answers
-pub mod Writing
 pub mod Sizes

@@ -34,9 +34,3 @@ pub struct Block {
     pub ended: Ended,
     pub marking: Marking,
 }
-
-// How writing net-tokens into a lent buffer ended: the whole text, up to this position, or not at all, and so many bytes are needed.
-pub enum Wrote {
-    Whole { end: usize },
-    Short { needed: usize },
-}

@@ -7,7 +7,7 @@ use native.Mathlib.Nat.{zero-add}
 use native.Mathlib.Numerals.{add-one}
 use lib.ListN.{length, drop, getD, set, length-set, length-append, drop-of-length-le}
 use lib.Seq.{sets, sets-eq, drop-cons, drop-length}
-use Rattle.text.proofs.WritingLaws.{sets-append}
+use Rattle.text.proofs.SetsLaws.{sets-append}
 use Rattle.model.specs.Held.{SizedModel, noNet, noEvent}
 use Rattle.model.specs.declared.Model.{Model}
 use Rattle.model_packed.specs.Packed.{cappedByte, netBytes, eventBytes, concatMap, packedBytes}

@@ -142,6 +142,6 @@ module _ (m : eos.Model) where
       let s = stepText t ++ rest in
       read-brings s t (record {
         short = short;
-        next = length (stepText t);
+        next = _;
         is = step-exactly free (sizesOf m) (length (m .events)) s .forth 0 t (front-stands s 0 (stepText t) rest refl) right;
       })

@@ -8,7 +8,7 @@ use lib.ListN.{length, take}
 use lib.Seq.{sets, length-sets, length-take-le}
 use borrow.Author.Tests.{leb-true, leb-false}
 use Rattle.text.proofs.Basics.{by-test}
-use Rattle.reader.specs.Answers.{Lent, layWhole}
+use Rattle.reader.specs.Answers.{Answered, layWhole}
 use Rattle.reader.specs.declared.WriteAnswer.{WriteAnswer}
 use Rattle.reader.specs.declared.WriteAnswer.the-variants.{Written, TooSmall}
 use Rattle.reader.proofs.WriteAnswers.{whole-fits, whole-short}
@@ -19,15 +19,15 @@ written-counts text out {r} {n} {after} e w =
     by-test (leb (length text) (length out))
     (λ t.
     let g = e ∙ sym (whole-fits text out (leb-true (length text) (length out) t)) in
-    let a : r ≡ Written (length text) = ap (λ (l : Lent). l .answer) g in
+    let a : r ≡ Written (length text) = ap (λ (l : Answered). l .answer) g in
     let b : Written n ≡ Written (length text) = sym w ∙ a in
     let p : n ≡ length text = cc in
-    let q : after ≡ sets out 0 text = ap (λ (l : Lent). l .bytes) g in
+    let q : after ≡ sets out 0 text = ap (λ (l : Answered). l .bytes) g in
     let few : n ≤ length after = omega (arith, leb-true (length text) (length out) t, ap length q, length-sets out 0 text) in
     (few, sym (length-take-le n after few)))
     (λ t.
     let g = e ∙ sym (whole-short text out (leb-false (length text) (length out) t)) in
-    let a : r ≡ TooSmall (length text) = ap (λ (l : Lent). l .answer) g in
+    let a : r ≡ TooSmall (length text) = ap (λ (l : Answered). l .answer) g in
     let b : Written n ≡ TooSmall (length text) = sym w ∙ a in
     let z : _≡_ {A = ℕ} 0 1 = cc in
     absurd (omega arith))

@@ -9,9 +9,9 @@ use native.Mathlib.Omega.{arith}
 use lib.Dec.{leb}
 use lib.ListN.{length, getD}
 use Rattle.text.specs.Bytes.{Text}
-use Rattle.text.proofs.Basics.{by-test}
+use Rattle.text.proofs.Basics.{by-test, by-le}
 use Rattle.text.specs.Lines.{Outcome, got, bad}
-use Rattle.text.proofs.WritingLaws.{by-le, sets-past}
+use Rattle.text.proofs.SetsLaws.{sets-past}
 use Rattle.eos.specs.Model as eos
 use Rattle.model.specs.Held.{noModel}
 use Rattle.model.specs.Test.{heldModel}

@@ -8,25 +8,24 @@ use native.Mathlib.Nat.{zero-add}
 use lib.ListN.{length}
 use lib.Seq.{sets}
 use Rattle.text.specs.Bytes.{Text}
+use Rattle.text.specs.Writing.{Laying, lay}
+use Rattle.text.specs.declared.Wrote.{Wrote}
 use Rattle.text.proofs.Basics.{and-true}
+use Rattle.text.proofs.LaidLaws.{lay-whole, lay-short}
 use Rattle.model.specs.Test.{heldModel}
 use Rattle.model.specs.declared.Model.{Model}
 use Rattle.marking.specs.Held.{sizesAt, Roomy, tokensOf, heldMarking}
 use Rattle.marking.specs.Printed.{markingText}
-use Rattle.marking.specs.Writing as marking
-use Rattle.marking.specs.Writing.{lay}
 use Rattle.marking.specs.declared.Marking.{Marking}
-use Rattle.marking.specs.declared.Wrote.{Wrote}
-use Rattle.marking.proofs.WriteLaws.{lay-whole, lay-short}
 use Rattle.marking.specs.Sizes.{sizesIn}
-use Rattle.reader.specs.Answers.{heldBoth, writtenAs, Lent, layWhole, markingWriting}
+use Rattle.reader.specs.Answers.{heldBoth, writtenAs, Answered, layWhole, markingWriting}
 use Rattle.reader.specs.declared.WriteAnswer.{WriteAnswer}
 use Rattle.reader.specs.declared.WriteAnswer.the-variants.{Written, Unheld, TooSmall}
 use Rattle.reader.proofs.ReadingLaws.{roomy-of}
 
 -- ---- a text laid from the first byte on
 
-abbrev asWritten : marking.Lent → Lent
+abbrev asWritten : Laying → Answered
 asWritten l = record { answer = writtenAs (l .answer); bytes = l .bytes }
 
 module _ (text : Text) (out : List ℕ) where

@@ -6,7 +6,10 @@ use lib.Dec.{leb}
 use lib.ListN.{length}
 use Rattle.text.specs.Bytes.{Text, lineAt}
 use Rattle.text.specs.Lines.{Outcome, got, bad}
+use Rattle.text.specs.Writing.{lay}
 use Rattle.text.specs.declared.Fault.{Fault}
+use Rattle.text.specs.declared.Wrote.{Wrote}
+use Rattle.text.specs.declared.Wrote.the-variants.{Whole, Short}
 use Rattle.eos.specs.Model as eos
 use Rattle.eos.specs.Causes.{Refusal}
 use Rattle.model.specs.Held.{holdModel, noModel}
@@ -14,10 +17,7 @@ use Rattle.model.specs.Test.{heldModel}
 use Rattle.model.specs.declared.Model.{Model}
 use Rattle.marking.specs.Held.{holdMarking, noMarking, tokensOf, heldMarking}
 use Rattle.marking.specs.Printed.{markingText}
-use Rattle.marking.specs.Writing.{lay}
 use Rattle.marking.specs.declared.Marking.{Marking}
-use Rattle.marking.specs.declared.Wrote.{Wrote}
-use Rattle.marking.specs.declared.Wrote.the-variants.{Whole, Short}
 use Rattle.reader.specs.Reading.{Loaded, readModelAt, readMarkingAt}
 use Rattle.marking.specs.Sizes.{sizesFor}
 use Rattle.reader.specs.declared.ReadAnswer.{ReadAnswer}
@@ -95,7 +95,7 @@ heldBoth m k = heldModel m && heldMarking (sizesFor m) k
 -- ---- writing
 
 -- what the writer answers, and the lent bytes after it
-pub record Lent : Type 0 where
+pub record Answered : Type 0 where
   pub answer : WriteAnswer
   pub bytes : List ℕ
 
@@ -105,11 +105,11 @@ writtenAs (Whole n) = Written n
 writtenAs (Short n) = TooSmall n
 
 -- a text laid over the lent bytes from the first on: whole, or no byte of it
-unfoldable pub layWhole : Text → List ℕ → Lent
+unfoldable pub layWhole : Text → List ℕ → Answered
 layWhole text out = record { answer = writtenAs (lay text out 0 .answer); bytes = lay text out 0 .bytes }
 
 -- writing a marking: 14, then 13
-unfoldable pub markingWriting : Model → Marking → List ℕ → Lent
+unfoldable pub markingWriting : Model → Marking → List ℕ → Answered
 markingWriting m k out =
     elim (heldBoth m k) [
       | true ↦ layWhole (markingText (tokensOf (sizesFor m) k)) out

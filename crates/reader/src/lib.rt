@@ -8,7 +8,6 @@ ghost use Rattle.reader.specs.Parts.{answerOf};
 ghost use Rattle.reader.specs.Answers.{noReading, modelFrom, modelReading, noTokens, markingFrom, markingReading, heldBoth, writtenAs, markingWriting};
 use marking::Block;
 use marking::Marking;
-use marking::Wrote;
 use marking_read::block_at;
 use marking_test::sizes;
 use marking_write::write;
@@ -16,6 +15,7 @@ use model::Model;
 use model_read::read_plant;
 use text::Ended;
 use text::Fault;
+use text::Wrote;
 use text_reader::Reader;
 use text_scan::line_at;
 

@@ -1,26 +1,21 @@
--- Texts that fit, laid one after another.
-use Prim.Native.Nat.{ℕ, _+_, _≤_}
+-- Texts laid over lent bytes: one after another, and what a writer of one answers and leaves.
+use Prim.Native.Nat.{ℕ, _+_, _≤_, _<_}
 use mathlib.Core.Path.{_≡_, sym, _∙_}
 use mathlib.Core.List.{List, [], _∷_, _++_}
 use native.Mathlib.Omega.{arith}
 use lib.ListN.{length, take, drop, length-append}
 use lib.Seq.{sets, sets-eq, length-take-le, take-at}
+use borrow.Author.Tests.{le-leb, lt-leb}
 use Rattle.text.specs.Bytes.{Text, lf}
 use Rattle.text.specs.Printed.{decimal, numberText}
 use Rattle.text.proofs.Standing.{ends-join}
-use Rattle.text.specs.Writing.{write}
-use Rattle.text.specs.declared.Written.{Written}
-use Rattle.text.specs.declared.Written.the-variants.{Upto}
-use Rattle.text.proofs.WritingLaws.{sets-append, fits-is}
+use Rattle.text.specs.Writing.{lay}
+use Rattle.text.specs.declared.Wrote.the-variants.{Whole, Short}
+use Rattle.text.proofs.SetsLaws.{sets-append}
 
 -- a text laid from `at` on, and the position after it
 abbrev pub Laid : Text → List ℕ → ℕ → ℕ → List ℕ → Type 0
 Laid text out at next after = (next ≡ at + length text) × (after ≡ sets out at text)
-
--- a writer's text that fits
-pub laid-fits : (text out : List ℕ) (at : ℕ) {w : Written} {after : List ℕ} {next : ℕ} → record { answer = w; bytes = after } ≡ write text out at
-    → ((n : ℕ) → w ≡ Upto n → next ≡ n) → at + length text ≤ length out → Laid text out at next after
-laid-fits text out at e end h = let f = fits-is text out at e h in (end (at + length text) (f .0), f .1)
 
 -- one text after another
 pub laid-then : (a b out : List ℕ) (at : ℕ) {mid next : ℕ} {m l : List ℕ} → Laid a out at mid m → Laid b m mid next l → Laid (a ++ b) out at next l
@@ -44,3 +39,15 @@ module _ (key : Text) (n : ℕ) where
       → Laid (numberText key n) out at c m
   unfolding numberText
   lay-number-line out at {a} {b} {c} {k} f g h = laid-then key (decimal n ++ (lf ∷ [])) out at f (laid-then (decimal n) (lf ∷ []) k a g h)
+
+-- what a writer answers and leaves: a text that fits
+pub lay-whole : (text out : List ℕ) (at : ℕ) {n : ℕ} {m : List ℕ} → at + length text ≤ length out → n ≡ at + length text → m ≡ sets out at text
+    → record { answer = Whole n; bytes = m } ≡ lay text out at
+unfolding lay
+lay-whole text out at h p q = rw (p, q, le-leb (at + length text) (length out) h, lay)
+
+-- and one that does not
+pub lay-short : (text out : List ℕ) (at : ℕ) {n : ℕ} → length out < at + length text → n ≡ at + length text
+    → record { answer = Short n; bytes = out } ≡ lay text out at
+unfolding lay
+lay-short text out at h p = rw (p, lt-leb (at + length text) (length out) h, lay)

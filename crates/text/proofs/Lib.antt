@@ -21,5 +21,6 @@ pub mod AnyList
 pub mod Refused
 pub mod Unique
 pub mod Cases
-pub mod WritingLaws
+pub mod SetsLaws
+pub mod PrintedLaws
 pub mod LaidLaws

@@ -1,23 +1,23 @@
--- Writing a text into a lent buffer.
-use Prim.Native.Nat.{ℕ, _+_}
-use mathlib.Core.List.{List}
+-- Writing a text into a lent buffer (01's cause 13): whole, or no byte and the number of bytes needed.
 use mathlib.Core.Bool.{true, false}
+use mathlib.Core.List.{List}
+use Prim.Native.Nat.{ℕ, _+_}
 use lib.Dec.{leb}
 use lib.ListN.{length}
 use lib.Seq.{sets}
 use Rattle.text.specs.Bytes.{Text}
-use Rattle.text.specs.declared.Written.{Written}
-use Rattle.text.specs.declared.Written.the-variants.{Upto, Full}
+use Rattle.text.specs.declared.Wrote.{Wrote}
+use Rattle.text.specs.declared.Wrote.the-variants.{Whole, Short}
 
--- what a writer answers, and the lent bytes after it
-pub record Lent : Type 0 where
-  pub answer : Written
+-- what the writer answers, and the lent bytes after it
+pub record Laying : Type 0 where
+  pub answer : Wrote
   pub bytes : List ℕ
 
--- the text laid over the bytes from `at` on; where it does not fit, no byte is touched
-unfoldable pub write : Text → List ℕ → ℕ → Lent
-write text out at =
+-- the text laid over the bytes from `at` on, and where it ends; where it does not fit, no byte is touched
+unfoldable pub lay : Text → List ℕ → ℕ → Laying
+lay text out at =
     elim (leb (at + length text) (length out)) [
-      | true ↦ record { answer = Upto (at + length text); bytes = sets out at text }
-      | false ↦ record { answer = Full; bytes = out }
+      | true ↦ record { answer = Whole (at + length text); bytes = sets out at text }
+      | false ↦ record { answer = Short (at + length text); bytes = out }
     ]

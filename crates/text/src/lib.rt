@@ -1,7 +1,5 @@
 // What the lines of the file formats say, and how they are read and printed: definitions and laws. Every reader goes from a position of a
 // text, and its answer says the position after what it read or the one fault that ends the reading.
-ghost use Prim.Native.Nat.{_-_};
-ghost use Rattle.text.specs.Number.{number, signed};
 
 // A number in a line, 65,536 for each that is larger, and the position after it.
 pub enum Decimal {
@@ -53,8 +51,8 @@ pub struct TokenRow {
     pub counts: [u16; 32],
 }
 
-// How writing into a lent buffer ended: up to a position, or not at all for want of room.
-pub enum Written {
-    Upto { next: usize },
-    Full,
+// How writing a text into a lent buffer ended: the whole text, up to this position, or not at all, and so many bytes are needed.
+pub enum Wrote {
+    Whole { end: usize },
+    Short { needed: usize },
 }

@@ -2,7 +2,7 @@
 use borrow.Author.Needs.{needs}
 use Rattle.capi.proofs.fp_listing.Statement.{statement}
 use Rattle.capi.proofs.fp_listing.Tie as tie
-use Rattle.capi.proofs.CallLaws.{lent-is}
+use Rattle.capi.proofs.CallLaws.{answered-is}
 
 listing-requires : tie.Need-listing-requires
 listing-requires c κs = search needs
@@ -14,7 +14,7 @@ same-length : tie.Need-same-length
 same-length c = search needs
 
 returns : tie.Need-returns
-returns c = lent-is _ _ (c .text-written .ensures) (c .before .before .before .listing .ensures)
+returns c = answered-is _ _ (c .text-written .ensures) (c .before .before .before .listing .ensures)
 
 pub fp-listing-spec : {M : Type 1} → statement M
 fp-listing-spec = tie.close (tie.spec listing-requires text-written-requires same-length returns)

@@ -2,7 +2,7 @@
 use borrow.Author.Needs.{needs}
 use Rattle.capi.proofs.fp_write_marking.Statement.{statement}
 use Rattle.capi.proofs.fp_write_marking.Tie as tie
-use Rattle.capi.proofs.CallLaws.{lent-is}
+use Rattle.capi.proofs.CallLaws.{answered-is}
 
 write-marking-requires : tie.Need-write-marking-requires
 write-marking-requires c κs = search needs
@@ -14,7 +14,7 @@ same-length : tie.Need-same-length
 same-length c = search needs
 
 returns : tie.Need-returns
-returns c = lent-is _ _ (c .text-written .ensures) (c .before .before .before .write-marking .ensures)
+returns c = answered-is _ _ (c .text-written .ensures) (c .before .before .before .write-marking .ensures)
 
 pub fp-write-marking-spec : {M : Type 1} → statement M
 fp-write-marking-spec =

@@ -1,39 +1,24 @@
--- `lay_head` meets its contract: the text was written, or it does not fit.
+-- `lay_head` meets its contract: the text does not fit, or it is laid.
+use native.Mathlib.Omega.{arith}
 use borrow.Author.Needs.{needs}
+use Rattle.reader.proofs.WriteAnswers.{whole-fits, whole-short}
 use Rattle.listing.proofs.lay_head.Statement.{statement}
 use Rattle.listing.proofs.lay_head.Tie as tie
-use mathlib.Core.Path.{refl}
-use Rattle.listing.proofs.ListingLaid.{head-whole, head-short}
 
-write-text-requires : tie.Need-write-text-requires
-write-text-requires c κs = search needs
+returns : tie.Need-returns
+returns c = whole-short _ _ (c .if1 .taken)
 
-enum-known-wrote : tie.Need-enum-known-wrote
-enum-known-wrote c = search needs
-
-enum-told : tie.Need-enum-told
-enum-told c = search needs
+put-text-requires : tie.Need-put-text-requires
+put-text-requires c κs = search needs
 
 same-length : tie.Need-same-length
 same-length c = search needs
 
-returns : tie.Need-returns
-returns c = head-whole _ _ (c .before .before .before .before .before .write-text .ensures) (c .before .wrote .given .1)
-
-same-length-2 : tie.Need-same-length-2
-same-length-2 c = search needs
-
 returns-2 : tie.Need-returns-2
-returns-2 c = head-short _ _ (c .before .before .before .before .write-text .ensures) (c .enum-told .given .1) refl
+returns-2 c =
+    let p = c .before .before in
+    let a = p .before .before .before .before .before .args in
+    rw (p .put-text .ensures .1) (whole-fits (a .head .now) (a .out .now) (omega arith))
 
 pub lay-head-spec : {M : Type 1} → statement M
-lay-head-spec =
-    tie.close
-    (tie.spec
-    write-text-requires
-    enum-known-wrote
-    enum-told
-    same-length
-    returns
-    same-length-2
-    returns-2)
+lay-head-spec = tie.close (tie.spec returns put-text-requires same-length returns-2)

@@ -1,4 +1,4 @@
--- `test` meets its contract: the first part of the held test that fails decides.
+-- `is_held` meets its contract: the first part of the held test that fails decides.
 use borrow.Author.Needs.{needs}
 use Rattle.marking_test.proofs.is_held.Statement.{statement}
 use Rattle.marking_test.proofs.is_held.Tie as tie

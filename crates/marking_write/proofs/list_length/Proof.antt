@@ -8,7 +8,7 @@ use native.Mathlib.Omega.{arith}
 use lib.ListN.{length, drop, getD}
 use borrow.Author.Needs.{needs}
 use Rattle.text.specs.Printed.{decimal, itemsText}
-use Rattle.text.proofs.WritingLaws.{length-items, items-over, end-none, end-some}
+use Rattle.text.proofs.PrintedLaws.{length-items, items-over, end-none, end-some}
 use Rattle.marking.proofs.LinesLaid.{few-digits}
 
 abbrev Inv-loop : tie.InvT-loop

@@ -6,11 +6,11 @@ use Prim.Native.Nat.{_+_, _*_, _≤_}
 use mathlib.Core.Path.{_≡_}
 use native.Mathlib.Omega.{arith}
 use lib.ListN.{length}
-use Rattle.text.proofs.LaidLaws.{number-line-length}
+use Rattle.text.proofs.LaidLaws.{number-line-length, lay-whole, lay-short}
 use Rattle.marking.specs.Held.{sizesAt, tokensOf}
 use Rattle.marking.specs.Printed.{blockText}
 use Rattle.marking.proofs.LinesLaid.{few-digits}
-use Rattle.marking.proofs.WriteLaws.{held-few, held-placed, text-length, text-laid, lay-whole, lay-short}
+use Rattle.marking.proofs.WriteLaws.{held-few, held-placed, text-length, text-laid}
 
 -- there are at most 256 rows, and they are within the array
 rows-few : (c : tie.After-width) →

@@ -27,7 +27,7 @@ use types.Part.{whole, sub, look-in, agg}
 use types.Run.{look, init, store, forget, stop, hop, fld, from, load, addr, of-opd, and-then, no-more, assigns, land, land-last, first, blocks, returns, enter, alloc1, alloc0, params1, pass1, pass0, free1, free0, exec, Below, again, loops}
 use types.Tokens.{lft-new, lft-end}
 use sound.WpLaws.{FmC, fmOf}
-use denote.RattleType.{owns, packed}
+use denote.RattleType.{owns, flat}
 use denote.Laws.{Is, Ises, Are}
 use denote.Plain.{uint-vals, uint-makes}
 use denote.Builtin.{u8, usize}
@@ -352,10 +352,10 @@ module _ {M : Type 1} (𝓤 : URA M) (H : Heap 𝓤) (A : Atoms 𝓤) (W : Given
         goes-on : (x : Here) → Sq W (Between x) (runs (𝓣 .C) (𝓣 .Λ) En m.t-3 (atRet En Post))
         goes-on x = first ! $ blocks ! $ loops ! 𝓣 Nearer nearer-wf Between turn x
 
-      walk : ent 𝓤 (onEntry 𝓤 H A f.signature κs qs a vs) (WpFn 𝓤 H (𝓣 .C) (𝓣 .Λ) code.function (packed (typesAt (f.signature .params) κs) vs) Post)
+      walk : ent 𝓤 (onEntry 𝓤 H A f.signature κs qs a vs) (WpFn 𝓤 H (𝓣 .C) (𝓣 .Λ) code.function (flat (typesAt (f.signature .params) κs) vs) Post)
       walk =
           let far-is = are .1 .1 .1 .1 .1 .1 .0 in
-          qed W (raw (onEntry 𝓤 H A f.signature κs qs a vs) ∷ []) ∵ enter ! (𝓣 .C) (𝓣 .Λ) code.function (packed (typesAt (f.signature .params) κs) vs) _ $
+          qed W (raw (onEntry 𝓤 H A f.signature κs qs a vs) ∷ []) ∵ enter ! (𝓣 .C) (𝓣 .Λ) code.function (flat (typesAt (f.signature .params) κs) vs) _ $
           alloc1 ! (λ l₀. alloc1 ! (λ l₁. alloc1 ! (λ l₂. alloc1 ! (λ l₃. alloc1 ! (λ l₄. alloc1 ! (λ l₅. alloc1 ! (λ l₆. alloc1 ! (λ l₇.
           alloc1 ! (λ l₈. alloc1 ! (λ l₉. alloc1 ! (λ l₁₀. alloc1 ! (λ l₁₁. alloc1 ! (λ l₁₂. alloc1 ! (λ l₁₃. alloc1 ! (λ l₁₄. alloc1 ! (λ l₁₅. alloc0 ! $ params1 ! $
           pass1 ! (init ! 28 refl (shr-slice-lawful 𝓤 H A W (named 0) κ₀ u8 .typed plan _ (are .0) .0)) $ pass1 ! (init ! 26 refl (numbers-typed 𝓤 H A W w8 32 z _ (are .1 .0))) $

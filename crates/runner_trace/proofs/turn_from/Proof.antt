@@ -20,7 +20,7 @@ use types.Kit.{Given, ‵, raw, _⊛_, ⋆, _$_, _∵_, !, qed, by, move, drop, 
 use types.Part.{whole, sub, look-in}
 use types.Run.{look, init, stop, hop, fld, from, load, addr, of-opd, and-then, no-more, assigns, land, returns, enter, alloc1, alloc0, params1, pass1, pass0, free0}
 use sound.WpLaws.{FmC, fmOf}
-use denote.RattleType.{owns, packed}
+use denote.RattleType.{owns, flat}
 use denote.Laws.{Ises, Are}
 use denote.Plain.{uint-vals}
 use denote.Builtin.{u8}
@@ -120,10 +120,10 @@ module _ {M : Type 1} (𝓤 : URA M) (H : Heap 𝓤) (A : Atoms 𝓤) (W : Given
 
   module _ (C : Calls 𝓤 H) (Λ : Loops 𝓤 H) (fm : FmC 𝓤 H (W .laws) C) (known : Triple 𝓤 (C #turn-at) (TurnAt 𝓤 H A mem run)) where
     walk : Asked → Are (typesAt (f.signature .params) κs) (Ises (typesAt (f.signature .params) κs)) a vs
-        → ent 𝓤 (onEntry 𝓤 H A f.signature κs qs a vs) (WpFn 𝓤 H C Λ code.function (packed (typesAt (f.signature .params) κs) vs) Post)
+        → ent 𝓤 (onEntry 𝓤 H A f.signature κs qs a vs) (WpFn 𝓤 H C Λ code.function (flat (typesAt (f.signature .params) κs) vs) Post)
     walk h are =
         let wt = reader-typed α d 𝓤 H A W _ (are .1 .1 .1 .1 .1 .0) in
-        qed W (raw (onEntry 𝓤 H A f.signature κs qs a vs) ∷ []) ∵ enter ! C Λ code.function (packed (typesAt (f.signature .params) κs) vs) _ $
+        qed W (raw (onEntry 𝓤 H A f.signature κs qs a vs) ∷ []) ∵ enter ! C Λ code.function (flat (typesAt (f.signature .params) κs) vs) _ $
         alloc1 ! (λ l₀. alloc1 ! (λ l₁. alloc1 ! (λ l₂. alloc1 ! (λ l₃. alloc1 ! (λ l₄. alloc1 ! (λ l₅. alloc1 ! (λ l₆.
         alloc1 ! (λ l₇. alloc1 ! (λ l₈. alloc1 ! (λ l₉. alloc1 ! (λ l₁₀. alloc1 ! (λ l₁₁. alloc1 ! (λ l₁₂. alloc0 ! $ params1 ! $
         pass1 ! (init ! 22 refl (shr-slice-lawful 𝓤 H A W (named 0) (κs .0) u8 .typed plan _ (are .0) .0)) $ pass1 ! (init ! 20 refl (numbers-typed 𝓤 H A W w8 32 z _ (are .1 .0))) $

@@ -96,11 +96,11 @@ outer-of-requires c κs = search needs
 sub-same-places : tie.Need-sub-same-places
 sub-same-places c = search needs
 
-part-same-start : tie.Need-part-same-start
-part-same-start c = search needs
+part-same-places-start : tie.Need-part-same-places-start
+part-same-places-start c = search needs
 
-part-same-end : tie.Need-part-same-end
-part-same-end c = search needs
+part-same-places-end : tie.Need-part-same-places-end
+part-same-places-end c = search needs
 
 same-places-requires : tie.Need-same-places-requires
 same-places-requires c κs = search needs
@@ -120,11 +120,11 @@ outer-of-requires-2 c κs = search needs
 sub-same-places-2 : tie.Need-sub-same-places-2
 sub-same-places-2 c = search needs
 
-part-same-start-2 : tie.Need-part-same-start-2
-part-same-start-2 c = search needs
+part-same-places-start-2 : tie.Need-part-same-places-start-2
+part-same-places-start-2 c = search needs
 
-part-same-end-2 : tie.Need-part-same-end-2
-part-same-end-2 c = search needs
+part-same-places-end-2 : tie.Need-part-same-places-end-2
+part-same-places-end-2 c = search needs
 
 same-places-requires-2 : tie.Need-same-places-requires-2
 same-places-requires-2 c κs = search needs
@@ -274,15 +274,15 @@ verdict-spec =
     (tie.spec
     outer-of-requires
     sub-same-places
-    part-same-start
-    part-same-end
+    part-same-places-start
+    part-same-places-end
     same-places-requires
     turned-requires
     returns
     outer-of-requires-2
     sub-same-places-2
-    part-same-start-2
-    part-same-end-2
+    part-same-places-start-2
+    part-same-places-end-2
     same-places-requires-2
     add-turned
     turned-requires-2

@@ -1,4 +1,4 @@
--- `writers::put_digits`: the digits of n, laid from the last to the first. The loop's invariant: k is where the last digit of v goes,
+-- `put_digits`: the digits of n, laid from the last to the first. The loop's invariant: k is where the last digit of v goes,
 -- within the buffer, and the digits of v laid over the buffer as it is now are those of n laid over the buffer as it was.
 use Prim.Native.Nat.{_+_, _/_, _%_, _≤_, _<_}
 use mathlib.Core.Path.{_≡_, refl, _∙_}
@@ -7,7 +7,8 @@ use lib.ListN.{length, length-set}
 use lib.Seq.{sets}
 use borrow.Author.Needs.{needs}
 use Rattle.text.specs.Printed.{decimal}
-use Rattle.text.proofs.WritingLaws.{length-some, length-small, length-large, lay-last, lay-one}
+use Rattle.text.proofs.DecimalLaws.{length-positive, length-small, length-large}
+use Rattle.text.proofs.PrintedLaws.{lay-last, lay-one}
 use Rattle.text_write.proofs.put_digits.Statement.{statement}
 use Rattle.text_write.proofs.put_digits.Tie as tie
 
@@ -22,10 +23,10 @@ add-k : tie.Need-add-k Inv-loop μ-loop
 add-k c = search needs
 
 sub-k : tie.Need-sub-k Inv-loop μ-loop
-sub-k c = omega (arith, length-some (c .args .n))
+sub-k c = omega (arith, length-positive (c .args .n))
 
 loop-holds : tie.Need-loop-holds Inv-loop μ-loop
-loop-holds c = let w = length-some (c .args .n) in (omega arith, omega arith, refl, refl)
+loop-holds c = let w = length-positive (c .args .n) in (omega arith, omega arith, refl, refl)
 
 cast-out : tie.Need-cast-out Inv-loop μ-loop
 cast-out c = search needs
@@ -37,7 +38,7 @@ slice-write-out : tie.Need-slice-write-out Inv-loop μ-loop
 slice-write-out c = search needs
 
 sub-k-2 : tie.Need-sub-k-2 Inv-loop μ-loop
-sub-k-2 c = let v = c .before .loop .v in omega (arith, length-large v (omega arith), length-some (v / 10))
+sub-k-2 c = let v = c .before .loop .v in omega (arith, length-large v (omega arith), length-positive (v / 10))
 
 loop-less : tie.Need-loop-less Inv-loop μ-loop
 loop-less c = search needs
@@ -47,7 +48,7 @@ loop-again c =
     let a = c .before .before .args in
     let l = c .before .loop in
     let w = length-large (l .v) (omega arith) in
-    let s = length-some (l .v / 10) in
+    let s = length-positive (l .v / 10) in
     let n = length-set (l .out) (l .k) (48 + l .v % 10) in
     (omega arith, omega arith, n ∙ l .inv .2, lay-last (l .out) (a .at) (l .k) (l .v) (omega arith) (l .inv .0) ∙ l .inv .3)
 

@@ -1,4 +1,4 @@
--- `writers::put_items`: the numbers of a list, each with the byte that ends it. The loop's invariant: what is still to come ends where
+-- `put_items`: the numbers of a list, each with the byte that ends it. The loop's invariant: what is still to come ends where
 -- the whole list ends, and laid over the buffer as it is now it gives the whole list laid over the buffer as it was.
 use Prim.Native.Nat.{_+_, _-_, _≤_}
 use mathlib.Core.Path.{_≡_, refl, ap, _∙_}
@@ -7,7 +7,7 @@ use lib.ListN.{length, drop, length-set}
 use lib.Seq.{sets}
 use borrow.Author.Needs.{needs}
 use Rattle.text.specs.Printed.{decimal, itemsText}
-use Rattle.text.proofs.WritingLaws.{length-items, lay-item, items-over}
+use Rattle.text.proofs.PrintedLaws.{length-items, lay-item, items-over}
 use Rattle.text_write.proofs.put_items.Statement.{statement}
 use Rattle.text_write.proofs.put_items.Tie as tie
 

@@ -1,4 +1,4 @@
--- `writers::width`: how many digits a number has. The loop's invariant: k and the digits of v are together one more than the digits of
+-- `width`: how many digits a number has. The loop's invariant: k and the digits of v are together one more than the digits of
 -- n; k and v are together at most n + 1, so that k cannot be too large for its type.
 use Prim.Native.Nat.{_+_, _≤_}
 use mathlib.Core.Path.{_≡_}
@@ -6,7 +6,7 @@ use native.Mathlib.Omega.{arith}
 use lib.ListN.{length}
 use borrow.Author.Needs.{needs}
 use Rattle.text.specs.Printed.{decimal}
-use Rattle.text.proofs.WritingLaws.{length-small, length-large}
+use Rattle.text.proofs.DecimalLaws.{length-small, length-large}
 use Rattle.text_write.proofs.width.Statement.{statement}
 use Rattle.text_write.proofs.width.Tie as tie
 
