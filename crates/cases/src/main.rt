@@ -1,81 +1,129 @@
 // Runs the cases of 01 that are not in the proved table, and prints what each call answers: the number of the cause and what stands
-// beside it.
+// beside it. The cases are the lines of the file `cases`; those on held things that no reading gives are in `held`.
+ghost use Rattle.io.specs.Counts.{Counts};
+use answers::put;
+use bytes::scan::find;
 use engine::Marking;
 use engine::Model;
-use engine::ReadAnswer;
-use engine::WriteAnswer;
-use libc::STDOUT_FILENO;
+use line::decoded;
+use text_scan::starts;
 
-mod reading;
-mod sharing;
-mod stepping;
-mod weighing;
+mod answers;
+mod held;
+mod line;
 
-fn put(text: &[u8]) {
-    io::write_all(STDOUT_FILENO, text);
+// The model and the marking in hand.
+struct Hand {
+    model: Model,
+    marking: Marking,
 }
 
-fn put_number(n: usize) {
-    io::print_decimal(STDOUT_FILENO, n as u64);
-}
-
-fn put_pair(number: usize, beside: usize) {
-    put_number(number);
-    put(b",");
-    put_number(beside);
-    put(b"\n");
-}
-
-fn put_read(answer: ReadAnswer) {
-    match answer {
-        ReadAnswer::Accepted => put_pair(0, 0),
-        ReadAnswer::TooLong => put_pair(1, 0),
-        ReadAnswer::NotHeld => put_pair(14, 0),
-        ReadAnswer::Faulty { why, line } => put_pair(why as usize, line),
-    }
-}
-
-fn put_write(answer: WriteAnswer) {
-    match answer {
-        WriteAnswer::Written { bytes: _ } => put_pair(0, 0),
-        WriteAnswer::Unheld => put_pair(14, 0),
-        WriteAnswer::TooSmall { needed } => put_pair(13, needed),
-    }
-}
-
-// What reading a model answers.
-fn model_case(name: &[u8], text: &[u8]) {
-    put(name);
-    put(b": ");
+// The model of a text and its start; of a text that is refused, the empty model and no net-token.
+fn hand_of(text: &[u8]) -> Hand {
     let r = engine::read_model(text);
-    let answer = r.answer;
-    put_read(answer);
+    let model = r.model;
+    let marking = r.start;
+    Hand { model, marking }
 }
 
-// What writing a marking answers, and the lent bytes after it.
-fn write_case(name: &[u8], m: Model, k: Marking, out: &mut [u8]) {
+// Reads the file at `path` into buf and answers how many bytes there are; of one that cannot be opened, none.
+fn load(path: &[u8], buf: &mut [u8]) -> usize
+    ensures { λ r. ⌜ Counts r (now (buf .exit)) ⌝ }
+{
+    let fd = os::open_read(path);
+    if fd < 0 {
+        return 0;
+    }
+    let n = io::read_full(fd, buf);
+    libc::close(fd);
+    n
+}
+
+fn loaded(path: &[u8]) -> Hand {
+    let mut buf = io::large_buffer();
+    let n = load(path, &mut buf);
+    hand_of(&buf[..n])
+}
+
+// What a case that leaves the hand as it is prints after its name.
+fn print(hand: Hand, kind: &[u8], text: &[u8]) {
+    let m = hand.model;
+    let k = hand.marking;
+    if starts(kind, 0, b"model ") {
+        answers::model(text);
+    } else if starts(kind, 0, b"marking ") {
+        answers::marking(m, text);
+    } else if starts(kind, 0, b"step ") {
+        answers::step(m, k, text);
+    } else if starts(kind, 0, b"run ") {
+        answers::run(m, k, text);
+    } else if starts(kind, 0, b"weigh ") {
+        answers::weigh(m, k, text);
+    } else if starts(kind, 0, b"write ") {
+        answers::write(m, k, text);
+    } else if starts(kind, 0, b"count ") {
+        answers::count(k);
+    } else if starts(kind, 0, b"ways ") {
+        answers::ways(text);
+    } else {
+        put(b"no such kind\n");
+    }
+}
+
+// The case of a kind, a name and a text; answers what is in hand after it.
+fn case(hand: Hand, kind: &[u8], name: &[u8], text: &[u8]) -> Hand {
+    if starts(kind, 0, b"use ") {
+        return hand_of(text);
+    }
+    if starts(kind, 0, b"load ") {
+        return loaded(text);
+    }
     put(name);
     put(b": ");
-    let answer = engine::write_marking(m, k, out);
-    put_write(answer);
-    put(out);
-    put(b"\n");
+    if starts(kind, 0, b"go ") {
+        let model = hand.model;
+        let k = hand.marking;
+        let marking = answers::step(model, k, text);
+        return Hand { model, marking };
+    }
+    print(hand, kind, text);
+    hand
 }
 
-// 256 net-tokens on place 1; their counts are those of the rows.
-fn full(rows: [u16; 8448]) -> Marking {
-    let mut k = Marking { len: 256, rows };
-    let mut i = 0;
-    while i < 256 {
-        k.rows[i * 33] = 1;
-        i += 1;
+// The case of a line; a line that is empty or a comment has none.
+fn case_of(hand: Hand, line: &[u8]) -> Hand {
+    let colon = find(line, 0, line.len(), b':');
+    let blank = find(line, 0, colon, b' ');
+    if starts(line, 0, b"#") {
+        return hand;
     }
-    k
+    if blank == colon {
+        return hand;
+    }
+    let mut text = io::large_buffer();
+    let n = decoded(&line[colon..], &mut text);
+    case(hand, line, &line[blank + 1..colon], &text[..n])
+}
+
+fn all_cases(text: &[u8]) {
+    let mut hand = hand_of(b"");
+    let mut at = 0;
+    while at < text.len() {
+        let end = find(text, at, text.len(), b'\n');
+        hand = case_of(hand, &text[at..end]);
+        if end == text.len() {
+            return;
+        }
+        at = end + 1;
+    }
 }
 
 fn main() {
-    reading::run();
-    stepping::run();
-    weighing::run();
-    sharing::run();
+    let mut text = io::large_buffer();
+    let n = load(b"cases", &mut text);
+    all_cases(&text[..n]);
+    let listing = loaded(b"listing");
+    let m = listing.model;
+    let k = listing.marking;
+    held::run(m, k);
 }
