@@ -1,11 +1,11 @@
 // What is printed of the answer of each call.
+use super::line::number_at;
 use bytes::scan::find;
 use engine::Marking;
 use engine::Model;
 use engine::Spread;
 use engine::StepAnswer;
 use libc::STDOUT_FILENO;
-use super::line::number_at;
 use pairs::Pair;
 
 pub fn put(text: &[u8]) {

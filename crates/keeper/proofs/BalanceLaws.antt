@@ -10,7 +10,7 @@ use lib.IntN.{ℤ, _-ℤ_}
 use lib.ListN.{getD}
 use borrow.Author.Tests.{eqb-true, eqb-false, eq-eqb, ne-eqb}
 use Rattle.text.proofs.Basics.{by-test, and-true}
-use Rattle.text.specs.Lines.{within}
+use Rattle.text.specs.Lines.{inRange}
 use Rattle.text.specs.Capped.{above, below}
 use Rattle.text.proofs.TestLaws.{within-is}
 use Rattle.eos.specs.Model as eos
@@ -38,7 +38,7 @@ unfolding heldAct
 act-cases f zero i h x y = absurd (false≢true h)
 act-cases f (suc zero) i h x y = let b = within-is 1 (f .moves) i h in x refl (b .0) (b .1)
 act-cases f (suc (suc zero)) i h x y =
-    let b = within-is 1 (f .places) i (and-true (within 1 (f .places) i) (leb 1 (f .type (pred i))) h .0) in
+    let b = within-is 1 (f .places) i (and-true (inRange 1 (f .places) i) (leb 1 (f .type (pred i))) h .0) in
     y refl (b .0) (b .1)
 act-cases f (suc (suc (suc k))) i h x y = absurd (false≢true h)
 

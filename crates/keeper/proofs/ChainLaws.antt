@@ -104,15 +104,15 @@ module _ (m : Model) (long : length (m .types) ≡ 32) (few : m .places ≤ 32) 
   abbrev none : Ended → WeightLines
   none e = record { ended = e; weights = noWeights }
 
-  pub head-refused : (a : Line) (d : Fault) → a ≡ Refused d → a ≡ lineOf (readHead (bytes "inv=") s at) → none (endedIn a) ≡ linesOf file
-  head-refused a d h k = lines-bad file (endedIn a) d (ap endedIn h) (head-bad d (line-bad _ d (sym h ∙ k))) (none (endedIn a)) refl
+  pub head-weights-refused : (a : Line) (d : Fault) → a ≡ Refused d → a ≡ lineOf (readHead (bytes "inv=") s at) → none (endedIn a) ≡ linesOf file
+  head-weights-refused a d h k = lines-bad file (endedIn a) d (ap endedIn h) (head-bad d (line-bad _ d (sym h ∙ k))) (none (endedIn a)) refl
 
   module _ (v x₁ : ℕ) (head : Value v x₁ ≡ lineOf (readHead (bytes "inv=") s at)) (a : WeightRow) (line : a ≡ weightRowOf (outers x₁)) where
     first : readHead (bytes "inv=") s at ≡ got v x₁
     first = line-got _ v x₁ head
 
-    pub outer-refused : (d : Fault) → a .ended ≡ Stopped d → none (a .ended) ≡ linesOf file
-    outer-refused d e = lines-bad file (a .ended) d e (outer-bad v x₁ first d (row-bad _ a line d e)) (none (a .ended)) refl
+    pub outer-weights-refused : (d : Fault) → a .ended ≡ Stopped d → none (a .ended) ≡ linesOf file
+    outer-weights-refused d e = lines-bad file (a .ended) d e (outer-bad v x₁ first d (row-bad _ a line d e)) (none (a .ended)) refl
 
     module _ (x₂ : ℕ) (past : a .ended ≡ Past x₂) (h : HeldWeights)
         (laid : h ≡ record { above = sets (replicate 288 0) 0 (a .above); below = sets (replicate 288 0) 0 (a .below) })
@@ -120,16 +120,16 @@ module _ (m : Model) (long : length (m .types) ≡ 32) (few : m .places ≤ 32) 
       second : Got (outers x₁) x₂
       second = row-got _ a line x₂ past
 
-      pub inner-refused : (d : Fault) → r .ended ≡ Stopped d → none (r .ended) ≡ linesOf file
-      inner-refused d e =
+      pub inner-weights-refused : (d : Fault) → r .ended ≡ Stopped d → none (r .ended) ≡ linesOf file
+      inner-weights-refused d e =
           lines-bad file (r .ended) d e (inner-bad v x₁ first (second .value) x₂ (second .is) d (all-bad h _ r all d e)) (none (r .ended)) refl
 
       module _ (x₃ : ℕ) (end : r .ended ≡ Past x₃) where
         third : Got (inners x₂) x₃
         third = all-got h _ r all x₃ end
 
-        pub more-refused : x₃ < length s → none (Stopped (fault 2 x₃)) ≡ linesOf file
-        more-refused k =
+        pub more-weights-refused : x₃ < length s → none (Stopped (fault 2 x₃)) ≡ linesOf file
+        more-weights-refused k =
             lines-bad file (Stopped (fault 2 x₃)) (fault 2 x₃) refl
             (more-bad v x₁ first (second .value) x₂ (second .is) (third .value) x₃ (third .is) k) (none (Stopped (fault 2 x₃))) refl
 

@@ -9,7 +9,7 @@ use lib.Dec.{eqb}
 use lib.IntN.{ℤ}
 use lib.ListN.{length, drop, getD, length-map, List·getD-map, List·getD-eq-default, length-take}
 use Rattle.text.proofs.Basics.{and-true}
-use Rattle.text.specs.Lines.{within}
+use Rattle.text.specs.Lines.{inRange}
 use Rattle.text.proofs.TestLaws.{within-is}
 use Rattle.eos.specs.Vector.{zeros, unit}
 use Rattle.eos.specs.Model as eos
@@ -54,10 +54,10 @@ module _ (m : Model) (w : Weights) (kept : Kept m w) (k : ℕ) (listed : k < m .
   few-steps : (n : ℕ) → n < m .nets → net n .transitions ≤ 32
   few-steps n p =
       let h = held-is m (kept .held) in
-      let used = within 1 32 (net n .places) && within 0 32 (net n .transitions) in
+      let used = inRange 1 32 (net n .places) && inRange 0 32 (net n .transitions) in
       let t = and-true (countTest (m .nets) n (net n)) _ (nets-at m (h .nets) n (omega (arith, few-nets m w kept))) .0 in
       let u = rw (cond-below (m .nets) n used (eqb (net n .places) 0 && eqb (net n .transitions) 0) p) at t in
-      within-is 0 32 (net n .transitions) (and-true (within 1 32 (net n .places)) _ u .1) .1
+      within-is 0 32 (net n .transitions) (and-true (inRange 1 32 (net n .places)) _ u .1) .1
 
   -- the counts of net n, where they are held
   counts-are : (n : ℕ) → n < m .nets → getD (event .sync) n [] ≡ rowIn (net n .transitions) (held .sync) n

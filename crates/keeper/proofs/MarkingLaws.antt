@@ -10,7 +10,7 @@ use lib.ListN.{take, drop}
 use lib.Seq.{getD-take, getD-drop}
 use borrow.Author.Tests.{leb-true}
 use Rattle.text.proofs.Basics.{and-true}
-use Rattle.text.specs.Lines.{within, every}
+use Rattle.text.specs.Lines.{inRange, every}
 use Rattle.text.proofs.TestLaws.{within-is, every-at}
 use Rattle.eos.specs.Vector.{_⊕_, zeros, unit}
 use Rattle.eos.specs.Model as eos
@@ -85,14 +85,14 @@ module _ (z : Sizes) (k : Marking) (held : heldMarking z k ≡ true) where
   unfolding rightRow
   place-in i h =
       rw (row-place i) at (within-is 1 (z .places) (nth (take 33 (drop (i * 33) (k .rows))) 0)
-      (and-true (within 1 (z .places) (nth (take 33 (drop (i * 33) (k .rows))) 0)) _ (row-right i h) .0))
+      (and-true (inRange 1 (z .places) (nth (take 33 (drop (i * 33) (k .rows))) 0)) _ (row-right i h) .0))
 
   -- and its counts are 0 from the size of that place on
   pub count-none : (i : ℕ) → i < k .len → z .size (nth (k .rows) (i * 33)) ≡ 0 → (c : ℕ) → c < 32 → nth (k .rows) (i * 33 + 1 + c) ≡ 0
   unfolding rightRow
   count-none i h e c p =
       let r = take 33 (drop (i * 33) (k .rows)) in
-      let t : empty (drop (suc (z .size (nth r 0))) r) ≡ true = and-true (within 1 (z .places) (nth r 0)) _ (row-right i h) .1 in
+      let t : empty (drop (suc (z .size (nth r 0))) r) ≡ true = and-true (inRange 1 (z .places) (nth r 0)) _ (row-right i h) .1 in
       let e′ : suc (z .size (nth r 0)) ≡ 1 = ap (λ (q : ℕ). suc (z .size q)) (row-place i) ∙ ap suc e in
       ap (nth (k .rows)) {x = i * 33 + 1 + c} {y = i * 33 + (1 + c)} (omega arith) ∙ sym (row-nth i (1 + c) (omega arith))
       ∙ sym (getD-drop 1 r c 0) ∙ empty-at (drop 1 r) (rw e′ at t) c

@@ -67,7 +67,7 @@ pub struct WeightCheck {
 }
 
 // Refused weights: sum 0, cover 0.
-pub fn refused(answer: WeightAnswer) -> WeightCheck
+pub fn weights_refused(answer: WeightAnswer) -> WeightCheck
     ensures { λ r. ⌜ r ≡ refusedWeights answer ⌝ }
 {
     WeightCheck {
@@ -138,14 +138,14 @@ fn judged(m: Model, k: Marking, h: HeldWeights) -> WeightCheck
     ensures { λ r. ⌜ ((w : Weights) → Holds m w h → r ≡ judgedWeights (modelOf m) (tokensOf (sizesFor m) k) w) ⌝ }
 {
     if all_zero(h) {
-        return refused(WeightAnswer::Turned {
+        return weights_refused(WeightAnswer::Turned {
             cause: 6,
             beside: m.nets + 2,
         });
     }
     let event = unbalanced(m, h);
     if event != 0 {
-        return refused(WeightAnswer::Turned {
+        return weights_refused(WeightAnswer::Turned {
             cause: 7,
             beside: event,
         });
@@ -158,10 +158,10 @@ fn weights_at(m: Model, k: Marking, s: &[u8], at: usize) -> WeightCheck
     ensures { λ r. ⌜ r ≡ weightsFrom m k (now (s .entry)) at ⌝ }
 {
     if Model::LONGEST < s.len() {
-        return refused(WeightAnswer::TooLong);
+        return weights_refused(WeightAnswer::TooLong);
     }
     if !test_marking(m, k) {
-        return refused(WeightAnswer::NotHeld);
+        return weights_refused(WeightAnswer::NotHeld);
     }
     let read = weight_lines(m, s, at);
     let ended = read.ended;
@@ -169,7 +169,7 @@ fn weights_at(m: Model, k: Marking, s: &[u8], at: usize) -> WeightCheck
     let Ended::Stopped { fault } = ended else {
         return judged(m, k, weights);
     };
-    refused(fault_answer(s, fault))
+    weights_refused(fault_answer(s, fault))
 }
 
 // Reads the weight file of a held model from the place that the reader has reached, judges the weights, and weighs a held marking.

@@ -73,8 +73,8 @@ module _ (m : Model) (k : Marking) (s : Text) where
 -- ---- a model whose pair is 0,0
 
 -- a pair is tested by its number, and then by what stands beside it
-pub number-refused : (n b : ℕ) → (n ≡ 0 → ⊥) → false ≡ (eqb n 0 && eqb b 0)
-number-refused n b h = rw (ne-eqb n 0 h)
+pub number-weights-refused : (n b : ℕ) → (n ≡ 0 → ⊥) → false ≡ (eqb n 0 && eqb b 0)
+number-weights-refused n b h = rw (ne-eqb n 0 h)
 
 pub number-none : (n b : ℕ) → n ≡ 0 → eqb b 0 ≡ (eqb n 0 && eqb b 0)
 number-none n b h = rw h
@@ -88,15 +88,15 @@ unfolding loaded
 loaded-accepted s (got l x) h = refl
 loaded-accepted s (bad e) h = never (eqb (e .why) 0) (newlines (take (e .at) s)) h
 
-long-refused : {A : Type 0} → accepted (readPair read.TooLong) ≡ true → A
-long-refused h = let z : _≡_ {A = ℕ} 0 1 = cc in absurd (omega arith)
+long-weights-refused : {A : Type 0} → accepted (readPair read.TooLong) ≡ true → A
+long-weights-refused h = let z : _≡_ {A = ℕ} 0 1 = cc in absurd (omega arith)
 
 reading-accepted : (s : Text) → accepted (readPair (modelReading s .answer)) ≡ true → modelReading s .answer ≡ read.Accepted
 unfolding modelFrom
 reading-accepted s h =
     by-test (leb (length s) longest)
     (λ t. rw (t, modelFrom) (loaded-accepted s (readModel s) (rw (t, modelFrom) at h)))
-    (λ t. long-refused (rw (t, modelFrom) at h))
+    (λ t. long-weights-refused (rw (t, modelFrom) at h))
 
 reading-held : (s : Text) → accepted (readPair (modelReading s .answer)) ≡ true → heldBoth (modelReading s .model) (modelReading s .start) ≡ true
 reading-held s h =
@@ -108,7 +108,7 @@ unfolding modelFile
 file-held s h =
     by-test (leb (length s) fileLongest)
     (λ t. rw (t, modelFile) (reading-held s (rw (t, modelFile) at h)))
-    (λ t. long-refused (rw (t, modelFile) at h))
+    (λ t. long-weights-refused (rw (t, modelFile) at h))
 
 -- it and its start are held
 pub model-held : (s : Text) (l : ModelReading) → l ≡ modelFile s → (p : Refusal) → p ≡ readPair (l .answer) → accepted p ≡ true
@@ -138,13 +138,13 @@ weighed-accepted m μ s (got w x) h =
     turned-accepted m w (2 + length (m .nets)) (passedWeights w (weigh m w μ)) (weightRefusal (2 + length (m .nets)) m w) refl refl h
 weighed-accepted m μ s (bad e) h = never (eqb (e .why) 0) (newlines (take (e .at) s)) h
 
-none-refused : {A : Type 0} (n : ℕ) → (eqb (suc n) 0 && true) ≡ true → A
-none-refused n h = absurd (omega (arith, eqb-true (suc n) 0 (and-true (eqb (suc n) 0) true h .0)))
+none-weights-refused : {A : Type 0} (n : ℕ) → (eqb (suc n) 0 && true) ≡ true → A
+none-weights-refused n h = absurd (omega (arith, eqb-true (suc n) 0 (and-true (eqb (suc n) 0) true h .0)))
 
 checked-accepted : (b : Bool) (m : Model) (k : Marking) (s : Text) → accepted (weightPair (weightsOr b m k s 0 .answer)) ≡ true → weightsOr b m k s 0 .answer ≡ weight.Passed
 unfolding weightsOr
 checked-accepted true m k s h = weighed-accepted (modelOf m) (tokensOf (sizesFor m) k) s (readWeightFile (modelOf m) s) h
-checked-accepted false m k s h = none-refused 13 h
+checked-accepted false m k s h = none-weights-refused 13 h
 
 pub weights-passed : (m : Model) (k : Marking) (s : Text) → accepted (weightPair (weightsFile m k s .answer)) ≡ true → weightsFile m k s .answer ≡ weight.Passed
 unfolding weightsFile weightsFrom
@@ -152,5 +152,5 @@ weights-passed m k s h =
     by-test (leb (length s) fileLongest)
     (λ t. by-test (leb (length s) longest)
     (λ u. rw (t, weightsFile, u, weightsFrom) (checked-accepted (heldBoth m k) m k s (rw (t, weightsFile, u, weightsFrom) at h)))
-    (λ u. none-refused 0 (rw (t, weightsFile, u, weightsFrom) at h)))
-    (λ t. none-refused 0 (rw (t, weightsFile) at h))
+    (λ u. none-weights-refused 0 (rw (t, weightsFile, u, weightsFrom) at h)))
+    (λ t. none-weights-refused 0 (rw (t, weightsFile) at h))

@@ -29,7 +29,7 @@ pub fn weights_file(m: Model, k: Marking, s: &[u8]) -> WeightCheck
     ensures { λ r. ⌜ r ≡ weightsFile m k (now (s .entry)) ⌝ }
 {
     if LONGEST < s.len() {
-        return keeper::refused(WeightAnswer::TooLong);
+        return keeper::weights_refused(WeightAnswer::TooLong);
     }
     check_weights(m, k, s)
 }
@@ -38,7 +38,7 @@ pub fn trace_file(m: Model, k: Marking, s: &[u8]) -> Ran
     ensures { λ r. ⌜ r ≡ traceFile m k (now (s .entry)) ⌝ }
 {
     if LONGEST < s.len() {
-        return runner_trace::refused(Stop::TooLong, k);
+        return runner_trace::run_refused(Stop::TooLong, k);
     }
     run(m, k, s)
 }

@@ -6,7 +6,7 @@ use native.Mathlib.Omega.{arith}
 use lib.ListN.{length}
 use Rattle.text.specs.Bytes.{Text, bytes}
 use Rattle.text.proofs.Basics.{and-true}
-use Rattle.text.specs.Lines.{need, within}
+use Rattle.text.specs.Lines.{need, inRange}
 use Rattle.text.specs.Token.{Token, rightToken}
 use Rattle.text.proofs.TestLaws.{and-both, eqb-and, and-eqb, within-is}
 use Rattle.text.proofs.Exactly.{Exactly, many-exactly}
@@ -21,7 +21,7 @@ use Rattle.marking.specs.Printed.{netTokenText, blockText}
 line-again : (places : ℕ) (size : ℕ → ℕ) (range : ℕ → Bool) (t : Token) → rightToken places size range t ≡ true → tokenLine (lineToken t) ≡ t
 unfolding rightToken
 line-again places size range t h =
-    let w = within-is 1 places (t .place) (and-true (within 1 places (t .place)) _ h .0) in
+    let w = within-is 1 places (t .place) (and-true (inRange 1 places (t .place)) _ h .0) in
     let p : suc (t .place - 1) ≡ t .place = omega arith in
     λ i. record { place = p i; counts = t .counts }
 

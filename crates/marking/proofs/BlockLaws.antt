@@ -9,7 +9,7 @@ use lib.Dec.{leb, leb·zero}
 use lib.ListN.{length, length-map, replicate}
 use Rattle.text.specs.Bytes.{Text, bytes}
 use Rattle.text.proofs.Basics.{and-true}
-use Rattle.text.specs.Lines.{Outcome, got, bad, then, many, within, readNumber}
+use Rattle.text.specs.Lines.{Outcome, got, bad, then, many, inRange, readNumber}
 use Rattle.text.specs.Repeat.{fill, filled}
 use Rattle.text.specs.Token.{Token, readToken, rightToken}
 use Rattle.text.specs.Answers.{endedOf, keptOr, padded, tokenRowOf}
@@ -113,7 +113,7 @@ module _ (lim : Limits) (z : Sizes) (s : Text) where
         let g = got-of o (row .ended) next ended-is e in
         let t = g .value in
         let a = token-exactly (bytes "token=") (z .places) (z .size) (lim .counts) s .back at t next (g .is) in
-        let w = within-is 1 (z .places) (t .place) (and-true (within 1 (z .places) (t .place)) _ (a .fine-is) .0) in
+        let w = within-is 1 (z .places) (t .place) (and-true (inRange 1 (z .places) (t .place)) _ (a .fine-is) .0) in
         let r : reads at ≡ got (lineToken t) next = token-got o t next (g .is) in
         let k : suc (t .place - 1) ≡ t .place = omega arith in
         record {
@@ -171,24 +171,24 @@ module _ (lim : Limits) (z : Sizes) (s : Text) where
 -- ---- the whole block
 
 -- a range from 0 on
-from-zero : (hi : ℕ) → within 0 hi ≡ (λ v. leb v hi)
+from-zero : (hi : ℕ) → inRange 0 hi ≡ (λ v. leb v hi)
 from-zero hi = fun-ext (λ v. rw (leb·zero v))
 
-pub counted-few : (key s : Text) (at n next : ℕ) → readNumber key (within 0 256) s at ≡ got n next → n ≤ 256
-counted-few key s at n next e = within-is 0 256 n (number-exactly key (within 0 256) s .back at n next e .fine-is) .1
+pub counted-few : (key s : Text) (at n next : ℕ) → readNumber key (inRange 0 256) s at ≡ got n next → n ≤ 256
+counted-few key s at n next e = within-is 0 256 n (number-exactly key (inRange 0 256) s .back at n next e .fine-is) .1
 
 module _ (key : Text) (z : Sizes) (s : Text) (at : ℕ) where
-  pub counted : (o : Outcome ℕ) → o ≡ readNumber key (within 0 256) s at → o ≡ readNumber key (limits 256 65535 .tokens) s at
+  pub counted : (o : Outcome ℕ) → o ≡ readNumber key (inRange 0 256) s at → o ≡ readNumber key (limits 256 65535 .tokens) s at
   counted o e = e ∙ ap (λ (r : ℕ → Bool). readNumber key r s at) (from-zero 256)
 
   -- their number is refused
-  pub block-refused : (d : Fault) → readNumber key (within 0 256) s at ≡ bad d
+  pub block-refused : (d : Fault) → readNumber key (inRange 0 256) s at ≡ bad d
       → record { ended = Stopped d; marking = noMarking } ≡ blockOf (readBlock key (limits 256 65535) z s at)
   unfolding readBlock then blockOf endedOf keptOr
   block-refused d e = rw (sym (counted (bad d) (sym e)))
 
   -- their number is read, and they follow
-  pub block-counted : (n next : ℕ) → readNumber key (within 0 256) s at ≡ got n next
+  pub block-counted : (n next : ℕ) → readNumber key (inRange 0 256) s at ≡ got n next
       → blockOf (many (readNetToken (limits 256 65535) z s) n next) ≡ blockOf (readBlock key (limits 256 65535) z s at)
   unfolding readBlock then
   block-counted n next e = rw (sym (counted (got n next) (sym e)))

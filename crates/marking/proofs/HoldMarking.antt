@@ -9,7 +9,7 @@ use native.Mathlib.Omega.{arith}
 use lib.Dec.{leb, eqb}
 use lib.ListN.{length, take, drop, replicate, length-map, length-take, length-drop, take-append-drop}
 use borrow.Author.Tests.{leb-true, le-leb, eq-eqb}
-use Rattle.text.specs.Lines.{every, within}
+use Rattle.text.specs.Lines.{every, inRange}
 use Rattle.text.specs.Token.{rightToken}
 use Rattle.text.specs.Answers.{padded}
 use Rattle.text.proofs.Basics.{and-true}
@@ -40,7 +40,7 @@ module _ (lim : Limits) (z : Sizes) (t : eos.NetToken) where
   pub right-is : rightNetToken lim z t ≡ true → Right (lim .counts) z t
   unfolding rightNetToken rightToken
   right-is h =
-      let p = and-true (within 1 (z .places) (suc (t .place))) _ h in
+      let p = and-true (inRange 1 (z .places) (suc (t .place))) _ h in
       let w = within-is 1 (z .places) (suc (t .place)) (p .0) in
       let q = eqb-and (length (t .inside)) (z .size (suc (t .place))) _ (p .1) in
       record { place = w .1; size = q .0; counts = q .1 }
@@ -103,7 +103,7 @@ module _ (z : Sizes) (roomy : Roomy z) where
   unfolding rightRow
   row-token [] e h = absurd (omega arith)
   row-token (p ∷ cs) e h =
-      let a = and-true (within 1 (z .places) p) _ h in
+      let a = and-true (inRange 1 (z .places) p) _ h in
       let w = within-is 1 (z .places) p (a .0) in
       let n = z .size p in
       let k : suc (p - 1) ≡ p = omega arith in
@@ -118,7 +118,7 @@ module _ (z : Sizes) (roomy : Roomy z) where
   unfolding rightRow
   row-right range [] e h b = absurd (omega arith)
   row-right range (p ∷ cs) e h b =
-      let a = and-true (within 1 (z .places) p) _ h in
+      let a = and-true (inRange 1 (z .places) p) _ h in
       let w = within-is 1 (z .places) p (a .0) in
       let k : suc (p - 1) ≡ p = omega arith in
       record {
@@ -133,7 +133,7 @@ module _ (z : Sizes) (roomy : Roomy z) where
       let f = fitting range z t roomy r in
       let d : drop (z .size (suc (t .place))) (padded (t .inside)) ≡ replicate (32 - length (t .inside)) 0 =
       rw (← f .size) (drop-padded (t .inside) (f .room)) in
-      and-both (within 1 (z .places) (suc (t .place))) _
+      and-both (inRange 1 (z .places) (suc (t .place))) _
       (rw (le-leb 1 (suc (t .place)) (omega arith), le-leb (suc (t .place)) (z .places) (r .place)))
       (rw d (are-zeros (32 - length (t .inside))))
 

@@ -9,7 +9,7 @@ use lib.Dec.{leb, eqb}
 use lib.ListN.{length, getD, replicate, List·getD-eq-default}
 use lib.Seq.{ext-getD}
 use borrow.Author.Tests.{leb-true, eqb-true}
-use Rattle.text.specs.Lines.{within}
+use Rattle.text.specs.Lines.{inRange}
 use Rattle.text.specs.Answers.{padded}
 use Rattle.text.proofs.Basics.{and-true}
 use Rattle.text.proofs.TestLaws.{within-is, eqb-and}
@@ -59,10 +59,10 @@ module _ (m : Model) (h : heldModel m ≡ true) where
   net-few k q =
       let n = getD (m .objects) k noNet in
       let t = and-true (countTest (m .nets) k n) (heldNet n) (nets-at m (held-is m h .nets) k q) .0 in
-      let used = within 1 32 (n .places) && within 0 32 (n .transitions) in
+      let used = inRange 1 32 (n .places) && inRange 0 32 (n .transitions) in
       let free = eqb (n .places) 0 && eqb (n .transitions) 0 in
       by-index (m .nets) k
-      (λ r. within-is 1 32 (n .places) (and-true (within 1 32 (n .places)) _ (rw (cond-below (m .nets) k used free r) at t) .0) .1)
+      (λ r. within-is 1 32 (n .places) (and-true (inRange 1 32 (n .places)) _ (rw (cond-below (m .nets) k used free r) at t) .0) .1)
       (λ r. omega (arith, eqb-and (n .places) 0 _ (rw (cond-from (m .nets) k used free r) at t) .0))
 
   -- no net has more places than a row has room for

@@ -11,7 +11,7 @@ use lib.Seq.{sets, drop-length}
 use borrow.Author.Tests.{leb-true}
 use Rattle.text.specs.Bytes.{Text, bytes}
 use Rattle.text.proofs.Basics.{and-true}
-use Rattle.text.specs.Lines.{got, every, within}
+use Rattle.text.specs.Lines.{got, every, inRange}
 use Rattle.text.specs.Printed.{decimal, texts, numberText, tokenText}
 use Rattle.text.specs.Answers.{endedOf, keptOr}
 use Rattle.text.specs.declared.Ended.the-variants.{Past}
@@ -69,7 +69,7 @@ module _ (z : Sizes) (roomy : Roomy z) (places : z .places ≤ 65535) where
 module _ (places : ℕ) (sizes : List ℕ) where
   right-front : (r : Row) → rightRow (sizesAt places sizes) r ≡ true → 1 ≤ getD r 0 0
   unfolding rightRow
-  right-front r h = within-is 1 places (getD r 0 0) (and-true (within 1 places (getD r 0 0)) _ h .0) .0
+  right-front r h = within-is 1 places (getD r 0 0) (and-true (inRange 1 places (getD r 0 0)) _ h .0) .0
 
   -- the line of a right row is that of its net-token
   pub row-text : (r : Row) → rightRow (sizesAt places sizes) r ≡ true → netTokenText (tokenOf (sizesAt places sizes) r) ≡ rowText sizes r

@@ -5,7 +5,7 @@ use mathlib.Core.Bool.{Bool, true, _&&_}
 use mathlib.Core.List.{List, _∷_, map}
 use lib.Dec.{leb, eqb}
 use lib.ListN.{length, take, drop, getD, replicate}
-use Rattle.text.specs.Lines.{within, every}
+use Rattle.text.specs.Lines.{inRange, every}
 use Rattle.text.specs.Answers.{padded}
 use Rattle.eos.specs.Model as eos
 use Rattle.marking.specs.Rows.{Row, rowsIn, laid, ascending}
@@ -48,7 +48,7 @@ tokensOf z k = map (tokenOf z) (rowsIn (k .len) (k .rows))
 
 -- a row's place is one of the model's, and the room behind its counts is 0
 unfoldable pub rightRow : Sizes → Row → Bool
-rightRow z r = within 1 (z .places) (getD r 0 0) && every (λ v. eqb v 0) (drop (suc (z .size (getD r 0 0))) r)
+rightRow z r = inRange 1 (z .places) (getD r 0 0) && every (λ v. eqb v 0) (drop (suc (z .size (getD r 0 0))) r)
 
 -- 01's cause 14, of a marking: at most 256 net-tokens, in canonical order, unused room 0, each right
 unfoldable pub heldMarking : Sizes → Marking → Bool

@@ -8,7 +8,7 @@ use lib.Dec.{eqb}
 use borrow.Author.Tests.{eqb-true}
 use lib.ListN.{length, take, getD}
 use lib.Seq.{ext-getD, length-take-le}
-use Rattle.text.specs.Lines.{within}
+use Rattle.text.specs.Lines.{inRange}
 use Rattle.text.specs.Repeat.{fill}
 use Rattle.text.specs.Answers.{padded}
 use Rattle.text.proofs.Basics.{and-true}
@@ -79,7 +79,7 @@ module _ (m : Model) (sized : SizedModel m) (held : Held m) where
 
   net-free : (k : ℕ) → k < 8 → m .nets ≤ k → (net k .places ≡ 0) × (net k .transitions ≡ 0)
   net-free k p h =
-      let used = within 1 32 (net k .places) && within 0 32 (net k .transitions) in
+      let used = inRange 1 32 (net k .places) && inRange 0 32 (net k .transitions) in
       let t = rw (cond-from (m .nets) k used (eqb (net k .places) 0 && eqb (net k .transitions) 0) h) at (count-is m held k p) in
       let u = eqb-and (net k .places) 0 (eqb (net k .transitions) 0) t in
       (u .0, eqb-true (net k .transitions) 0 (u .1))

@@ -9,7 +9,7 @@ use lib.Dec.{leb}
 use borrow.Author.Tests.{le-leb}
 use lib.ListN.{length, take, drop, getD}
 use lib.Seq.{getD-take, getD-drop, length-take-le}
-use Rattle.text.specs.Lines.{within, every}
+use Rattle.text.specs.Lines.{inRange, every}
 use Rattle.text.proofs.TestLaws.{and-both, and-eqb, within-is, every-of, everyAt-of}
 use Rattle.eos.specs.Model as eos
 use Rattle.model.specs.Rules.{nth, byte, listOf, frameOf, monotonous, rightSides, keepsTypes, rightMove, ownNet, takesPart, rightNet, rightSync, rightEvent, rightModel}
@@ -43,7 +43,7 @@ sides-right size pre post a b small i h =
     and-both (listOf size byte (rowIn size pre i)) (listOf size byte (rowIn size post i)) (row-right 32 pre a i size h small) (row-right 32 post b i size h small)
 
 -- a net
-net-right : (n : ObjectNet) → SizedNet n → within 1 32 (n .places) ≡ true → within 0 32 (n .transitions) ≡ true → rightNet (netOf n) ≡ true
+net-right : (n : ObjectNet) → SizedNet n → inRange 1 32 (n .places) ≡ true → inRange 0 32 (n .transitions) ≡ true → rightNet (netOf n) ≡ true
 unfolding netOf
 net-right n s size few =
     let g = sidesIn (n .places) (n .pre) (n .post) in

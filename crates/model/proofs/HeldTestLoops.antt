@@ -11,7 +11,7 @@ use borrow.Author.Tests.{leb-true, ltb-true, ltb-false, eqb-true, eqb-false, lt-
 use lib.ListN.{length, take, drop, getD, set, replicate, getD-replicate, take-append-drop, length-drop, drop-of-length-le, List·getD-eq-default}
 use lib.Seq.{getD-set-same, getD-set-other, drop-cons, getD-drop, drop-drop, paste, paste-suc}
 use Rattle.eos.specs.Firing.{allBelow}
-use Rattle.text.specs.Lines.{within}
+use Rattle.text.specs.Lines.{inRange}
 use Rattle.text.proofs.Basics as T
 use Rattle.text.proofs.Basics.{by-test}
 use Rattle.model.specs.Rules.{nth, Frame, takesPart}
@@ -142,7 +142,7 @@ filled-end f l k h m z n =
 pub few-steps : (nets k places steps : ℕ) → sizesAre nets k places steps ≡ true → steps ≤ 32
 few-steps nets k places steps e =
     by-test (ltb k nets)
-    (λ h. let d = T.and-true (within 1 32 places) (within 0 32 steps) (rw h at e) in
+    (λ h. let d = T.and-true (inRange 1 32 places) (inRange 0 32 steps) (rw h at e) in
     let g = T.and-true (leb 0 steps) (leb steps 32) (d .1) in leb-true steps 32 (g .1))
     (λ h. let d = T.and-true (eqb places 0) (eqb steps 0) (rw h at e) in omega (arith, eqb-true steps 0 (d .1)))
 
@@ -165,7 +165,7 @@ module _ (f : Frame) (i : ℕ) where
   act-range zero e h m = absurd (false≢true e)
   act-range (suc zero) e h m = let d = T.and-true (leb 1 i) (leb i (f .moves)) e in omega (arith, leb-true 1 i (d .0), leb-true i (f .moves) (d .1))
   act-range (suc (suc zero)) e h m =
-      let d = T.and-true (within 1 (f .places) i) (leb 1 (f .type (pred i))) e in
+      let d = T.and-true (inRange 1 (f .places) i) (leb 1 (f .type (pred i))) e in
       let g = T.and-true (leb 1 i) (leb i (f .places)) (d .0) in
       omega (arith, leb-true 1 i (g .0), leb-true i (f .places) (g .1))
   act-range (suc (suc (suc k))) e h m = absurd (false≢true e)
@@ -190,9 +190,9 @@ parts-move (suc n) sync = parts-move n sync
 
 pub few-counts : (nets places moves listed : ℕ) → countsAre nets places moves listed ≡ true → (nets ≤ 8) × (places ≤ 32) × (moves ≤ 32)
 few-counts nets places moves listed e =
-    let a = T.and-true (within 0 8 nets) (within 1 32 places && (within 0 32 moves && within 0 64 listed)) e in
-    let b = T.and-true (within 1 32 places) (within 0 32 moves && within 0 64 listed) (a .1) in
-    let c = T.and-true (within 0 32 moves) (within 0 64 listed) (b .1) in (
+    let a = T.and-true (inRange 0 8 nets) (inRange 1 32 places && (inRange 0 32 moves && inRange 0 64 listed)) e in
+    let b = T.and-true (inRange 1 32 places) (inRange 0 32 moves && inRange 0 64 listed) (a .1) in
+    let c = T.and-true (inRange 0 32 moves) (inRange 0 64 listed) (b .1) in (
       leb-true nets 8 (T.and-true (leb 0 nets) (leb nets 8) (a .0) .1),
       leb-true places 32 (T.and-true (leb 1 places) (leb places 32) (b .0) .1),
       leb-true moves 32 (T.and-true (leb 0 moves) (leb moves 32) (c .0) .1),

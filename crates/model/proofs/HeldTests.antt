@@ -7,7 +7,7 @@ use native.Mathlib.Omega.{arith}
 use lib.Dec.{leb, ltb, eqb}
 use borrow.Author.Tests.{le-leb}
 use lib.ListN.{length}
-use Rattle.text.specs.Lines.{within}
+use Rattle.text.specs.Lines.{inRange}
 use Rattle.text.proofs.Basics.{and-true}
 use Rattle.text.proofs.TestLaws.{within-is}
 use Rattle.eos.specs.Model as eos
@@ -23,10 +23,10 @@ use Rattle.model.proofs.PaddedRows.{empty-padded}
 
 -- the parts of the test
 pub record Held (m : Model) : Type 0 where
-  pub nets-few : within 0 8 (m .nets) ≡ true
-  pub places-few : within 1 32 (m .places) ≡ true
-  pub moves-few : within 0 32 (m .moves) ≡ true
-  pub events-few : within 0 64 (m .listed) ≡ true
+  pub nets-few : inRange 0 8 (m .nets) ≡ true
+  pub places-few : inRange 1 32 (m .places) ≡ true
+  pub moves-few : inRange 0 32 (m .moves) ≡ true
+  pub events-few : inRange 0 64 (m .listed) ≡ true
   pub types : heldTypes m ≡ true
   pub moves : heldMoves m ≡ true
   pub nets : heldNets m ≡ true
@@ -37,9 +37,9 @@ pub held-is : (m : Model) → heldModel m ≡ true → Held m
 unfolding heldModel
 held-is m h =
     let t = and-true (countsAre (m .nets) (m .places) (m .moves) (m .listed)) _ h in
-    let a = and-true (within 0 8 (m .nets)) _ (t .0) in
-    let b = and-true (within 1 32 (m .places)) _ (a .1) in
-    let c = and-true (within 0 32 (m .moves)) (within 0 64 (m .listed)) (b .1) in
+    let a = and-true (inRange 0 8 (m .nets)) _ (t .0) in
+    let b = and-true (inRange 1 32 (m .places)) _ (a .1) in
+    let c = and-true (inRange 0 32 (m .moves)) (inRange 0 64 (m .listed)) (b .1) in
     let e = and-true (heldTypes m) _ (t .1) in
     let f = and-true (heldMoves m) _ (e .1) in
     let g = and-true (heldNets m) (heldEvents m) (f .1) in
@@ -163,7 +163,7 @@ in-event f e h = rw (h .act, h .past) (below-of (f .nets) (partTest f e) (h .par
 
 -- ---- an event's first part
 
-numbered : (n k : ℕ) → within 1 n (suc k) ≡ ltb k n
+numbered : (n k : ℕ) → inRange 1 n (suc k) ≡ ltb k n
 numbered n k = rw (le-leb 1 (suc k) (omega arith))
 
 module _ (f : Frame) where
@@ -183,7 +183,7 @@ module _ (f : Frame) where
   unfolding heldAct
   act-again zero i h = absurd (false≢true h)
   act-again (suc zero) i h = (refl, omega (arith, within-is 1 (f .moves) i h .0))
-  act-again (suc (suc zero)) i h = (refl, omega (arith, within-is 1 (f .places) i (and-true (within 1 (f .places) i) (leb 1 (f .type (pred i))) h .0) .0))
+  act-again (suc (suc zero)) i h = (refl, omega (arith, within-is 1 (f .places) i (and-true (inRange 1 (f .places) i) (leb 1 (f .type (pred i))) h .0) .0))
   act-again (suc (suc (suc k))) i h = absurd (false≢true h)
 
 -- who takes part is seen by whether all counts are 0

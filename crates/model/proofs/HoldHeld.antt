@@ -7,7 +7,7 @@ use native.Mathlib.Omega.{arith}
 use lib.Dec.{leb, eqb}
 use borrow.Author.Tests.{eq-eqb, le-leb}
 use lib.ListN.{length, getD, replicate, List·getD-eq-default}
-use Rattle.text.specs.Lines.{within}
+use Rattle.text.specs.Lines.{inRange}
 use Rattle.text.specs.Repeat.{fill}
 use Rattle.text.proofs.TestLaws.{and-both, within-is, every-at}
 use Rattle.eos.specs.Model as eos
@@ -104,8 +104,8 @@ module _ (d : eos.Model) (right : Right d) where
       → (countTest (length (d .nets)) k (holdNet n) && heldNet (holdNet n)) ≡ true
   unfolding holdNet
   net-pass k h n r =
-      let size = within 1 32 (n .size) in
-      let few = within 0 32 (length (n .transitions)) in
+      let size = inRange 1 32 (n .size) in
+      let few = inRange 0 32 (length (n .transitions)) in
       and-both (countTest (length (d .nets)) k (holdNet n)) (heldNet (holdNet n))
       (rw (cond-below (length (d .nets)) k (size && few) (eqb (n .size) 0 && eqb (length (n .transitions)) 0) h) (and-both size few (r .size) (r .few)))
       (net-passes n (within-is 1 32 (n .size) (r .size) .1) (within-is 0 32 (length (n .transitions)) (r .few) .1)
@@ -117,7 +117,7 @@ module _ (d : eos.Model) (right : Right d) where
       nets-of (holdModel d) λ k q.
       by-index (length (d .nets)) k
       (λ h. rw (net-at (d .nets) k nets h) (net-pass k h (getD (d .nets) k eos.noNet) (net-is _ (right-net d right k h))))
-      (λ h. rw (net-past (d .nets) k nets h, cond-from (length (d .nets)) k (within 1 32 0 && within 0 32 0) (eqb 0 0 && eqb 0 0) h) none-passes)
+      (λ h. rw (net-past (d .nets) k nets h, cond-from (length (d .nets)) k (inRange 1 32 0 && inRange 0 32 0) (eqb 0 0 && eqb 0 0) h) none-passes)
 
   event-pass : (e : eos.Event) → RightEvent (frameOf d) e → heldEvent (frameOf d) (holdEvent e) ≡ true
   unfolding holdEvent

@@ -7,7 +7,7 @@ use native.Mathlib.Nat.{zero-add}
 use lib.Dec.{leb}
 use borrow.Author.Tests.{leb-true}
 use lib.ListN.{length, getD}
-use Rattle.text.specs.Lines.{within, every}
+use Rattle.text.specs.Lines.{inRange, every}
 use Rattle.text.specs.Repeat.{everyAt}
 use Rattle.text.proofs.Basics.{and-true}
 use Rattle.text.proofs.TestLaws.{eqb-and, and-eqb, within-is, every-at, everyAt-at}
@@ -28,16 +28,16 @@ pub sides-long : (size : ℕ) (t : Transition) → rightSides size t ≡ true �
 sides-long size t h = let s = sides-are size t h in (list-is size byte (t .pre) (s .0) .0, list-is size byte (t .post) (s .1) .0)
 
 pub record RightNet (n : ObjectNet) : Type 0 where
-  pub size : within 1 32 (n .size) ≡ true
-  pub few : within 0 32 (length (n .transitions)) ≡ true
+  pub size : inRange 1 32 (n .size) ≡ true
+  pub few : inRange 0 32 (length (n .transitions)) ≡ true
   pub sides : every (rightSides (n .size)) (n .transitions) ≡ true
 
 -- an object net by its rules
 pub net-is : (n : ObjectNet) → rightNet n ≡ true → RightNet n
 unfolding rightNet
 net-is n h =
-    let p = and-true (within 1 32 (n .size)) _ h in
-    let q = and-true (within 0 32 (length (n .transitions))) _ (p .1) in
+    let p = and-true (inRange 1 32 (n .size)) _ h in
+    let q = and-true (inRange 0 32 (length (n .transitions))) _ (p .1) in
     record { size = p .0; few = q .0; sides = q .1 }
 
 -- and from them
@@ -92,26 +92,26 @@ unfolding rightEvent
 is-event f e r = rw (r .act) (and-eqb (length (e .sync)) (f .nets) _ (r .long) (r .sync))
 
 pub record Right (m : Model) : Type 0 where
-  pub nets-few : within 0 8 (length (m .nets)) ≡ true
-  pub places-few : within 1 32 (places m) ≡ true
+  pub nets-few : inRange 0 8 (length (m .nets)) ≡ true
+  pub places-few : inRange 1 32 (places m) ≡ true
   pub types : every (λ d. leb d (length (m .nets))) (m .types) ≡ true
-  pub moves-few : within 0 32 (length (m .moves)) ≡ true
+  pub moves-few : inRange 0 32 (length (m .moves)) ≡ true
   pub moves : every (rightMove (length (m .nets)) (m .types)) (m .moves) ≡ true
   pub nets : every rightNet (m .nets) ≡ true
-  pub events-few : within 0 64 (length (m .events)) ≡ true
+  pub events-few : inRange 0 64 (length (m .events)) ≡ true
   pub events : every (rightEvent (frameOf m)) (m .events) ≡ true
 
 -- a model by its rules
 pub right-is : (m : Model) → rightModel m ≡ true → Right m
 unfolding rightModel
 right-is m h =
-    let a = and-true (within 0 8 (length (m .nets))) _ h in
-    let b = and-true (within 1 32 (places m)) _ (a .1) in
+    let a = and-true (inRange 0 8 (length (m .nets))) _ h in
+    let b = and-true (inRange 1 32 (places m)) _ (a .1) in
     let c = and-true (every (λ d. leb d (length (m .nets))) (m .types)) _ (b .1) in
-    let d = and-true (within 0 32 (length (m .moves))) _ (c .1) in
+    let d = and-true (inRange 0 32 (length (m .moves))) _ (c .1) in
     let e = and-true (every (rightMove (length (m .nets)) (m .types)) (m .moves)) _ (d .1) in
     let f = and-true (every rightNet (m .nets)) _ (e .1) in
-    let g = and-true (within 0 64 (length (m .events))) _ (f .1) in
+    let g = and-true (inRange 0 64 (length (m .events))) _ (f .1) in
     record { nets-few = a .0; places-few = b .0; types = c .0; moves-few = d .0; moves = e .0; nets = f .0; events-few = g .0; events = g .1 }
 
 -- and from them

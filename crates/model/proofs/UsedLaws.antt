@@ -8,7 +8,7 @@ use borrow.Author.Tests.{eqb-true}
 use lib.ListN.{length, drop, getD, List·getD-eq-default}
 use lib.Seq.{getD-drop}
 use Rattle.text.proofs.Basics.{and-true}
-use Rattle.text.specs.Lines.{within}
+use Rattle.text.specs.Lines.{inRange}
 use Rattle.model.specs.declared.ObjectNet.{ObjectNet}
 use Rattle.model.specs.declared.Event.{Event}
 use Rattle.model.specs.declared.Model.{Model}
@@ -46,10 +46,10 @@ module _ (m : Model) (held : Held m) where
   count-is k h = and-true (countTest (m .nets) k (net k)) (heldNet (net k)) (nets-at m (held .nets) k h) .0
 
   -- the counts of a net that is used
-  pub net-used : (k : ℕ) → k < m .nets → (within 1 32 (net k .places) ≡ true) × (within 0 32 (net k .transitions) ≡ true)
+  pub net-used : (k : ℕ) → k < m .nets → (inRange 1 32 (net k .places) ≡ true) × (inRange 0 32 (net k .transitions) ≡ true)
   net-used k h =
-      let size = within 1 32 (net k .places) in
-      let few = within 0 32 (net k .transitions) in
+      let size = inRange 1 32 (net k .places) in
+      let few = inRange 0 32 (net k .transitions) in
       let t = rw (cond-below (m .nets) k (size && few) (eqb (net k .places) 0 && eqb (net k .transitions) 0) h) at (count-is k (omega (arith, most-nets m held))) in
       and-true size few t
 

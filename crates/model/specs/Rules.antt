@@ -4,7 +4,7 @@ use mathlib.Core.Bool.{Bool, true, false, _&&_, _||_, not, Bool·beq}
 use mathlib.Core.List.{List}
 use lib.Dec.{leb, ltb, eqb}
 use lib.ListN.{length, getD}
-use Rattle.text.specs.Lines.{within, every}
+use Rattle.text.specs.Lines.{inRange, every}
 use Rattle.text.specs.Repeat.{everyAt}
 use Rattle.eos.specs.Model.{Transition, ObjectNet, Act, move, idle, Event, Model, places, net, typeOf}
 use Rattle.eos.specs.Firing.{allBelow}
@@ -64,7 +64,7 @@ unfoldable pub rightMove : ℕ → List ℕ → Transition → Bool
 rightMove nets types t = rightSides (length types) t && keepsTypes nets types t
 
 unfoldable pub rightNet : ObjectNet → Bool
-rightNet n = within 1 32 (n .size) && (within 0 32 (length (n .transitions)) && every (rightSides (n .size)) (n .transitions))
+rightNet n = inRange 1 32 (n .size) && (inRange 0 32 (length (n .transitions)) && every (rightSides (n .size)) (n .transitions))
 
 -- the net that an event idles in, from 1; 0 for a move
 abbrev pub ownNet : Frame → Act → ℕ
@@ -89,7 +89,7 @@ rightEvent f e = rightAct f (e .act) && (eqb (length (e .sync)) (f .nets) && eve
 
 unfoldable pub rightModel : Model → Bool
 rightModel m =
-    within 0 8 (length (m .nets)) && (within 1 32 (places m) && (every (λ d. leb d (length (m .nets))) (m .types)
-    && (within 0 32 (length (m .moves)) && (every (rightMove (length (m .nets)) (m .types)) (m .moves)
+    inRange 0 8 (length (m .nets)) && (inRange 1 32 (places m) && (every (λ d. leb d (length (m .nets))) (m .types)
+    && (inRange 0 32 (length (m .moves)) && (every (rightMove (length (m .nets)) (m .types)) (m .moves)
     && (every rightNet (m .nets)
-    && (within 0 64 (length (m .events)) && every (rightEvent (frameOf m)) (m .events)))))))
+    && (inRange 0 64 (length (m .events)) && every (rightEvent (frameOf m)) (m .events)))))))

@@ -5,7 +5,7 @@ use mathlib.Core.Bool.{Bool, false, cond, _&&_}
 use mathlib.Core.List.{List}
 use lib.Dec.{leb, eqb, ltb}
 use lib.ListN.{drop, getD}
-use Rattle.text.specs.Lines.{within, every}
+use Rattle.text.specs.Lines.{inRange, every}
 use Rattle.eos.specs.Firing.{allBelow}
 use Rattle.model.specs.Rules.{nth, Frame, monotonous, takesPart}
 use Rattle.model.specs.Held.{noNet, noEvent, rowIn}
@@ -37,7 +37,7 @@ usedOf n width i = cond (ltb i n) width 0
 -- ---- places and moves
 
 abbrev pub countsAre : ℕ → ℕ → ℕ → ℕ → Bool
-countsAre nets places moves listed = within 0 8 nets && (within 1 32 places && (within 0 32 moves && within 0 64 listed))
+countsAre nets places moves listed = inRange 0 8 nets && (inRange 1 32 places && (inRange 0 32 moves && inRange 0 64 listed))
 
 abbrev pub typeAt : ℕ → ℕ → List ℕ → ℕ → Bool
 typeAt nets places types p = cond (ltb p places) (leb (nth types p) nets) (eqb (nth types p) 0)
@@ -62,7 +62,7 @@ heldNet n =
 
 -- a net that is used has its counts in range; of one that is not they are 0
 abbrev pub sizesAre : ℕ → ℕ → ℕ → ℕ → Bool
-sizesAre nets k places transitions = cond (ltb k nets) (within 1 32 places && within 0 32 transitions) (eqb places 0 && eqb transitions 0)
+sizesAre nets k places transitions = cond (ltb k nets) (inRange 1 32 places && inRange 0 32 transitions) (eqb places 0 && eqb transitions 0)
 
 abbrev pub netIs : ℕ → ℕ → ObjectNet → Bool
 netIs nets k n = sizesAre nets k (n .places) (n .transitions) && heldNet n
@@ -92,8 +92,8 @@ framed places moves nets types steps = record { places = places; moves = moves; 
 -- the kind is 1 or 2, the index a move's or a typed place's
 unfoldable pub heldAct : Frame → ℕ → ℕ → Bool
 heldAct f zero i = false
-heldAct f (suc zero) i = within 1 (f .moves) i
-heldAct f (suc (suc zero)) i = within 1 (f .places) i && leb 1 (f .type (pred i))
+heldAct f (suc zero) i = inRange 1 (f .moves) i
+heldAct f (suc (suc zero)) i = inRange 1 (f .places) i && leb 1 (f .type (pred i))
 heldAct f (suc (suc (suc k))) i = false
 
 -- the net that an event idles in, from 1; 0 for a move

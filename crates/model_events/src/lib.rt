@@ -6,7 +6,7 @@ ghost use Rattle.text.specs.Repeat.{manyAt};
 ghost use Rattle.model.specs.Held.{noEvent};
 ghost use Rattle.model.specs.Test.{ownIn};
 ghost use Rattle.model_text.specs.Reading.{readIdle, readMove, readAct, readSync, readEvent};
-ghost use Rattle.model_text.specs.Answers.{framed, Fitting, actingOf, countsOf, syncsOf, eventLinesOf, eventsOf};
+ghost use Rattle.model_text.specs.Answers.{asFrame, Fitting, actingOf, countsOf, syncsOf, eventLinesOf, eventsOf};
 use model::Event;
 use model::Model;
 use model_nets::narrow;
@@ -28,7 +28,7 @@ use text_scan::starts;
 // The line of an event that idles at a place, which is no place of black tokens.
 fn idle_at(s: &[u8], at: usize, f: Frame) -> Acting
     requires { ⌜ Fitting f ⌝ }
-    ensures { λ r. ⌜ r ≡ actingOf (readIdle (framed f) (now (s .entry)) at) ⌝ }
+    ensures { λ r. ⌜ r ≡ actingOf (readIdle (asFrame f) (now (s .entry)) at) ⌝ }
 {
     let a = number_line(s, at, b"idle=", 1, f.places as u16);
     match a {
@@ -52,7 +52,7 @@ fn idle_at(s: &[u8], at: usize, f: Frame) -> Acting
 // The line of an event that is a move.
 fn move_at(s: &[u8], at: usize, f: Frame) -> Acting
     requires { ⌜ Fitting f ⌝ }
-    ensures { λ r. ⌜ r ≡ actingOf (readMove (framed f) (now (s .entry)) at) ⌝ }
+    ensures { λ r. ⌜ r ≡ actingOf (readMove (asFrame f) (now (s .entry)) at) ⌝ }
 {
     let a = number_line(s, at, b"event=", 1, f.moves as u16);
     match a {
@@ -68,7 +68,7 @@ fn move_at(s: &[u8], at: usize, f: Frame) -> Acting
 // The first line of an event.
 fn act_at(s: &[u8], at: usize, f: Frame) -> Acting
     requires { ⌜ Fitting f ⌝ }
-    ensures { λ r. ⌜ r ≡ actingOf (readAct (framed f) (now (s .entry)) at) ⌝ }
+    ensures { λ r. ⌜ r ≡ actingOf (readAct (asFrame f) (now (s .entry)) at) ⌝ }
 {
     if starts(s, at, b"idle=") {
         return idle_at(s, at, f);
@@ -81,7 +81,7 @@ fn act_at(s: &[u8], at: usize, f: Frame) -> Acting
 fn sync_at(s: &[u8], at: usize, f: Frame, own: u8, n: usize) -> Counts
     requires { ⌜ Fitting f ⌝ }
     requires { ⌜ n < f .nets ⌝ }
-    ensures { λ r. ⌜ r ≡ countsOf (readSync (framed f) own (now (s .entry)) n at) ⌝ }
+    ensures { λ r. ⌜ r ≡ countsOf (readSync (asFrame f) own (now (s .entry)) n at) ⌝ }
 {
     let steps = f.steps;
     let a = list_line(s, at, b"sync=", steps[n] as usize, Model::ARC);
@@ -111,7 +111,7 @@ fn sync_at(s: &[u8], at: usize, f: Frame, own: u8, n: usize) -> Counts
 // A line of counts for each net.
 fn syncs_at(s: &[u8], from: usize, f: Frame, own: u8) -> Syncs
     requires { ⌜ Fitting f ⌝ }
-    ensures { λ r. ⌜ r ≡ syncsOf (manyAt (readSync (framed f) own (now (s .entry))) 0 (f .nets) from) ⌝ }
+    ensures { λ r. ⌜ r ≡ syncsOf (manyAt (readSync (asFrame f) own (now (s .entry))) 0 (f .nets) from) ⌝ }
 {
     let nets = f.nets;
     let mut sync = [0u8; 256];
@@ -140,7 +140,7 @@ fn syncs_at(s: &[u8], from: usize, f: Frame, own: u8) -> Syncs
 // The net in which an event idles, from 1; 0 for a move.
 fn own_net(kind: u8, index: u8, f: Frame) -> u8
     requires { ⌜ (1 ≤ index) × (index ≤ 32) ⌝ }
-    ensures { λ r. ⌜ r ≡ ownIn (framed f) kind index ⌝ }
+    ensures { λ r. ⌜ r ≡ ownIn (asFrame f) kind index ⌝ }
 {
     if kind < 2 {
         return 0;
@@ -160,7 +160,7 @@ fn no_event(ended: Ended) -> EventLines
 // The lines of an event.
 fn event_at(s: &[u8], at: usize, f: Frame) -> EventLines
     requires { ⌜ Fitting f ⌝ }
-    ensures { λ r. ⌜ r ≡ eventLinesOf (readEvent (framed f) (now (s .entry)) at) ⌝ }
+    ensures { λ r. ⌜ r ≡ eventLinesOf (readEvent (asFrame f) (now (s .entry)) at) ⌝ }
 {
     let a = act_at(s, at, f);
     match a {
@@ -186,7 +186,7 @@ fn event_at(s: &[u8], at: usize, f: Frame) -> EventLines
 pub fn events_at(s: &[u8], from: usize, f: Frame, n: usize) -> Events
     requires { ⌜ Fitting f ⌝ }
     requires { ⌜ n ≤ 64 ⌝ }
-    ensures { λ r. ⌜ r ≡ eventsOf (many (readEvent (framed f) (now (s .entry))) n from) ⌝ }
+    ensures { λ r. ⌜ r ≡ eventsOf (many (readEvent (asFrame f) (now (s .entry))) n from) ⌝ }
 {
     let none = Event::empty();
     let mut events = [none; 64];

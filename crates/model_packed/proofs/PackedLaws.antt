@@ -9,7 +9,7 @@ use lib.ListN.{length, take, drop, getD}
 use borrow.Author.Tests.{eqb-true}
 use lib.Seq.{take-at, drop-at, drop-drop, drop-append-add}
 use Rattle.text.proofs.Basics.{and-true, by-test}
-use Rattle.text.specs.Lines.{within}
+use Rattle.text.specs.Lines.{inRange}
 use Rattle.text.proofs.TestLaws.{within-is}
 use Rattle.model.specs.Held.{SizedModel, SizedNet, listed, noNet, noEvent}
 use Rattle.model.specs.Test.{sizesAre}
@@ -31,7 +31,7 @@ as-byte n h = omega arith
 few-inner : (nets k places steps : ℕ) → sizesAre nets k places steps ≡ true → places ≤ 32
 few-inner nets k places steps e =
     by-test (ltb k nets)
-    (λ h. within-is 1 32 places (and-true (within 1 32 places) (within 0 32 steps) (rw h at e) .0) .1)
+    (λ h. within-is 1 32 places (and-true (inRange 1 32 places) (inRange 0 32 steps) (rw h at e) .0) .1)
     (λ h. omega (arith, eqb-true places 0 (and-true (eqb places 0) (eqb steps 0) (rw h at e) .0)))
 
 -- ---- things one after the other, each in `w` numbers

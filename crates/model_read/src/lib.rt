@@ -6,7 +6,7 @@ ghost use Rattle.model.specs.Rules.{nth, monotonous};
 ghost use Rattle.model.specs.Held.{noNet, noEvent, noModel};
 ghost use Rattle.model_text.specs.Reading.{readPlant};
 ghost use Rattle.model_text.specs.Parts.{readOutline, readSystem, readListed};
-ghost use Rattle.model_text.specs.Answers.{framed, frameIn, joined, Fitting, outlineOf, systemOf, listedOf, readingOf};
+ghost use Rattle.model_text.specs.Answers.{asFrame, frameFrom, joined, Fitting, outlineOf, systemOf, listedOf, readingOf};
 use model::Event;
 use model::Model;
 use model::ObjectNet;
@@ -130,7 +130,7 @@ fn no_events(ended: Ended) -> Listed
 // The lines from `events` to the last event.
 fn listed_at(s: &[u8], at: usize, f: Frame) -> Listed
     requires { ⌜ Fitting f ⌝ }
-    ensures { λ r. ⌜ r ≡ listedOf (readListed (framed f) (now (s .entry)) at) ⌝ }
+    ensures { λ r. ⌜ r ≡ listedOf (readListed (asFrame f) (now (s .entry)) at) ⌝ }
 {
     let a = number_line(s, at, b"events=", 0, Model::EVENTS);
     let Line::Value { value: n, next: x1 } = a else {
@@ -151,7 +151,7 @@ fn listed_at(s: &[u8], at: usize, f: Frame) -> Listed
 
 // What the events depend on.
 fn frame_of(a: Outline, b: System) -> Frame
-    ensures { λ r. ⌜ r ≡ frameIn a b ⌝ }
+    ensures { λ r. ⌜ r ≡ frameFrom a b ⌝ }
 {
     let types = a.types;
     let objects = b.objects;

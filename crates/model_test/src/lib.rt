@@ -5,7 +5,7 @@ ghost use mathlib.Core.Bool.{_&&_, cond};
 ghost use Prim.Native.Nat.{ℕ, _*_, _+_, _≤_};
 ghost use lib.Dec.{eqb, leb, ltb};
 ghost use lib.ListN.{length, drop, getD};
-ghost use Rattle.text.specs.Lines.{within};
+ghost use Rattle.text.specs.Lines.{inRange};
 ghost use Rattle.eos.specs.Firing.{allBelow};
 ghost use Rattle.model.specs.Rules.{nth};
 ghost use Rattle.model.specs.Held.{noNet, rowIn};
@@ -134,7 +134,7 @@ fn moves_held<'a>(
 }
 
 fn in_range(lo: usize, hi: usize, v: usize) -> bool
-    ensures { λ r. ⌜ r ≡ within lo hi v ⌝ }
+    ensures { λ r. ⌜ r ≡ inRange lo hi v ⌝ }
 {
     (lo <= v) & (v <= hi)
 }

@@ -10,7 +10,7 @@ use borrow.Author.Tests.{le-leb}
 use lib.ListN.{drop, replicate}
 use Rattle.text.specs.Bytes.{Text, bytes, starts}
 use Rattle.text.proofs.Basics.{by-test}
-use Rattle.text.specs.Lines.{Outcome, got, bad, fault, then, need, within, readNumber, readList}
+use Rattle.text.specs.Lines.{Outcome, got, bad, fault, then, need, inRange, readNumber, readList}
 use Rattle.text.specs.Answers.{lineOf, endedOf, keptOr, padded, rowOf}
 use Rattle.text.specs.declared.Fault.{Fault}
 use Rattle.text.specs.declared.Line.the-variants as line
@@ -32,15 +32,15 @@ use Rattle.model_text.proofs.LineAnswers.{number-in, value-in, row-bad,
 -- ---- the first line
 
 module _ (f : Frame) (s : Text) (at : ℕ) where
-  pub idle-refused : (d : Fault) → line.Refused d ≡ lineOf (readNumber (bytes "idle=") (within 1 (f .places)) s at) → Refused d ≡ actingOf (readIdle f s at)
+  pub idle-refused : (d : Fault) → line.Refused d ≡ lineOf (readNumber (bytes "idle=") (inRange 1 (f .places)) s at) → Refused d ≡ actingOf (readIdle f s at)
   unfolding readIdle then actingOf
   idle-refused d e = rw (line-bad _ d e)
 
-  pub move-refused : (d : Fault) → line.Refused d ≡ lineOf (readNumber (bytes "event=") (within 1 (f .moves)) s at) → Refused d ≡ actingOf (readMove f s at)
+  pub move-refused : (d : Fault) → line.Refused d ≡ lineOf (readNumber (bytes "event=") (inRange 1 (f .moves)) s at) → Refused d ≡ actingOf (readMove f s at)
   unfolding readMove then actingOf
   move-refused d e = rw (line-bad _ d e)
 
-  module _ (p x : ℕ) (e : line.Value p x ≡ lineOf (readNumber (bytes "idle=") (within 1 (f .places)) s at)) where
+  module _ (p x : ℕ) (e : line.Value p x ≡ lineOf (readNumber (bytes "idle=") (inRange 1 (f .places)) s at)) where
     pub idle-black : f .type (p - 1) ≡ 0 → Refused (fault 5 at) ≡ actingOf (readIdle f s at)
     unfolding readIdle then need actingOf
     idle-black h = rw (line-got _ p x e, ← sub-one p, h)
@@ -51,7 +51,7 @@ module _ (f : Frame) (s : Text) (at : ℕ) where
         let k : p ≡ suc (p - 1) = omega (arith, value-in (bytes "idle=") 1 (f .places) s at p x e .0) in
         rw (line-got _ p x e, ← sub-one p, le-leb 1 (f .type (p - 1)) (omega (arith, h))) (ap (λ (i : ℕ). Acts 2 i x) k)
 
-  module _ (k x : ℕ) (e : line.Value k x ≡ lineOf (readNumber (bytes "event=") (within 1 (f .moves)) s at)) where
+  module _ (k x : ℕ) (e : line.Value k x ≡ lineOf (readNumber (bytes "event=") (inRange 1 (f .moves)) s at)) where
     pub move-read : Acts 1 k x ≡ actingOf (readMove f s at)
     unfolding readMove then actingOf
     move-read =
@@ -71,7 +71,7 @@ module _ (f : Frame) (places : f .places ≤ 32) (moves : f .moves ≤ 32) (s : 
   idle-few : readIdle f s at ≡ got a next → indexOf a ≤ 32
   unfolding readIdle
   idle-few e =
-      let p = then-got (readNumber (bytes "idle=") (within 1 (f .places)) s at) _ a next e in
+      let p = then-got (readNumber (bytes "idle=") (inRange 1 (f .places)) s at) _ a next e in
       let q = need-got (leb 1 (f .type (pred (p .value)))) 5 at (got (idle (pred (p .value))) (p .next)) a next (p .rest) in
       let k = got-is (q .1) in
       let n = number-in (bytes "idle=") 1 (f .places) s at (p .value) (p .next) (p .first) in
@@ -80,7 +80,7 @@ module _ (f : Frame) (places : f .places ≤ 32) (moves : f .moves ≤ 32) (s : 
   move-few : readMove f s at ≡ got a next → indexOf a ≤ 32
   unfolding readMove
   move-few e =
-      let p = then-got (readNumber (bytes "event=") (within 1 (f .moves)) s at) _ a next e in
+      let p = then-got (readNumber (bytes "event=") (inRange 1 (f .moves)) s at) _ a next e in
       let k = got-is (p .rest) in
       let n = number-in (bytes "event=") 1 (f .moves) s at (p .value) (p .next) (p .first) in
       rw (← k .0) (omega (arith, n .0, n .1, sub-one (p .value)))

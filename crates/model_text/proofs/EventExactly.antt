@@ -8,7 +8,7 @@ use borrow.Author.Tests.{ltb-true}
 use lib.ListN.{length, drop}
 use Rattle.text.specs.Bytes.{Text, bytes, starts}
 use Rattle.text.proofs.Basics.{by-test, and-true}
-use Rattle.text.specs.Lines.{got, need, within}
+use Rattle.text.specs.Lines.{got, need, inRange}
 use Rattle.text.specs.Printed.{numberText, listText}
 use Rattle.text.proofs.TestLaws.{and-both, within-is, is-within}
 use Rattle.text.proofs.Standing.{Stands}
@@ -26,7 +26,7 @@ suc-pred : (n : ℕ) → 1 ≤ n → suc (pred n) ≡ n
 suc-pred n h = omega arith
 
 -- the number, from 1, of an index below n
-numbered : (n k : ℕ) → ltb k n ≡ true → within 1 n (suc k) ≡ true
+numbered : (n k : ℕ) → ltb k n ≡ true → inRange 1 n (suc k) ≡ true
 numbered n k h = is-within 1 n (suc k) (omega arith) (ltb-true k n h)
 
 idle≢move : {p k : ℕ} → idle p ≡ move k → ⊥
@@ -34,17 +34,17 @@ idle≢move e = let z : _≡_ {A = ℕ} 0 1 = cc in omega arith
 
 module _ (f : Frame) (s : Text) where
   idle-makes : Makes s (readIdle f s) (λ a. numberText (bytes "idle=") (indexOf a))
-      (λ a. (within 1 (f .places) (indexOf a) ≡ true) × (leb 1 (f .type (pred (indexOf a))) ≡ true) × (idle (pred (indexOf a)) ≡ a))
+      (λ a. (inRange 1 (f .places) (indexOf a) ≡ true) × (leb 1 (f .type (pred (indexOf a))) ≡ true) × (idle (pred (indexOf a)) ≡ a))
   unfolding readIdle
   idle-makes =
-      last-makes (number-exactly (bytes "idle=") (within 1 (f .places)) s) (λ p. leb 1 (f .type (pred p))) 5 (λ p. idle (pred p)) indexOf
+      last-makes (number-exactly (bytes "idle=") (inRange 1 (f .places)) s) (λ p. leb 1 (f .type (pred p))) 5 (λ p. idle (pred p)) indexOf
       (λ p h. suc-pred p (within-is 1 (f .places) p h .0))
 
   move-makes : Makes s (readMove f s) (λ a. numberText (bytes "event=") (indexOf a))
-      (λ a. (within 1 (f .moves) (indexOf a) ≡ true) × (true ≡ true) × (move (pred (indexOf a)) ≡ a))
+      (λ a. (inRange 1 (f .moves) (indexOf a) ≡ true) × (true ≡ true) × (move (pred (indexOf a)) ≡ a))
   unfolding readMove need
   move-makes =
-      last-makes (number-exactly (bytes "event=") (within 1 (f .moves)) s) (λ k. true) 0 (λ k. move (pred k)) indexOf
+      last-makes (number-exactly (bytes "event=") (inRange 1 (f .moves)) s) (λ k. true) 0 (λ k. move (pred k)) indexOf
       (λ k h. suc-pred k (within-is 1 (f .moves) k h .0))
 
   idle-back : (at : ℕ) (a : Act) (next : ℕ) → readIdle f s at ≡ got a next → Accepts s at (actText a) next (rightAct f a)

@@ -9,7 +9,7 @@ use borrow.Author.Tests.{eqb-true, leb-true, le-leb}
 use lib.ListN.{length}
 use Rattle.text.specs.Bytes.{Text}
 use Rattle.text.proofs.Basics.{and-true}
-use Rattle.text.specs.Lines.{Outcome, got, bad, within, every, many, readNumber, readList}
+use Rattle.text.specs.Lines.{Outcome, got, bad, inRange, every, many, readNumber, readList}
 use Rattle.text.specs.Repeat.{fill, filled}
 use Rattle.text.specs.Answers.{lineOf, endedOf, keptOr, padded, rowOf}
 use Rattle.text.specs.declared.Fault.{Fault}
@@ -25,12 +25,12 @@ use Rattle.text.proofs.PaddedLaws.{narrow-padded}
 -- ---- a line of one number
 
 -- an accepted number is in its range
-pub number-in : (key : Text) (lo hi : ℕ) (s : Text) (at v next : ℕ) → readNumber key (within lo hi) s at ≡ got v next → (lo ≤ v) × (v ≤ hi)
+pub number-in : (key : Text) (lo hi : ℕ) (s : Text) (at v next : ℕ) → readNumber key (inRange lo hi) s at ≡ got v next → (lo ≤ v) × (v ≤ hi)
 number-in key lo hi s at v next e =
-    let p = and-true (leb lo v) (leb v hi) (number-exactly key (within lo hi) s .back at v next e .fine-is) in
+    let p = and-true (leb lo v) (leb v hi) (number-exactly key (inRange lo hi) s .back at v next e .fine-is) in
     (leb-true lo v (p .0), leb-true v hi (p .1))
 
-pub value-in : (key : Text) (lo hi : ℕ) (s : Text) (at v next : ℕ) → Value v next ≡ lineOf (readNumber key (within lo hi) s at) → (lo ≤ v) × (v ≤ hi)
+pub value-in : (key : Text) (lo hi : ℕ) (s : Text) (at v next : ℕ) → Value v next ≡ lineOf (readNumber key (inRange lo hi) s at) → (lo ≤ v) × (v ≤ hi)
 value-in key lo hi s at v next e = number-in key lo hi s at v next (line-got _ v next e)
 
 -- ---- a line of several numbers

@@ -7,7 +7,7 @@ use lib.Dec.{eqb}
 use lib.ListN.{length}
 use Rattle.text.specs.Bytes.{Text, bytes}
 use Rattle.text.proofs.Basics.{and-true}
-use Rattle.text.specs.Lines.{need, many, within, every}
+use Rattle.text.specs.Lines.{need, many, inRange, every}
 use Rattle.text.specs.Printed.{texts}
 use Rattle.text.proofs.TestLaws.{eqb-and, and-eqb}
 use Rattle.text.proofs.Exactly.{Exactly, many-exactly}
@@ -44,13 +44,13 @@ steps-exactly size n s =
 pub net-exactly : (s : Text) → Exactly s (readNet s) netText rightNet
 unfolding readNet netText rightNet need
 net-exactly s =
-    exactly-by (first-makes (number-exactly (bytes "inner=") (within 1 32) s)
-    (λ size. first-makes (number-exactly (bytes "steps=") (within 0 32) s)
+    exactly-by (first-makes (number-exactly (bytes "inner=") (inRange 1 32) s)
+    (λ size. first-makes (number-exactly (bytes "steps=") (inRange 0 32) s)
     (λ k. last-makes (steps-exactly size k s) (λ ts. true) 0 (λ ts. record { size = size; transitions = ts }) (λ n. n .transitions) (λ ts h. refl))
     (λ n. length (n .transitions)) (λ k n h r. sym (eqb-and (length (n .transitions)) k _ (r .0) .0)))
     (λ n. n .size) (λ size n h r. ap (λ (n : ObjectNet). n .size) (r .1 .2)))
     (λ n h. rw (h .0, h .1 .0) (eqb-and (length (n .transitions)) (length (n .transitions)) _ (h .1 .1 .0) .1))
     (λ n h.
-    let p = and-true (within 1 32 (n .size)) _ h in
-    let q = and-true (within 0 32 (length (n .transitions))) _ (p .1) in
+    let p = and-true (inRange 1 32 (n .size)) _ h in
+    let q = and-true (inRange 0 32 (length (n .transitions))) _ (p .1) in
     (p .0, (q .0, (and-eqb (length (n .transitions)) (length (n .transitions)) _ refl (q .1), refl, refl))))

@@ -8,7 +8,7 @@ use borrow.Author.Tests.{le-leb}
 use native.Mathlib.Omega.{arith}
 use lib.ListN.{length, set, replicate}
 use Rattle.text.specs.Bytes.{Text, bytes}
-use Rattle.text.specs.Lines.{Outcome, got, bad, then, many, within, readNumber}
+use Rattle.text.specs.Lines.{Outcome, got, bad, then, many, inRange, readNumber}
 use Rattle.text.specs.Repeat.{filled}
 use Rattle.text.specs.Answers.{lineOf, endedOf, keptOr, endedIn}
 use Rattle.text.specs.declared.Fault.{Fault}
@@ -37,16 +37,16 @@ unfolding monotonous
 untyped n type = refl
 
 module _ (s : Text) (at : ℕ) where
-  inner-bad : (d : Fault) → readNumber (bytes "inner=") (within 1 32) s at ≡ bad d → readNet s at ≡ bad d
+  inner-bad : (d : Fault) → readNumber (bytes "inner=") (inRange 1 32) s at ≡ bad d → readNet s at ≡ bad d
   unfolding readNet then
   inner-bad d a = rw a
 
-  module _ (size x₁ : ℕ) (first : readNumber (bytes "inner=") (within 1 32) s at ≡ got size x₁) where
-    steps-bad : (d : Fault) → readNumber (bytes "steps=") (within 0 32) s x₁ ≡ bad d → readNet s at ≡ bad d
+  module _ (size x₁ : ℕ) (first : readNumber (bytes "inner=") (inRange 1 32) s at ≡ got size x₁) where
+    steps-bad : (d : Fault) → readNumber (bytes "steps=") (inRange 0 32) s x₁ ≡ bad d → readNet s at ≡ bad d
     unfolding readNet then
     steps-bad d b = rw (first, b)
 
-    module _ (n x₂ : ℕ) (second : readNumber (bytes "steps=") (within 0 32) s x₁ ≡ got n x₂) where
+    module _ (n x₂ : ℕ) (second : readNumber (bytes "steps=") (inRange 0 32) s x₁ ≡ got n x₂) where
       sides-bad : (d : Fault) → many (readSides size (λ t. true) s) n x₂ ≡ bad d → readNet s at ≡ bad d
       unfolding readNet then
       sides-bad d c = rw (first, second, c)
@@ -67,16 +67,16 @@ unfolding netLinesOf holdNet endedOf keptOr
 net-held o size l next n a b k p q r = rw (k, p, q, r)
 
 module _ (s : Text) (at : ℕ) where
-  pub inner-refused : (a : Line) (d : Fault) → a ≡ Refused d → a ≡ lineOf (readNumber (bytes "inner=") (within 1 32) s at)
+  pub inner-refused : (a : Line) (d : Fault) → a ≡ Refused d → a ≡ lineOf (readNumber (bytes "inner=") (inRange 1 32) s at)
       → record { ended = endedIn a; net = noNet } ≡ netLinesOf (readNet s at)
   inner-refused a d h k = net-refused _ _ d (ap endedIn h) (inner-bad s at d (line-bad _ d (sym h ∙ k)))
 
-  module _ (size x₁ : ℕ) (first : Value size x₁ ≡ lineOf (readNumber (bytes "inner=") (within 1 32) s at)) where
-    pub steps-refused : (a : Line) (d : Fault) → a ≡ Refused d → a ≡ lineOf (readNumber (bytes "steps=") (within 0 32) s x₁)
+  module _ (size x₁ : ℕ) (first : Value size x₁ ≡ lineOf (readNumber (bytes "inner=") (inRange 1 32) s at)) where
+    pub steps-refused : (a : Line) (d : Fault) → a ≡ Refused d → a ≡ lineOf (readNumber (bytes "steps=") (inRange 0 32) s x₁)
         → record { ended = endedIn a; net = noNet } ≡ netLinesOf (readNet s at)
     steps-refused a d h k = net-refused _ _ d (ap endedIn h) (steps-bad s at size x₁ (line-got _ size x₁ first) d (line-bad _ d (sym h ∙ k)))
 
-    module _ (n x₂ : ℕ) (second : Value n x₂ ≡ lineOf (readNumber (bytes "steps=") (within 0 32) s x₁)) (type : ℕ → ℕ)
+    module _ (n x₂ : ℕ) (second : Value n x₂ ≡ lineOf (readNumber (bytes "steps=") (inRange 0 32) s x₁)) (type : ℕ → ℕ)
         (r : Tables) (third : r ≡ tablesOf (many (readSides size (λ t. monotonous 0 size type (nth (t .pre)) (nth (t .post))) s) n x₂)) where
       third-is : r ≡ tablesOf (many (readSides size (λ t. true) s) n x₂)
       third-is = third ∙ rw (untyped size type)
@@ -98,8 +98,8 @@ module _ (s : Text) (at : ℕ) where
 pub net-few : (s : Text) (at : ℕ) (m : ObjectNet) (next : ℕ) → readNet s at ≡ got m next → leb (length (m .transitions)) 32 ≡ true
 unfolding readNet
 net-few s at m next e =
-    let a = then-got (readNumber (bytes "inner=") (within 1 32) s at) _ m next e in
-    let b = then-got (readNumber (bytes "steps=") (within 0 32) s (a .next)) _ m next (a .rest) in
+    let a = then-got (readNumber (bytes "inner=") (inRange 1 32) s at) _ m next e in
+    let b = then-got (readNumber (bytes "steps=") (inRange 0 32) s (a .next)) _ m next (a .rest) in
     let c = then-got (many (readSides (a .value) (λ t. true) s) (b .value) (b .next)) _ m next (b .rest) in
     let k = got-is (c .rest) in
     let n = number-in (bytes "steps=") 0 32 s (a .next) (b .value) (b .next) (b .first) in

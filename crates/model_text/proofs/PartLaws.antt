@@ -7,7 +7,7 @@ use native.Mathlib.Omega.{arith}
 use lib.Dec.{leb}
 use lib.ListN.{length, replicate}
 use Rattle.text.specs.Bytes.{Text, bytes}
-use Rattle.text.specs.Lines.{Outcome, got, bad, then, many, within, every, readNumber, readList, readHead}
+use Rattle.text.specs.Lines.{Outcome, got, bad, then, many, inRange, every, readNumber, readList, readHead}
 use Rattle.text.specs.Answers.{lineOf, endedOf, keptOr, padded, rowOf, endedIn}
 use Rattle.text.specs.declared.Fault.{Fault}
 use Rattle.text.specs.declared.Line.{Line}
@@ -52,18 +52,18 @@ module _ (s : Text) (at : ℕ) where
   eos-refused a d h k = rw (h, line-bad _ d (sym h ∙ k))
 
   module _ (v x₁ : ℕ) (first : Value v x₁ ≡ lineOf (readHead (bytes "eos=") s at)) where
-    pub nets-refused : (a : Line) (d : Fault) → a ≡ Refused d → a ≡ lineOf (readNumber (bytes "nets=") (within 0 8) s x₁)
+    pub nets-refused : (a : Line) (d : Fault) → a ≡ Refused d → a ≡ lineOf (readNumber (bytes "nets=") (inRange 0 8) s x₁)
         → noOutline (endedIn a) ≡ outlineOf (readOutline s at)
     unfolding readOutline then outlineOf endedOf keptOr
     nets-refused a d h k = rw (h, line-got _ v x₁ first, line-bad _ d (sym h ∙ k))
 
-    module _ (n x₂ : ℕ) (second : Value n x₂ ≡ lineOf (readNumber (bytes "nets=") (within 0 8) s x₁)) where
-      pub places-refused : (a : Line) (d : Fault) → a ≡ Refused d → a ≡ lineOf (readNumber (bytes "places=") (within 1 32) s x₂)
+    module _ (n x₂ : ℕ) (second : Value n x₂ ≡ lineOf (readNumber (bytes "nets=") (inRange 0 8) s x₁)) where
+      pub places-refused : (a : Line) (d : Fault) → a ≡ Refused d → a ≡ lineOf (readNumber (bytes "places=") (inRange 1 32) s x₂)
           → noOutline (endedIn a) ≡ outlineOf (readOutline s at)
       unfolding readOutline then outlineOf endedOf keptOr
       places-refused a d h k = rw (h, line-got _ v x₁ first, line-got _ n x₂ second, line-bad _ d (sym h ∙ k))
 
-      module _ (p x₃ : ℕ) (third : Value p x₃ ≡ lineOf (readNumber (bytes "places=") (within 1 32) s x₂))
+      module _ (p x₃ : ℕ) (third : Value p x₃ ≡ lineOf (readNumber (bytes "places=") (inRange 1 32) s x₂))
           (a : Row) (fourth : a ≡ rowOf (readList (bytes "type=") p (λ d. leb d n) s x₃)) where
         pub types-refused : (d : Fault) → a .ended ≡ Stopped d → noOutline (a .ended) ≡ outlineOf (readOutline s at)
         unfolding readOutline then outlineOf endedOf keptOr
@@ -91,8 +91,8 @@ pub outline-sound : (s : Text) (at : ℕ) (o : parts.Outline) (next : ℕ) → r
 unfolding readOutline
 outline-sound s at o next e =
     let a = then-got (readHead (bytes "eos=") s at) _ o next e in
-    let b = then-got (readNumber (bytes "nets=") (within 0 8) s (a .next)) _ o next (a .rest) in
-    let c = then-got (readNumber (bytes "places=") (within 1 32) s (b .next)) _ o next (b .rest) in
+    let b = then-got (readNumber (bytes "nets=") (inRange 0 8) s (a .next)) _ o next (a .rest) in
+    let c = then-got (readNumber (bytes "places=") (inRange 1 32) s (b .next)) _ o next (b .rest) in
     let d = then-got (readList (bytes "type=") (c .value) (λ d. leb d (b .value)) s (c .next)) _ o next (c .rest) in
     let k = got-is (d .rest) in
     let n = number-in (bytes "nets=") 0 8 s (a .next) (b .value) (b .next) (b .first) in
@@ -128,12 +128,12 @@ module _ (nets places : ℕ) (fine : Transition → Bool) (s : Text) (at : ℕ) 
   abbrev system : Outcome parts.System
   system = readSystem nets places fine s at
 
-  pub moves-refused : (a : Line) (d : Fault) → a ≡ Refused d → a ≡ lineOf (readNumber (bytes "moves=") (within 0 32) s at)
+  pub moves-refused : (a : Line) (d : Fault) → a ≡ Refused d → a ≡ lineOf (readNumber (bytes "moves=") (inRange 0 32) s at)
       → noSystem (endedIn a) ≡ systemOf system
   unfolding readSystem then systemOf endedOf keptOr
   moves-refused a d h k = rw (h, line-bad _ d (sym h ∙ k))
 
-  module _ (k x₁ : ℕ) (first : Value k x₁ ≡ lineOf (readNumber (bytes "moves=") (within 0 32) s at)) where
+  module _ (k x₁ : ℕ) (first : Value k x₁ ≡ lineOf (readNumber (bytes "moves=") (inRange 0 32) s at)) where
     module _ (t : Tables) (second : t ≡ tablesOf (many (readSides places fine s) k x₁)) where
       pub arcs-refused : (d : Fault) → t .ended ≡ Stopped d → noSystem (t .ended) ≡ systemOf system
       unfolding readSystem then systemOf endedOf keptOr
@@ -168,7 +168,7 @@ pub system-bounded : (nets places : ℕ) (fine : Transition → Bool) (s : Text)
     → readSystem nets places fine s at ≡ got y next → Bounded nets y
 unfolding readSystem
 system-bounded nets places fine s at y next e =
-    let a = then-got (readNumber (bytes "moves=") (within 0 32) s at) _ y next e in
+    let a = then-got (readNumber (bytes "moves=") (inRange 0 32) s at) _ y next e in
     let b = then-got (many (readSides places fine s) (a .value) (a .next)) _ y next (a .rest) in
     let c = then-got (many (readNet s) nets (b .next)) _ y next (b .rest) in
     let k = got-is (c .rest) in
@@ -204,12 +204,12 @@ module _ (o : Outcome (List Event)) (r : Events) (events : r ≡ eventsOf o) whe
   events-held l next e = ap (λ (x : Events). x .events) events ∙ rw e
 
 module _ (f : Frame) (s : Text) (at : ℕ) where
-  pub events-refused : (a : Line) (d : Fault) → a ≡ Refused d → a ≡ lineOf (readNumber (bytes "events=") (within 0 64) s at)
+  pub events-refused : (a : Line) (d : Fault) → a ≡ Refused d → a ≡ lineOf (readNumber (bytes "events=") (inRange 0 64) s at)
       → noEvents (endedIn a) ≡ listedOf (readListed f s at)
   unfolding readListed then listedOf endedOf keptOr
   events-refused a d h k = rw (h, line-bad _ d (sym h ∙ k))
 
-  module _ (n x₁ : ℕ) (first : Value n x₁ ≡ lineOf (readNumber (bytes "events=") (within 0 64) s at)) where
+  module _ (n x₁ : ℕ) (first : Value n x₁ ≡ lineOf (readNumber (bytes "events=") (inRange 0 64) s at)) where
     listed-is : (o : Outcome (List Event)) → many (readEvent f s) n x₁ ≡ o → readListed f s at ≡ o
     unfolding readListed then
     listed-is o e = rw (line-got _ n x₁ first, e)

@@ -5,7 +5,7 @@ use lib.Dec.{leb}
 use borrow.Author.Tests.{eqb-true}
 use lib.ListN.{length}
 use Rattle.text.specs.Bytes.{Text, bytes}
-use Rattle.text.specs.Lines.{need, within}
+use Rattle.text.specs.Lines.{need, inRange}
 use Rattle.text.proofs.TestLaws.{eqb-and, and-eqb}
 use Rattle.text.proofs.Exactly.{Exactly, many-exactly}
 use Rattle.text.proofs.LinesExactly.{number-exactly, list-exactly, head-exactly}
@@ -24,13 +24,13 @@ unfolding readPlant plantText rightModel rightMove need
 plant-exactly s =
     exactly-by
     (first-makes (head-exactly (bytes "eos=") s)
-    (λ v. first-makes (number-exactly (bytes "nets=") (within 0 8) s)
-    (λ n. first-makes (number-exactly (bytes "places=") (within 1 32) s)
+    (λ v. first-makes (number-exactly (bytes "nets=") (inRange 0 8) s)
+    (λ n. first-makes (number-exactly (bytes "places=") (inRange 1 32) s)
     (λ p. first-makes (list-exactly (bytes "type=") p (λ d. leb d n) s)
-    (λ types. first-makes (number-exactly (bytes "moves=") (within 0 32) s)
+    (λ types. first-makes (number-exactly (bytes "moves=") (inRange 0 32) s)
     (λ k. first-makes (many-exactly s _ sidesText _ (sides-exactly p (keepsTypes n types) s) k)
     (λ moves. first-makes (many-exactly s (readNet s) netText rightNet (net-exactly s) n)
-    (λ nets. first-makes (number-exactly (bytes "events=") (within 0 64) s)
+    (λ nets. first-makes (number-exactly (bytes "events=") (inRange 0 64) s)
     (λ e. last-makes (many-exactly s _ eventText _ (event-exactly (frameOf (eventless types moves nets)) s) e)
     (λ events. true) 0 (λ events. record { types = types; moves = moves; nets = nets; events = events }) (λ m. m .events) (λ events h. refl))
     (λ m. length (m .events)) (λ e m h r. sym (eqb-and (length (m .events)) e _ (r .0) .0)))

@@ -20,7 +20,7 @@ use Rattle.model.specs.declared.Model.{Model}
 use Rattle.model_text.specs.Reading.{readPlant, eventless}
 use Rattle.model_text.specs.Parts as parts
 use Rattle.model_text.specs.Parts.{readOutline, readSystem, readListed}
-use Rattle.model_text.specs.Answers.{outlineOf, systemOf, listedOf, readingOf, framed, frameIn, joined, Fitting}
+use Rattle.model_text.specs.Answers.{outlineOf, systemOf, listedOf, readingOf, asFrame, frameFrom, joined, Fitting}
 use Rattle.model_text.specs.declared.Outline.{Outline}
 use Rattle.model_text.specs.declared.System.{System}
 use Rattle.model_text.specs.declared.Listed.{Listed}
@@ -122,12 +122,12 @@ module _ (o : parts.Outline) (sound : Sound o) (a : Outline) (h : OutlineHeld a 
       (ap (λ (f : eos.Transition → Bool). readSystem (o .nets) (o .places) f s x) (fine-is (o .types) (o .places) (sound .long) (sound .places) (o .nets)))
 
   module _ (y : parts.System) (bounded : Bounded (o .nets) y) (b : System) (k : SystemHeld b y) where
-    frame-exact : framed (frameIn a b) ≡ frameOf (eventless (o .types) (y .moves) (y .nets))
+    frame-exact : asFrame (frameFrom a b) ≡ frameOf (eventless (o .types) (y .moves) (y .nets))
     frame-exact =
         rw (h .nets, h .places, h .types, k .moves, k .objects)
         (frame-is (o .types) (o .places) (sound .long) (sound .places) (y .moves) (y .nets) (o .nets) (bounded .long) (sound .nets) (bounded .few))
 
-    frame-fits : Fitting (frameIn a b)
+    frame-fits : Fitting (frameFrom a b)
     frame-fits = record {
       places = omega (arith, h .places, sound .places);
       moves = omega (arith, k .moves, bounded .moves);
@@ -187,7 +187,7 @@ module _ (s : Text) (at : ℕ) (a : Outline) (first : a ≡ outlineOf (readOutli
       pub system-refused : (d : Fault) → b .ended ≡ Stopped d → record { ended = b .ended; model = noModel } ≡ readingOf (readPlant s at)
       system-refused d e = reading-bad _ _ d e (system-stops s at (o .value) x₁ (o .is) d (bad-of _ (b .ended) d system-end e))
 
-      module _ (x₂ : ℕ) (past₂ : b .ended ≡ Past x₂) (f : Frame) (f-is : f ≡ frameIn a b) where
+      module _ (x₂ : ℕ) (past₂ : b .ended ≡ Past x₂) (f : Frame) (f-is : f ≡ frameFrom a b) where
         y : Got (readSystem (o .value .nets) (o .value .places) (kept (o .value)) s x₁) x₂
         y = got-of _ (b .ended) x₂ system-end past₂
 
@@ -200,11 +200,11 @@ module _ (s : Text) (at : ℕ) (a : Outline) (first : a ≡ outlineOf (readOutli
         pub fits : Fitting f
         fits = rw f-is (frame-fits (o .value) sound a a-held (y .value) bounded b b-held)
 
-        module _ (c : Listed) (third : c ≡ listedOf (readListed (framed f) s x₂)) where
+        module _ (c : Listed) (third : c ≡ listedOf (readListed (asFrame f) s x₂)) where
           third-is : c ≡ listedOf (readListed (frameOf (eventless (o .value .types) (y .value .moves) (y .value .nets))) s x₂)
           third-is =
               third
-              ∙ ap (λ (g : rules.Frame). listedOf (readListed g s x₂)) (ap framed f-is ∙ frame-exact (o .value) sound a a-held (y .value) bounded b b-held)
+              ∙ ap (λ (g : rules.Frame). listedOf (readListed g s x₂)) (ap asFrame f-is ∙ frame-exact (o .value) sound a a-held (y .value) bounded b b-held)
 
           listed-end : c .ended ≡ endedOf (readListed (frameOf (eventless (o .value .types) (y .value .moves) (y .value .nets))) s x₂)
           unfolding listedOf

@@ -88,16 +88,16 @@ unfoldable pub readingOf : Outcome eos.Model → Reading
 readingOf o = record { ended = endedOf o; model = keptOr noModel holdModel o }
 
 -- the frame that the code has
-abbrev pub framed : Frame → rules.Frame
-framed f = record { places = f .places; moves = f .moves; nets = f .nets; type = rules.nth (f .types); steps = rules.nth (f .steps) }
+abbrev pub asFrame : Frame → rules.Frame
+asFrame f = record { places = f .places; moves = f .moves; nets = f .nets; type = rules.nth (f .types); steps = rules.nth (f .steps) }
 
 -- the number of transitions of each net, as a byte
 abbrev pub stepsOf : List ObjectNet → List ℕ
 stepsOf objects = map (λ n. n .transitions % 256) objects
 
 -- the frame of an outline with its nets
-abbrev pub frameIn : Outline → System → Frame
-frameIn a b = record { places = a .places; moves = b .moves; nets = a .nets; types = a .types; steps = stepsOf (b .objects) }
+abbrev pub frameFrom : Outline → System → Frame
+frameFrom a b = record { places = a .places; moves = b .moves; nets = a .nets; types = a .types; steps = stepsOf (b .objects) }
 
 -- the model of its three parts
 abbrev pub joined : Outline → System → Listed → Model

@@ -5,7 +5,7 @@ use mathlib.Core.List.{List, []}
 use lib.Dec.{leb}
 use lib.ListN.{drop}
 use Rattle.text.specs.Bytes.{Text, bytes, starts}
-use Rattle.text.specs.Lines.{Outcome, got, then, need, many, within, readNumber, readList, readHead}
+use Rattle.text.specs.Lines.{Outcome, got, then, need, many, inRange, readNumber, readList, readHead}
 use Rattle.text.specs.Repeat.{manyAt}
 use Rattle.eos.specs.Model.{Transition, ObjectNet, Act, move, idle, Event, Model}
 use Rattle.model.specs.Rules.{byte, Frame, frameOf, keepsTypes, ownNet, takesPart}
@@ -19,16 +19,16 @@ readSides size fine s at =
 
 unfoldable pub readNet : Text → ℕ → Outcome ObjectNet
 readNet s at =
-    then (readNumber (bytes "inner=") (within 1 32) s at) λ size x₁.
-    then (readNumber (bytes "steps=") (within 0 32) s x₁) λ n x₂.
+    then (readNumber (bytes "inner=") (inRange 1 32) s at) λ size x₁.
+    then (readNumber (bytes "steps=") (inRange 0 32) s x₁) λ n x₂.
     then (many (readSides size (λ t. true) s) n x₂) λ ts x₃. got (record { size = size; transitions = ts }) x₃
 
 -- `idle=` and a place, which is no place of black tokens (5), or `event=` and a move; both are numbered from 1
 unfoldable pub readIdle : Frame → Text → ℕ → Outcome Act
-readIdle f s at = then (readNumber (bytes "idle=") (within 1 (f .places)) s at) λ p x. need (leb 1 (f .type (pred p))) 5 at (got (idle (pred p)) x)
+readIdle f s at = then (readNumber (bytes "idle=") (inRange 1 (f .places)) s at) λ p x. need (leb 1 (f .type (pred p))) 5 at (got (idle (pred p)) x)
 
 unfoldable pub readMove : Frame → Text → ℕ → Outcome Act
-readMove f s at = then (readNumber (bytes "event=") (within 1 (f .moves)) s at) λ k x. got (move (pred k)) x
+readMove f s at = then (readNumber (bytes "event=") (inRange 1 (f .moves)) s at) λ k x. got (move (pred k)) x
 
 unfoldable pub readAct : Frame → Text → ℕ → Outcome Act
 readAct f s at = elim (starts (bytes "idle=") (drop at s)) [ true ↦ readIdle f s at | false ↦ readMove f s at ]
@@ -50,12 +50,12 @@ eventless types moves nets = record { types = types; moves = moves; nets = nets;
 unfoldable pub readPlant : Text → ℕ → Outcome Model
 readPlant s at =
     then (readHead (bytes "eos=") s at) λ _ x₁.
-    then (readNumber (bytes "nets=") (within 0 8) s x₁) λ n x₂.
-    then (readNumber (bytes "places=") (within 1 32) s x₂) λ p x₃.
+    then (readNumber (bytes "nets=") (inRange 0 8) s x₁) λ n x₂.
+    then (readNumber (bytes "places=") (inRange 1 32) s x₂) λ p x₃.
     then (readList (bytes "type=") p (λ d. leb d n) s x₃) λ types x₄.
-    then (readNumber (bytes "moves=") (within 0 32) s x₄) λ k x₅.
+    then (readNumber (bytes "moves=") (inRange 0 32) s x₄) λ k x₅.
     then (many (readSides p (keepsTypes n types) s) k x₅) λ moves x₆.
     then (many (readNet s) n x₆) λ nets x₇.
-    then (readNumber (bytes "events=") (within 0 64) s x₇) λ e x₈.
+    then (readNumber (bytes "events=") (inRange 0 64) s x₇) λ e x₈.
     then (many (readEvent (frameOf (eventless types moves nets)) s) e x₈) λ events x₉.
     got (record { types = types; moves = moves; nets = nets; events = events }) x₉

@@ -30,7 +30,6 @@ use Rattle.marking.specs.declared.Marking.{Marking}
 use Rattle.marking.specs.declared.Block.{Block}
 use Rattle.reader.specs.Reading.{bounds, Loaded, readEnd, readMarkingAt, readLines, readModelAt}
 use Rattle.marking.specs.Sizes.{sizesIn, sizesFor}
-
 use Rattle.reader.specs.Answers.{longest, faulty, noReading, loaded, noTokens, restored, heldBoth, modelFrom, markingFrom, markingOr}
 use Rattle.reader.specs.declared.ReadAnswer.the-variants.{Accepted, TooLong, NotHeld}
 use Rattle.reader.specs.declared.ModelReading.{ModelReading}

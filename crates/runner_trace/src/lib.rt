@@ -186,7 +186,7 @@ fn run_steps(plan: &[u8], sizes: [u8; 32], k: Marking, s: &[u8], from: usize) ->
 }
 
 // A run refused before its first step.
-pub fn refused(stop: Stop, k: Marking) -> Ran
+pub fn run_refused(stop: Stop, k: Marking) -> Ran
     ensures { λ r. ⌜ r ≡ ran 0 stop k ⌝ }
 {
     Ran {
@@ -202,14 +202,14 @@ fn run_at(m: Model, k: Marking, s: &[u8], at: usize) -> Ran
 {
     let rest = left(s, at);
     if Model::LONGEST < rest.len() {
-        return refused(Stop::TooLong, k);
+        return run_refused(Stop::TooLong, k);
     }
     if !test_marking(m, k) {
-        return refused(Stop::NotHeld, k);
+        return run_refused(Stop::NotHeld, k);
     }
     let head = head_line(rest, 0, b"run=");
     let Line::Value { value: _, next } = head else {
-        return refused(Stop::Faulty { why: 2, line: 1 }, k);
+        return run_refused(Stop::Faulty { why: 2, line: 1 }, k);
     };
     let mut plan = [0u8; 34996];
     pack(m, &mut plan);

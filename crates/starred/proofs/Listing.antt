@@ -16,7 +16,7 @@ use Rattle.keeper.specs.Answers.{weightChecking}
 use Rattle.keeper.specs.declared.Sum.{Sum}
 use Rattle.keeper.specs.declared.WeightAnswer.the-variants.{Passed}
 use Rattle.promises.specs.WholeRun.{ownFired, leftBy, answersOf, saysFired, Covered, WholeRun}
-use Rattle.starred.specs.Texts.{listed, listedWeights, firstStep, secondStep}
+use Rattle.starred.specs.Texts.{listedModel, listedWeights, firstStep, secondStep}
 use Rattle.promises.proofs.WholeRunLaws.{whole-run}
 use Rattle.starred.proofs.Opened.{opened}
 
@@ -47,7 +47,7 @@ sum = record { above = 3; below = 0 }
 abbrev steps : List Text
 steps = firstStep ∷ secondStep ∷ []
 
-accepted : modelReading listed ≡ record { answer = Accepted; model = model; start = start }
+accepted : modelReading listedModel ≡ record { answer = Accepted; model = model; start = start }
 unfolding opened
 accepted = refl
 
@@ -56,12 +56,12 @@ unfolding opened
 passed = refl
 
 -- the listing meets the premises of demand 3
-pub listing-covered : Covered listed listedWeights model start sum
+pub listing-covered : Covered listedModel listedWeights model start sum
 listing-covered = record { accepted = accepted; passed = passed }
 
 -- demand 3 of the listing's two steps
-pub listing-run : WholeRun listed listedWeights model start sum steps
-listing-run = whole-run listed listedWeights model start sum listing-covered steps
+pub listing-run : WholeRun listedModel listedWeights model start sum steps
+listing-run = whole-run listedModel listedWeights model start sum listing-covered steps
 
 -- the first step fired and the second did not; after them the racks are those that the listing prints
 pub listing-steps :
@@ -78,4 +78,4 @@ listing-own = sym (listing-run .fired) ∙ listing-steps .0
 pub covered-exists : (text : Text) × (file : Text) × (m : Model) × (k : Marking) × (sum : Sum) × (texts : List Text)
     × Covered text file m k sum × (getD (map saysFired (answersOf m k texts)) 0 false ≡ true)
 covered-exists =
-    (listed, listedWeights, model, start, sum, steps, listing-covered, ap (λ (l : List Bool). getD l 0 false) (listing-steps .0))
+    (listedModel, listedWeights, model, start, sum, steps, listing-covered, ap (λ (l : List Bool). getD l 0 false) (listing-steps .0))

@@ -3,7 +3,7 @@
 use mathlib.Core.Path.{_≡_, refl}
 use Rattle.text.specs.Bytes.{Text, bytes, starts, newlines}
 use Rattle.text.specs.Number.{digits, numberOf, number, plainly, negated, signed, ended, item}
-use Rattle.text.specs.Lists.{stopOf, before, items, listEnd}
+use Rattle.text.specs.Lists.{stopOf, prepended, items, listEnd}
 use Rattle.text.specs.Lines as lines
 use Rattle.text.specs.Lines.{then, need, many, behind, readNumber, readList, readWeights, readHead}
 use Rattle.text.specs.Repeat.{manyAt, fill}
@@ -52,6 +52,6 @@ unfolding listingText afterModel runText coverText sumText pairThen pairText tra
     running runWhereHeld headed runFrom onward heldBoth heldModel heldTypes heldMoves heldNets heldNet heldEvents heldEvent emptyEvent heldAct emptyPast monotonous
     touches takesPart heldMarking rightRow holdModel holdNet holdNets holdEvent holdEvents tabled fill padded holdMarking modelOf netOf eventOf tokensOf sizesIn
     tried readThen stepJudged readStep readBlock readNetToken readToken tokenAt countsAt readHead readNumber readList behind lines.judged many manyAt need then listEnd
-    items item before ended stopOf number numberOf digits plainly negated signed starts newlines refusal causes first unless at outerTaken outerGiven innerTaken
+    items item prepended ended stopOf number numberOf digits plainly negated signed starts newlines refusal causes first unless at outerTaken outerGiven innerTaken
     innerGiven outer inner outerOf innerOf blockText netTokenText numberText listText weightsText tokenText texts endText itemsText signedText decimal decimalOf
 listing-cases = (refl, refl, refl, refl)

@@ -1,7 +1,7 @@
 -- What the calls compute by: a proof that says `unfolding opened` evaluates them.
 use Rattle.text.specs.Bytes.{starts, newlines}
 use Rattle.text.specs.Number.{digits, numberOf, number, plainly, negated, signed, ended, item}
-use Rattle.text.specs.Lists.{stopOf, before, items, listEnd}
+use Rattle.text.specs.Lists.{stopOf, prepended, items, listEnd}
 use Rattle.text.specs.Lines as lines
 use Rattle.text.specs.Lines.{then, need, many, behind, readNumber, readList, readWeights, readHead}
 use Rattle.text.specs.Repeat.{manyAt, fill}
@@ -31,7 +31,7 @@ use Rattle.spread.specs.Call.{spreadCall}
 
 -- numbers, lists, lines
 unfoldable pub lined : Unit {0}
-unfolding starts newlines digits numberOf number plainly negated signed ended item stopOf before items listEnd then need many manyAt lines.judged behind
+unfolding starts newlines digits numberOf number plainly negated signed ended item stopOf prepended items listEnd then need many manyAt lines.judged behind
     readNumber readList readWeights readHead countsAt tokenAt readToken
 lined = tt
 

@@ -5,7 +5,7 @@ use mathlib.Core.Path.{_≡_, refl}
 use mathlib.Core.List.{List, [], _∷_}
 use Rattle.text.specs.Bytes.{bytes, starts}
 use Rattle.text.specs.Number.{digits, numberOf, number, ended, item}
-use Rattle.text.specs.Lists.{stopOf, before, items, listEnd}
+use Rattle.text.specs.Lists.{stopOf, prepended, items, listEnd}
 use Rattle.text.specs.Lines as lines
 use Rattle.text.specs.Lines.{then, need, many, behind, readNumber, readHead}
 use Rattle.text.specs.Token.{countsAt, tokenAt, readToken}
@@ -49,7 +49,7 @@ pub step-cases :
     (tried listing (sizesOf listing) start (bytes "fire=1\ntake=1\ntoken=1:1,0\ngive=1\ntoken=2:0,1\n")
     ≡ fires 45 (token 0 (0 ∷ 0 ∷ []) ∷ token 1 (0 ∷ 1 ∷ []) ∷ []))
     × (tried listing (sizesOf listing) start (bytes "fire=1\ntake=1\ntoken=1:0,0\ngive=1\ntoken=2:0,0\n") ≡ stops (Turned 9 1))
-unfolding tried readThen stepJudged readStep readBlock readNetToken readToken tokenAt countsAt readNumber behind lines.judged many need then listEnd items item before
+unfolding tried readThen stepJudged readStep readBlock readNetToken readToken tokenAt countsAt readNumber behind lines.judged many need then listEnd items item prepended
     ended stopOf number numberOf digits starts refusal causes first unless at outerTaken outerGiven innerTaken innerGiven outer inner outerOf innerOf
 step-cases = (refl, refl)
 
@@ -61,5 +61,5 @@ pub run-case :
 unfolding running runWhereHeld headed runFrom onward heldBoth heldModel heldTypes heldMoves heldNets heldNet heldEvents heldEvent emptyEvent heldAct emptyPast monotonous
     touches takesPart heldMarking rightRow holdModel holdNet holdNets holdEvent holdEvents tabled fill padded holdMarking modelOf netOf eventOf tokensOf sizesIn
     tried readThen stepJudged readStep readBlock readNetToken readToken tokenAt countsAt readHead readNumber behind lines.judged many need then listEnd items item
-    before ended stopOf number numberOf digits starts refusal causes first unless at outerTaken outerGiven innerTaken innerGiven outer inner outerOf innerOf
+    prepended ended stopOf number numberOf digits starts refusal causes first unless at outerTaken outerGiven innerTaken innerGiven outer inner outerOf innerOf
 run-case = refl

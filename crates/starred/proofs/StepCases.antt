@@ -5,7 +5,7 @@ use mathlib.Core.Path.{_≡_, refl}
 use mathlib.Core.List.{List, [], _∷_}
 use Rattle.text.specs.Bytes.{Text, bytes, starts}
 use Rattle.text.specs.Number.{digits, numberOf, number, ended, item}
-use Rattle.text.specs.Lists.{stopOf, before, items, listEnd}
+use Rattle.text.specs.Lists.{stopOf, prepended, items, listEnd}
 use Rattle.text.specs.Lines.{got, bad, fault, then, need, many, judged, behind, readNumber}
 use Rattle.text.specs.Printed.{decimalOf, decimal, itemsText, endText, texts, numberText, tokenText}
 use Rattle.text.specs.Token.{countsAt, tokenAt, readToken}
@@ -44,7 +44,7 @@ pub step-cases :
     × (readStep free listed 2 second 0 ≡ got (step 0 (token 0 (0 ∷ 0 ∷ []) ∷ []) (token 1 (0 ∷ 0 ∷ []) ∷ [])) 45)
     × (readStep (limits 256 65535) listed 2 large 0 ≡ bad (fault 3 21))
     × (readStep free listed 2 large 0 ≡ got (step 1 [] (token 1 (70000 ∷ 0 ∷ []) ∷ [])) 37)
-unfolding readStep readBlock readNetToken readToken tokenAt countsAt readNumber behind judged many need then listEnd items item before ended stopOf
+unfolding readStep readBlock readNetToken readToken tokenAt countsAt readNumber behind judged many need then listEnd items item prepended ended stopOf
     number numberOf digits starts
 step-cases = (refl, refl, refl, refl, refl, refl)
 

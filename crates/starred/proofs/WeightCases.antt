@@ -6,7 +6,7 @@ use mathlib.Core.List.{[], _∷_}
 use lib.IntN.{ℤ, pos, negsuc}
 use Rattle.text.specs.Bytes.{bytes, starts}
 use Rattle.text.specs.Number.{digits, numberOf, number, plainly, negated, signed, ended, item}
-use Rattle.text.specs.Lists.{stopOf, before, items, listEnd}
+use Rattle.text.specs.Lists.{stopOf, prepended, items, listEnd}
 use Rattle.text.specs.Lines.{got, bad, fault, then, need, judged, behind, readNumber, readWeights, readHead}
 use Rattle.text.specs.Printed.{decimalOf, decimal, signedText, itemsText, endText, texts, numberText, weightsText}
 use Rattle.text.specs.Repeat.{manyAt}
@@ -44,7 +44,7 @@ pub read-cases :
     × (readWeightFile listing (bytes "inv=1\nouter=1,1\ninner=1001,1\n") ≡ bad (fault 3 16))
     × (readWeightFile listing (bytes "inv=1\nouter=1,1\n") ≡ bad (fault 2 16))
 unfolding readWeightsAt readInner readEnd readHead readNumber readWeights behind judged need then manyAt starts
-    stopOf ended before item items listEnd digits numberOf number plainly negated signed
+    stopOf ended prepended item items listEnd digits numberOf number plainly negated signed
 read-cases = (refl, refl, refl, refl)
 
 -- 01: that model and weights have sum 3 and cover 1; outer weights 1,0 are turned down for event 1; all weights 0, for the last line

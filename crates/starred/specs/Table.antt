@@ -22,7 +22,7 @@ use Rattle.keeper.specs.declared.WeightCheck.{WeightCheck}
 use Rattle.keeper.specs.declared.Sum.{Sum}
 use Rattle.spread.specs.Call.{spreadPair, spreadValue, spreadCall}
 use Rattle.spread.specs.declared.Spread.{Spread}
-use Rattle.starred.specs.Texts.{listed, listedWeights, firstStep, secondStep}
+use Rattle.starred.specs.Texts.{listedModel, listedWeights, firstStep, secondStep}
 
 -- ---- inputs and outcomes
 
@@ -125,23 +125,23 @@ listedAfter = bytes "start=2\ntoken=1:0,0\ntoken=2:0,1\n"
 -- "That model and weights: sum 3, cover 1. Outer weights 1,0: event 1 gives 7, beside it 1"
 abbrev pub listedWeighings : List Case
 listedWeighings =
-    (weights listed listedWeights gives ofWeights fine (amount 3) true)
-    ∷ (weights listed (bytes "inv=1\nouter=1,0\ninner=1,1\n") gives ofWeights (pair 7 1) (amount 0) false)
+    (weights listedModel listedWeights gives ofWeights fine (amount 3) true)
+    ∷ (weights listedModel (bytes "inv=1\nouter=1,0\ninner=1,1\n") gives ofWeights (pair 7 1) (amount 0) false)
     ∷ []
 
 -- "First step above fires. Second is 9, net 1. Giving 2:1,0 in the first is 10, net 1"
 abbrev pub listedSteps : List Case
 listedSteps =
-    (step listed listedStart firstStep gives ofStep fine listedAfter)
-    ∷ (step listed listedAfter secondStep gives ofStep (pair 9 1) listedAfter)
-    ∷ (step listed listedStart (bytes "fire=1\ntake=1\ntoken=1:1,0\ngive=1\ntoken=2:1,0\n") gives ofStep (pair 10 1) listedStart)
+    (step listedModel listedStart firstStep gives ofStep fine listedAfter)
+    ∷ (step listedModel listedAfter secondStep gives ofStep (pair 9 1) listedAfter)
+    ∷ (step listedModel listedStart (bytes "fire=1\ntake=1\ntoken=1:1,0\ngive=1\ntoken=2:1,0\n") gives ofStep (pair 10 1) listedStart)
     ∷ []
 
 -- "Taking 1:1,0 where the marking has only 1:0,1, all else right: 11"; its token line is the third.
 -- "Two racks taken, insides 1,0 and 0,1, with an inner pre of 1,1: allowed"
 abbrev pub insides : List Case
 insides =
-    (step listed (bytes "start=1\ntoken=1:0,1\n") firstStep gives ofStep (pair 11 3) (bytes "start=1\ntoken=1:0,1\n"))
+    (step listedModel (bytes "start=1\ntoken=1:0,1\n") firstStep gives ofStep (pair 11 3) (bytes "start=1\ntoken=1:0,1\n"))
     ∷ (step twoRacks (bytes "start=2\ntoken=1:1,0\ntoken=1:0,1\n") (bytes "fire=1\ntake=2\ntoken=1:1,0\ntoken=1:0,1\ngive=2\ntoken=2:0,0\ntoken=2:0,1\n")
     gives ofStep fine (bytes "start=2\ntoken=2:0,0\ntoken=2:0,1\n"))
     ∷ []

@@ -2,8 +2,8 @@
 use mathlib.Core.List.{_++_}
 use Rattle.text.specs.Bytes.{Text, bytes}
 
-abbrev pub listed : Text
-listed =
+abbrev pub listedModel : Text
+listedModel =
     bytes "eos=1\nnets=1\nplaces=2\ntype=1,1\nmoves=1\npre=1,0\npost=0,1\n" ++ bytes "inner=2\nsteps=1\npre=1,0\npost=0,1\n"
     ++ bytes "events=2\nevent=1\nsync=1\nidle=2\nsync=1\n" ++ bytes "start=2\ntoken=1:1,0\ntoken=1:0,0\n"
 

@@ -8,7 +8,7 @@ use native.Mathlib.Nat.{zero-add, add-zero}
 use lib.ListN.{length, take, drop, getD, set, replicate, length-take, length-set, length-replicate, List·getD-eq-default}
 use lib.Seq.{ext-getD, getD-take, getD-drop}
 use Rattle.text.proofs.Basics.{and-true}
-use Rattle.text.specs.Lines.{within}
+use Rattle.text.specs.Lines.{inRange}
 use Rattle.text.specs.Answers.{padded}
 use Rattle.text.proofs.PaddedLaws.{length-padded}
 use Rattle.text.proofs.TestLaws.{within-is}
@@ -248,7 +248,7 @@ module _ (m : Model) (held : Held m) (e : ℕ) (known : e < m .listed) where
     unfolding heldAct outerIn
     outer-is zero index a = absurd (false≢true a)
     outer-is (suc zero) index a = let d = within-is 1 (m .moves) index a in move-is (pred index) (omega arith)
-    outer-is (suc (suc zero)) index a = let d = within-is 1 (m .places) index (and-true (within 1 (m .places) index) _ a .0) in idle-is (pred index) (omega arith)
+    outer-is (suc (suc zero)) index a = let d = within-is 1 (m .places) index (and-true (inRange 1 (m .places) index) _ a .0) in idle-is (pred index) (omega arith)
     outer-is (suc (suc (suc k))) index a = absurd (false≢true a)
 
   -- ---- the whole

@@ -7,7 +7,7 @@ use lib.Dec.{ltb}
 use borrow.Author.Tests.{ltb-true, lt-ltb}
 use Rattle.text.specs.Bytes.{Text, bytes}
 use Rattle.text.proofs.Basics.{and-true}
-use Rattle.text.specs.Lines.{need, within}
+use Rattle.text.specs.Lines.{need, inRange}
 use Rattle.text.proofs.TestLaws.{and-both, within-is, is-within}
 use Rattle.text.proofs.Exactly.{Exactly}
 use Rattle.text.proofs.LinesExactly.{number-exactly}
@@ -21,7 +21,7 @@ use Rattle.step.specs.Printed.{stepText}
 
 module _ (lim : Limits) (z : Sizes) (events : ℕ) (s : Text) where
   -- an event's number, from 1, found again from its index
-  event-again : (v e : ℕ) → within 1 events v ≡ true → v - 1 ≡ e → v ≡ suc e
+  event-again : (v e : ℕ) → inRange 1 events v ≡ true → v - 1 ≡ e → v ≡ suc e
   event-again v e h k = let w = within-is 1 events v h in omega (arith, w .0)
 
   index-again : (e : ℕ) → suc e - 1 ≡ e
@@ -34,7 +34,7 @@ module _ (lim : Limits) (z : Sizes) (events : ℕ) (s : Text) where
   unfolding readStep stepText rightStep need
   step-exactly =
       exactly-by
-      (first-makes (number-exactly (bytes "fire=") (within 1 events) s)
+      (first-makes (number-exactly (bytes "fire=") (inRange 1 events) s)
       (λ v. first-makes (block-exactly lim z s (bytes "take="))
       (λ taken. last-makes (block-exactly lim z s (bytes "give=")) (λ given. true) 0
       (λ given. record { event = v - 1; taken = taken; given = given }) (λ t. t .given) (λ given h. refl))

@@ -3,7 +3,7 @@ use Prim.Native.Nat.{ℕ, _-_, _≤_}
 use mathlib.Core.Path.{_≡_}
 use mathlib.Core.List.{List}
 use Rattle.text.specs.Bytes.{Text, bytes}
-use Rattle.text.specs.Lines.{Outcome, got, bad, then, within, readNumber}
+use Rattle.text.specs.Lines.{Outcome, got, bad, then, inRange, readNumber}
 use Rattle.text.specs.declared.Fault.{Fault}
 use Rattle.text.specs.declared.Ended.the-variants.{Stopped}
 use Rattle.text.proofs.TestLaws.{within-is}
@@ -19,8 +19,8 @@ use Rattle.step.specs.declared.TokenLines.{TokenLines}
 use Rattle.step.proofs.TokenLoop.{ReadLines}
 
 -- an event is numbered from 1
-pub event-from-one : (key s : Text) (events at v next : ℕ) → readNumber key (within 1 events) s at ≡ got v next → 1 ≤ v
-event-from-one key s events at v next e = within-is 1 events v (number-exactly key (within 1 events) s .back at v next e .fine-is) .0
+pub event-from-one : (key s : Text) (events at v next : ℕ) → readNumber key (inRange 1 events) s at ≡ got v next → 1 ≤ v
+event-from-one key s events at v next e = within-is 1 events v (number-exactly key (inRange 1 events) s .back at v next e .fine-is) .0
 
 -- a refusal has no event and no net-token
 pub rows-refused : (o : Outcome Step) (d : Fault) (lines : StepLines) (taken given : List ℕ)
@@ -31,11 +31,11 @@ rows-refused o d lines taken given e f = rw (e, f)
 
 module _ (lim : Limits) (z : Sizes) (events : ℕ) (s : Text) (at : ℕ) where
   -- the event's line is refused
-  pub step-unfired : (d : Fault) → readNumber (bytes "fire=") (within 1 events) s at ≡ bad d → readStep lim z events s at ≡ bad d
+  pub step-unfired : (d : Fault) → readNumber (bytes "fire=") (inRange 1 events) s at ≡ bad d → readStep lim z events s at ≡ bad d
   unfolding readStep then
   step-unfired d e = rw e
 
-  module _ (event x₁ : ℕ) (fired : readNumber (bytes "fire=") (within 1 events) s at ≡ got event x₁) where
+  module _ (event x₁ : ℕ) (fired : readNumber (bytes "fire=") (inRange 1 events) s at ≡ got event x₁) where
     -- a line of the taken is refused
     pub step-untaken : (d : Fault) → readBlock (bytes "take=") lim z s x₁ ≡ bad d → readStep lim z events s at ≡ bad d
     unfolding readStep then

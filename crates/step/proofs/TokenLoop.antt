@@ -7,7 +7,7 @@ use native.Mathlib.Nat.{sub-zero}
 use lib.ListN.{length, length-append}
 use lib.Seq.{paste, append-snoc}
 use Rattle.text.specs.Bytes.{Text}
-use Rattle.text.specs.Lines.{Outcome, got, bad, then, many, within, readNumber}
+use Rattle.text.specs.Lines.{Outcome, got, bad, then, many, inRange, readNumber}
 use Rattle.text.specs.Repeat.{fill, filled}
 use Rattle.text.specs.Answers.{endedOf}
 use Rattle.text.specs.declared.Fault.{Fault}
@@ -89,12 +89,12 @@ module _ (lim : Limits) (z : Sizes) (s : Text) where
 
 module _ (key : Text) (z : Sizes) (s : Text) (at : ℕ) where
   -- their number is refused
-  pub tokens-refused : (d : Fault) → readNumber key (within 0 256) s at ≡ bad d → noRows (Stopped d) ≡ tokenRows (readBlock key (limits 256 65535) z s at)
+  pub tokens-refused : (d : Fault) → readNumber key (inRange 0 256) s at ≡ bad d → noRows (Stopped d) ≡ tokenRows (readBlock key (limits 256 65535) z s at)
   unfolding readBlock then tokenRows
   tokens-refused d e = rw (sym (counted key z s at (bad d) (sym e)))
 
   -- their number is read, and they follow
-  pub tokens-counted : (n next : ℕ) → readNumber key (within 0 256) s at ≡ got n next
+  pub tokens-counted : (n next : ℕ) → readNumber key (inRange 0 256) s at ≡ got n next
       → many (readNetToken (limits 256 65535) z s) n next ≡ readBlock key (limits 256 65535) z s at
   unfolding readBlock then
   tokens-counted n next e = rw (sym (counted key z s at (got n next) (sym e)))

@@ -3,7 +3,7 @@ use Prim.Native.Nat.{ℕ, _-_}
 use mathlib.Core.Bool.{Bool, _&&_}
 use lib.Dec.{ltb}
 use Rattle.text.specs.Bytes.{Text, bytes}
-use Rattle.text.specs.Lines.{Outcome, got, then, within, readNumber}
+use Rattle.text.specs.Lines.{Outcome, got, then, inRange, readNumber}
 use Rattle.eos.specs.Firing.{Step}
 use Rattle.marking.specs.Held.{Sizes}
 use Rattle.marking.specs.Reading.{Limits, readBlock, rightBlock}
@@ -11,7 +11,7 @@ use Rattle.marking.specs.Reading.{Limits, readBlock, rightBlock}
 -- `fire` and an event, `take` and its token lines, `give` and its token lines (01, "Files"); a text numbers events from 1
 unfoldable pub readStep : Limits → Sizes → ℕ → Text → ℕ → Outcome Step
 readStep lim z events s at =
-    then (readNumber (bytes "fire=") (within 1 events) s at) λ e x₁.
+    then (readNumber (bytes "fire=") (inRange 1 events) s at) λ e x₁.
     then (readBlock (bytes "take=") lim z s x₁) λ taken x₂.
     then (readBlock (bytes "give=") lim z s x₂) λ given x₃.
     got (record { event = e - 1; taken = taken; given = given }) x₃

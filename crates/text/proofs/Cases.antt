@@ -6,8 +6,8 @@ use lib.IntN.{ℤ, pos, negsuc}
 use lib.ListN.{length, take}
 use Rattle.text.specs.Bytes.{Text, bytes, starts, newlines}
 use Rattle.text.specs.Number.{digits, numberOf, number, plainly, negated, signed, ended, item}
-use Rattle.text.specs.Lists.{stopOf, before, items, listEnd, anyItems, anyList}
-use Rattle.text.specs.Lines.{Outcome, got, bad, fault, then, need, many, judged, within, modest, behind, readNumber, readList, readWeights, readHead}
+use Rattle.text.specs.Lists.{stopOf, prepended, items, listEnd, anyItems, anyList}
+use Rattle.text.specs.Lines.{Outcome, got, bad, fault, then, need, many, judged, inRange, modest, behind, readNumber, readList, readWeights, readHead}
 use Rattle.text.specs.Token.{Token, countsAt, tokenAt, readToken}
 use Rattle.text.specs.Printed.{decimalOf, decimal, signedText, itemsText, endText, texts, numberText, listText, weightsText, tokenText}
 
@@ -16,7 +16,7 @@ token p cs = record { place = p; counts = cs }
 
 -- a token's line where there are two places, of two counts each
 abbrev tokenOf : Text → ℕ → Outcome Token
-tokenOf = readToken (bytes "token=") 2 (λ p. 2) (within 0 65535)
+tokenOf = readToken (bytes "token=") 2 (λ p. 2) (inRange 0 65535)
 
 abbrev model : Text
 model =
@@ -27,28 +27,28 @@ model =
 
 -- each line of a model is read where the line before it ends, and the last ends with the text
 pub model-reads : (readHead (bytes "eos=") model 0 ≡ got 1 6)
-    × (readNumber (bytes "nets=") (within 0 8) model 6 ≡ got 1 13)
-    × (readNumber (bytes "places=") (within 1 32) model 13 ≡ got 2 22)
-    × (readList (bytes "type=") 2 (within 0 1) model 22 ≡ got (1 ∷ 1 ∷ []) 31)
-    × (readNumber (bytes "moves=") (within 0 32) model 31 ≡ got 1 39)
-    × (readList (bytes "pre=") 2 (within 0 255) model 39 ≡ got (1 ∷ 0 ∷ []) 47)
-    × (readList (bytes "post=") 2 (within 0 255) model 47 ≡ got (0 ∷ 1 ∷ []) 56)
-    × (readNumber (bytes "inner=") (within 1 32) model 56 ≡ got 2 64)
-    × (readNumber (bytes "steps=") (within 0 32) model 64 ≡ got 1 72)
-    × (readList (bytes "pre=") 2 (within 0 255) model 72 ≡ got (1 ∷ 0 ∷ []) 80)
-    × (readList (bytes "post=") 2 (within 0 255) model 80 ≡ got (0 ∷ 1 ∷ []) 89)
-    × (readNumber (bytes "events=") (within 0 64) model 89 ≡ got 2 98)
-    × (readNumber (bytes "event=") (within 1 1) model 98 ≡ got 1 106)
-    × (readList (bytes "sync=") 1 (within 0 255) model 106 ≡ got (1 ∷ []) 113)
-    × (readNumber (bytes "idle=") (within 1 2) model 113 ≡ got 2 120)
-    × (readList (bytes "sync=") 1 (within 0 255) model 120 ≡ got (1 ∷ []) 127)
-    × (readNumber (bytes "start=") (within 0 256) model 127 ≡ got 2 135)
+    × (readNumber (bytes "nets=") (inRange 0 8) model 6 ≡ got 1 13)
+    × (readNumber (bytes "places=") (inRange 1 32) model 13 ≡ got 2 22)
+    × (readList (bytes "type=") 2 (inRange 0 1) model 22 ≡ got (1 ∷ 1 ∷ []) 31)
+    × (readNumber (bytes "moves=") (inRange 0 32) model 31 ≡ got 1 39)
+    × (readList (bytes "pre=") 2 (inRange 0 255) model 39 ≡ got (1 ∷ 0 ∷ []) 47)
+    × (readList (bytes "post=") 2 (inRange 0 255) model 47 ≡ got (0 ∷ 1 ∷ []) 56)
+    × (readNumber (bytes "inner=") (inRange 1 32) model 56 ≡ got 2 64)
+    × (readNumber (bytes "steps=") (inRange 0 32) model 64 ≡ got 1 72)
+    × (readList (bytes "pre=") 2 (inRange 0 255) model 72 ≡ got (1 ∷ 0 ∷ []) 80)
+    × (readList (bytes "post=") 2 (inRange 0 255) model 80 ≡ got (0 ∷ 1 ∷ []) 89)
+    × (readNumber (bytes "events=") (inRange 0 64) model 89 ≡ got 2 98)
+    × (readNumber (bytes "event=") (inRange 1 1) model 98 ≡ got 1 106)
+    × (readList (bytes "sync=") 1 (inRange 0 255) model 106 ≡ got (1 ∷ []) 113)
+    × (readNumber (bytes "idle=") (inRange 1 2) model 113 ≡ got 2 120)
+    × (readList (bytes "sync=") 1 (inRange 0 255) model 120 ≡ got (1 ∷ []) 127)
+    × (readNumber (bytes "start=") (inRange 0 256) model 127 ≡ got 2 135)
     × (tokenOf model 135 ≡ got (token 1 (1 ∷ 0 ∷ [])) 147)
     × (tokenOf model 147 ≡ got (token 1 (0 ∷ 0 ∷ [])) 159)
     × (many (tokenOf model) 2 135 ≡ got (token 1 (1 ∷ 0 ∷ []) ∷ token 1 (0 ∷ 0 ∷ []) ∷ []) 159)
     × (length model ≡ 159)
 unfolding readHead readNumber readList readToken tokenAt countsAt many then need judged behind starts
-    listEnd items item ended before stopOf number numberOf digits
+    listEnd items item ended prepended stopOf number numberOf digits
 model-reads = (refl, refl, refl, refl, refl, refl, refl, refl, refl, refl, refl, refl, refl, refl, refl, refl, refl, refl, refl, refl, refl)
 
 abbrev weights : Text
@@ -59,11 +59,11 @@ pub weights-read : (readHead (bytes "inv=") weights 0 ≡ got 1 6)
     × (readWeights (bytes "outer=") 2 (modest 1000) weights 6 ≡ got (pos 1 ∷ pos 1 ∷ []) 16)
     × (readWeights (bytes "inner=") 2 (modest 1000) weights 16 ≡ got (pos 1 ∷ pos 1 ∷ []) 26)
     × (length weights ≡ 26)
-unfolding readHead readNumber readWeights then need judged behind starts listEnd items item ended before stopOf signed plainly negated number numberOf digits
+unfolding readHead readNumber readWeights then need judged behind starts listEnd items item ended prepended stopOf signed plainly negated number numberOf digits
 weights-read = (refl, refl, refl, refl)
 
 abbrev nets : Text → Outcome ℕ
-nets s = readNumber (bytes "nets=") (within 0 8) s 0
+nets s = readNumber (bytes "nets=") (inRange 0 8) s 0
 
 -- a line of one number: its end, its key, its digits and its range
 pub number-edges : (nets (bytes "nets=8\n") ≡ got 8 7)
@@ -79,17 +79,17 @@ pub number-edges : (nets (bytes "nets=8\n") ≡ got 8 7)
     × (nets (bytes "nets=+1\n") ≡ bad (fault 2 0))
     × (nets (bytes "nets=00\n") ≡ bad (fault 2 0))
     × (nets (bytes "Nets=1\n") ≡ bad (fault 2 0))
-    × (readNumber (bytes "places=") (within 1 32) (bytes "nets=1\nplaces=0\n") 7 ≡ bad (fault 3 7))
+    × (readNumber (bytes "places=") (inRange 1 32) (bytes "nets=1\nplaces=0\n") 7 ≡ bad (fault 3 7))
     × (readHead (bytes "inv=") (bytes "inv=2\n") 0 ≡ bad (fault 2 0))
     × (readHead (bytes "inv=") (bytes "inv=123456789012345678901234567890\n") 0 ≡ bad (fault 2 0))
 unfolding readHead readNumber then need judged behind starts item ended number numberOf digits
 number-edges = (refl, refl, refl, refl, refl, refl, refl, refl, refl, refl, refl, refl, refl, refl, refl, refl)
 
 abbrev pre : Text → Outcome (List ℕ)
-pre s = readList (bytes "pre=") 2 (within 0 255) s 0
+pre s = readList (bytes "pre=") 2 (inRange 0 255) s 0
 
 abbrev sync : ℕ → Text → Outcome (List ℕ)
-sync n s = readList (bytes "sync=") n (within 0 255) s 0
+sync n s = readList (bytes "sync=") n (inRange 0 255) s 0
 
 -- a line of several numbers: its length and syntax are judged before any range
 pub list-edges : (pre (bytes "pre=1,2\n") ≡ got (1 ∷ 2 ∷ []) 8)
@@ -102,7 +102,7 @@ pub list-edges : (pre (bytes "pre=1,2\n") ≡ got (1 ∷ 2 ∷ []) 8)
     × (sync 1 (bytes "sync=01\n") ≡ bad (fault 2 0))
     × (sync 0 (bytes "sync=\n") ≡ got [] 6)
     × (sync 0 (bytes "sync=0\n") ≡ bad (fault 2 0))
-unfolding readList need judged behind starts listEnd items item ended before stopOf number numberOf digits
+unfolding readList need judged behind starts listEnd items item ended prepended stopOf number numberOf digits
 list-edges = (refl, refl, refl, refl, refl, refl, refl, refl, refl, refl)
 
 abbrev outer : Text → Outcome (List ℤ)
@@ -118,7 +118,7 @@ pub weight-edges : (outer (bytes "outer=-5\n") ≡ got (negsuc 4 ∷ []) 9)
     × (outer (bytes "outer=-01\n") ≡ bad (fault 2 0))
     × (outer (bytes "outer=--1\n") ≡ bad (fault 2 0))
     × (outer (bytes "outer=-\n") ≡ bad (fault 2 0))
-unfolding readWeights need judged behind starts listEnd items item ended before stopOf signed plainly negated number numberOf digits
+unfolding readWeights need judged behind starts listEnd items item ended prepended stopOf signed plainly negated number numberOf digits
 weight-edges = (refl, refl, refl, refl, refl, refl, refl, refl, refl)
 
 -- a token: out of range, its place is 3 whatever the length of the list, whose syntax is judged
@@ -133,8 +133,8 @@ pub token-edges : (tokenOf (bytes "token=2:65535,0\n") 0 ≡ got (token 2 (65535
     × (tokenOf (bytes "token=3:9") 0 ≡ bad (fault 2 0))
     × (tokenOf (bytes "token=3:01\n") 0 ≡ bad (fault 2 0))
     × (tokenOf (bytes "token=0:\n") 0 ≡ bad (fault 3 0))
-    × (readToken (bytes "token=") 3 (λ p. 0) (within 0 65535) (bytes "token=3:\n") 0 ≡ got (token 3 []) 9)
-unfolding readToken tokenAt countsAt then need judged behind starts listEnd items item ended before stopOf anyList anyItems number numberOf digits
+    × (readToken (bytes "token=") 3 (λ p. 0) (inRange 0 65535) (bytes "token=3:\n") 0 ≡ got (token 3 []) 9)
+unfolding readToken tokenAt countsAt then need judged behind starts listEnd items item ended prepended stopOf anyList anyItems number numberOf digits
 token-edges = (refl, refl, refl, refl, refl, refl, refl, refl, refl, refl, refl, refl)
 
 -- the lines ended before a position

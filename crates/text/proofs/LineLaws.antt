@@ -10,7 +10,7 @@ use lib.ListN.{length, drop}
 use Rattle.text.specs.Bytes.{Text, lf, starts}
 use Rattle.text.proofs.Basics.{by-test, and-true}
 use Rattle.text.specs.Number.{Read, missing, found, number, item}
-use Rattle.text.specs.Lines.{Outcome, got, bad, fault, then, need, judged, every, within, behind, readNumber, readHead}
+use Rattle.text.specs.Lines.{Outcome, got, bad, fault, then, need, judged, every, inRange, behind, readNumber, readHead}
 use Rattle.text.specs.Answers.{lineOf}
 use Rattle.text.specs.declared.Fault.{Fault}
 use Rattle.text.specs.declared.Line.{Line}
@@ -20,19 +20,19 @@ use Rattle.text.proofs.NumberLaws.{Exact, Capped}
 -- ---- a range
 
 module _ (lo hi v : ℕ) where
-  pub within-low : v < lo → within lo hi v ≡ false
+  pub within-low : v < lo → inRange lo hi v ≡ false
   within-low p = rw (lt-leb lo v p)
 
-  pub within-high : hi < v → within lo hi v ≡ false
+  pub within-high : hi < v → inRange lo hi v ≡ false
   within-high p = rw (lt-leb v hi p, and-false)
 
-  pub within-in : lo ≤ v → v ≤ hi → within lo hi v ≡ true
+  pub within-in : lo ≤ v → v ≤ hi → inRange lo hi v ≡ true
   within-in p q = rw (le-leb lo v p, le-leb v hi q)
 
-  pub within-low-not : lo ≤ v → within lo hi v ≡ leb v hi
+  pub within-low-not : lo ≤ v → inRange lo hi v ≡ leb v hi
   within-low-not p = rw (le-leb lo v p)
 
-  pub within-most : within lo hi v ≡ true → v ≤ hi
+  pub within-most : inRange lo hi v ≡ true → v ≤ hi
   within-most e = leb-true v hi (and-true (leb lo v) (leb v hi) e .1)
 
 -- a number and its capped value are in the same range
@@ -48,7 +48,7 @@ capped-least lo v w fits e =
     (λ h. le-leb lo w (omega (arith, leb-true lo v h)) ∙ sym h)
     (λ h. lt-leb lo w (omega (arith, leb-false lo v h)) ∙ sym h)
 
-pub capped-within : (lo hi v w : ℕ) → lo < 65536 → hi < 65536 → Capped v w → within lo hi w ≡ within lo hi v
+pub capped-within : (lo hi v w : ℕ) → lo < 65536 → hi < 65536 → Capped v w → inRange lo hi w ≡ inRange lo hi v
 capped-within lo hi v w p q e = rw (capped-least lo v w p e, capped-most hi v w q e)
 
 -- ---- what is behind a key
@@ -89,7 +89,7 @@ module _ {A : Type 0} (top : ℕ) where
 
 module _ (key s : Text) (at lo hi : ℕ) where
   abbrev pub numberAnswer : Line
-  numberAnswer = lineOf (readNumber key (within lo hi) s at)
+  numberAnswer = lineOf (readNumber key (inRange lo hi) s at)
 
   pub line-other : starts key (drop at s) ≡ false → numberAnswer ≡ Refused (fault 2 at)
   unfolding readNumber judged lineOf
@@ -101,11 +101,11 @@ module _ (key s : Text) (at lo hi : ℕ) where
     line-missing e = rw (behind-key key (item number lf s) s at key-is, e)
 
     module _ (lo-fits : lo < 65536) (hi-fits : hi < 65536) (v u : ℕ) (h : Exact (item number lf s (at + length key)) (Capped v) u) where
-      pub line-out : within lo hi v ≡ false → numberAnswer ≡ Refused (fault 3 at)
+      pub line-out : inRange lo hi v ≡ false → numberAnswer ≡ Refused (fault 3 at)
       unfolding readNumber judged lineOf need
       line-out e = rw (behind-key key (item number lf s) s at key-is, h .is, capped-within lo hi v (h .value) lo-fits hi-fits (h .told), e)
 
-      pub line-value : within lo hi v ≡ true → numberAnswer ≡ Value v u
+      pub line-value : inRange lo hi v ≡ true → numberAnswer ≡ Value v u
       unfolding readNumber judged lineOf need
       line-value e =
           let same : h .value ≡ v = omega (arith, h .told, within-most lo hi v e) in
@@ -113,19 +113,19 @@ module _ (key s : Text) (at lo hi : ℕ) where
 
 -- ---- the first line
 
-one : (v : ℕ) → within 1 1 v ≡ eqb v 1
+one : (v : ℕ) → inRange 1 1 v ≡ eqb v 1
 one v = by-test (eqb v 1) (λ h. is h (eqb-true v 1 h)) (λ h. other h (eqb-false v 1 h))
   where
-    is : eqb v 1 ≡ true → v ≡ 1 → within 1 1 v ≡ eqb v 1
+    is : eqb v 1 ≡ true → v ≡ 1 → inRange 1 1 v ≡ eqb v 1
     is h e = rw (le-leb 1 v (omega arith), le-leb v 1 (omega arith), h)
 
-    other : eqb v 1 ≡ false → (v ≡ 1 → ⊥) → within 1 1 v ≡ eqb v 1
+    other : eqb v 1 ≡ false → (v ≡ 1 → ⊥) → inRange 1 1 v ≡ eqb v 1
     other h n =
         by-test (leb 1 v)
         (λ a. by-test (leb v 1) (λ b. absurd (n (omega (arith, leb-true 1 v a, leb-true v 1 b)))) (λ b. rw (a, b, h)))
         (λ a. rw (a, h))
 
-head-value-of : (at : ℕ) (x : Read ℕ) (v next : ℕ) → Value v next ≡ lineOf (judged (within 1 1) at x)
+head-value-of : (at : ℕ) (x : Read ℕ) (v next : ℕ) → Value v next ≡ lineOf (judged (inRange 1 1) at x)
     → then (judged (λ n. true) at x) (λ n next. need (eqb n 1) 2 at (got n next)) ≡ got v next
 unfolding judged need then lineOf
 head-value-of at missing v next e = let z : _≡_ {A = ℕ} 0 1 = cc in absurd (omega arith)
@@ -134,7 +134,7 @@ head-value-of at (found w t) v next e =
     (λ h. let f : Value v next ≡ Value w t = rw (one w, h) at e in rw h (cc))
     (λ h. let f : Value v next ≡ Refused (fault 3 at) = rw (one w, h) at e in let z : _≡_ {A = ℕ} 0 1 = cc in absurd (omega arith))
 
-head-refused-of : (at : ℕ) (x : Read ℕ) (f : Fault) → Refused f ≡ lineOf (judged (within 1 1) at x)
+head-refused-of : (at : ℕ) (x : Read ℕ) (f : Fault) → Refused f ≡ lineOf (judged (inRange 1 1) at x)
     → then (judged (λ n. true) at x) (λ n next. need (eqb n 1) 2 at (got n next)) ≡ bad (fault 2 at)
 unfolding judged need then lineOf
 head-refused-of at missing f e = refl
@@ -144,10 +144,10 @@ head-refused-of at (found w t) f e =
     (λ h. rw h)
 
 module _ (key s : Text) (at : ℕ) where
-  pub head-value : (v next : ℕ) → Value v next ≡ lineOf (readNumber key (within 1 1) s at) → Value v next ≡ lineOf (readHead key s at)
+  pub head-value : (v next : ℕ) → Value v next ≡ lineOf (readNumber key (inRange 1 1) s at) → Value v next ≡ lineOf (readHead key s at)
   unfolding readNumber readHead lineOf
   head-value v next e = rw (head-value-of at (behind key (item number lf s) s at) v next e)
 
-  pub head-refused : (f : Fault) → Refused f ≡ lineOf (readNumber key (within 1 1) s at) → Refused (fault 2 at) ≡ lineOf (readHead key s at)
+  pub head-refused : (f : Fault) → Refused f ≡ lineOf (readNumber key (inRange 1 1) s at) → Refused (fault 2 at) ≡ lineOf (readHead key s at)
   unfolding readNumber readHead lineOf
   head-refused f e = rw (head-refused-of at (behind key (item number lf s) s at) f e)

@@ -13,7 +13,7 @@ use lib.Seq.{append-snoc}
 use Rattle.text.specs.Bytes.{Text, lf, starts}
 use Rattle.text.proofs.Basics.{by-test}
 use Rattle.text.specs.Number.{Read, missing, found, isDigit, number, signed, ended, item}
-use Rattle.text.specs.Lists.{stopOf, before, items, listEnd}
+use Rattle.text.specs.Lists.{stopOf, prepended, items, listEnd}
 use Rattle.text.specs.Lines.{judged, every, behind, readNumber, readList, readWeights, readHead}
 use Rattle.text.specs.Printed.{decimal, signedText, itemsText, endText, numberText, listText, weightsText}
 use Rattle.text.proofs.ReadLaws.{missing≢found, found-is}
@@ -58,7 +58,7 @@ stop-other (suc n) = refl
 -- ---- one value before the others
 module _ {A : Type 0} where
   abbrev chained : Read A → (ℕ → Read (List A)) → Read (List A)
-  chained r f = elim r [ missing ↦ missing | found a next ↦ before a (f next) ]
+  chained r f = elim r [ missing ↦ missing | found a next ↦ prepended a (f next) ]
 
   record Chained (r : Read A) (f : ℕ → Read (List A)) (l : List A) (end : ℕ) : Type 0 where
     head : A
@@ -68,8 +68,8 @@ module _ {A : Type 0} where
     rest : f next ≡ found others end
     all : head ∷ others ≡ l
 
-  before-back : (a : A) (r : Read (List A)) (l : List A) (end : ℕ) → before a r ≡ found l end → (o : List A) × (r ≡ found o end) × (a ∷ o ≡ l)
-  unfolding before
+  before-back : (a : A) (r : Read (List A)) (l : List A) (end : ℕ) → prepended a r ≡ found l end → (o : List A) × (r ≡ found o end) × (a ∷ o ≡ l)
+  unfolding prepended
   before-back a missing l end e = absurd (missing≢found e)
   before-back a (found o u) l end e = let k = found-is e in (o, rw (k .1), k .0)
 
@@ -116,7 +116,7 @@ module _ {A : Type 0} (value : Text → ℕ → Read A) (text : A → Text) (one
 
   items-forth : (n at : ℕ) (l : List A) → Stands s at (itemsText text l) → eqb (length l) n ≡ true
       → items value n s at ≡ found l (at + length (itemsText text l))
-  unfolding items itemsText before
+  unfolding items itemsText prepended
   items-forth zero at [] st h = rw (add-zero at)
   items-forth zero at (a ∷ l) st h = absurd (omega (arith, eqb-true (suc (length l)) 0 h))
   items-forth (suc n) at [] st h = absurd (omega (arith, eqb-true 0 (suc n) h))

@@ -14,7 +14,7 @@ use lib.Seq.{sets}
 use Rattle.text.specs.Bytes.{Text, lf, comma, starts}
 use Rattle.text.proofs.Basics.{by-test, and-true}
 use Rattle.text.specs.Number.{Read, missing, found, number, plainly, signedIf, ended, item}
-use Rattle.text.specs.Lists.{stopOf, before, items, listEnd, anyItems, anyList}
+use Rattle.text.specs.Lists.{stopOf, prepended, items, listEnd, anyItems, anyList}
 use Rattle.text.specs.Lines.{bad, fault, need, judged, every, behind, modest}
 use Rattle.text.specs.Capped.{above, below}
 use Rattle.text.specs.Answers.{endedOf, keptOr, padded, rowOf, weightRowOf}
@@ -69,8 +69,8 @@ module _ (hi top : ℕ) where
   -- one weight more; what is kept of one out of the range does not matter
   going-before : (inside : Bool) (i : ℕ) (ups downs ups′ downs′ : List ℕ) (w : ℤ) (r : Read (List ℤ))
       → (modest hi w ≡ true → (ups′ ≡ set ups i (above w)) × (downs′ ≡ set downs i (below w)))
-      → going inside i ups downs (before w r) ≡ going (inside && modest hi w) (i + 1) ups′ downs′ r
-  unfolding going before rowsIf
+      → going inside i ups downs (prepended w r) ≡ going (inside && modest hi w) (i + 1) ups′ downs′ r
+  unfolding going prepended rowsIf
   going-before inside i ups downs ups′ downs′ w missing e = refl
   going-before inside i ups downs ups′ downs′ w (found l t) e =
       by-test (inside && modest hi w)
@@ -127,8 +127,8 @@ unfoldable pub asWeights : Read (List ℕ) → Read (List ℤ)
 asWeights missing = missing
 asWeights (found l end) = found (map pos l) end
 
-numbers-before : (v : ℕ) (r : Read (List ℕ)) → before (pos v) (asWeights r) ≡ asWeights (before v r)
-unfolding before asWeights
+numbers-before : (v : ℕ) (r : Read (List ℕ)) → prepended (pos v) (asWeights r) ≡ asWeights (prepended v r)
+unfolding prepended asWeights
 numbers-before v missing = refl
 numbers-before v (found l end) = refl
 

@@ -13,7 +13,7 @@ use Rattle.text.specs.Bytes.{Text, lf, colon}
 use Rattle.text.proofs.Basics.{by-test}
 use Rattle.text.specs.Number.{Read, missing, found, number, signed, item}
 use Rattle.text.specs.Lists.{listEnd, anyList}
-use Rattle.text.specs.Lines.{Outcome, got, bad, fault, then, need, judged, every, within, behind, readNumber, readList, readWeights}
+use Rattle.text.specs.Lines.{Outcome, got, bad, fault, then, need, judged, every, inRange, behind, readNumber, readList, readWeights}
 use Rattle.text.specs.Token.{Token, countsAt, tokenAt, readToken}
 use Rattle.text.specs.Printed.{decimal, signedText, endText, numberText, listText, weightsText, tokenText}
 use Rattle.text.proofs.ReadLaws.{missing≢found}
@@ -121,8 +121,8 @@ weights-two = row-two signed signedText signed-spelled
 module _ (key : Text) (places : ℕ) (size : ℕ → ℕ) (range : ℕ → Bool) (s : Text) (at : ℕ) where
   -- the place is out of range; or it is in range, and of the right number of counts one is not
   abbrev pub Beyond : Token → Type 0
-  Beyond t = (within 1 places (t .place) ≡ false)
-      ⊎ ((within 1 places (t .place) ≡ true) × (eqb (length (t .counts)) (size (t .place)) ≡ true) × (every range (t .counts) ≡ false))
+  Beyond t = (inRange 1 places (t .place) ≡ false)
+      ⊎ ((inRange 1 places (t .place) ≡ true) × (eqb (length (t .counts)) (size (t .place)) ≡ true) × (every range (t .counts) ≡ false))
 
   -- such a token is printed there
   abbrev pub Shown : Type 0
@@ -141,7 +141,7 @@ module _ (key : Text) (places : ℕ) (size : ℕ → ℕ) (range : ℕ → Bool)
   counts-three p (got cs next) e = absurd (omega (arith, ap whyOf e))
   counts-three p (bad d) e = let k : d ≡ fault 3 at = cc in rw k
 
-  placed-three : (b : Bool) (p x : ℕ) → within 1 places p ≡ b → behind key (item number colon s) s at ≡ found p x
+  placed-three : (b : Bool) (p x : ℕ) → inRange 1 places p ≡ b → behind key (item number colon s) s at ≡ found p x
       → countsAt b (size p) range s at p x ≡ bad (fault 3 at) → Shown
   unfolding countsAt need
   placed-three true p x w q e =
@@ -160,7 +160,7 @@ module _ (key : Text) (places : ℕ) (size : ℕ → ℕ) (range : ℕ → Bool)
   token-back : (r : Read ℕ) → behind key (item number colon s) s at ≡ r → tokenAt places size range s at r ≡ bad (fault 3 at) → Shown
   unfolding tokenAt
   token-back missing q e = absurd (omega (arith, ap whyOf e))
-  token-back (found p x) q e = placed-three (within 1 places p) p x refl q e
+  token-back (found p x) q e = placed-three (inRange 1 places p) p x refl q e
 
   out-three : (n p x : ℕ) → anyList s x ≡ true → countsAt false n range s at p x ≡ bad (fault 3 at)
   unfolding countsAt need
@@ -181,7 +181,7 @@ module _ (key : Text) (places : ℕ) (size : ℕ → ℕ) (range : ℕ → Bool)
       let whole : Stands s at (p ++ c) = rw (token-split key t) at st in
       let right = stands-right s at p c whole in
       let l = list-finds number decimal number-spelled s n .forth x (t .counts) right in
-      let last : countsAt (within 1 places (t .place)) n range s at (t .place) x ≡ bad (fault 3 at) =
+      let last : countsAt (inRange 1 places (t .place)) n range s at (t .place) x ≡ bad (fault 3 at) =
       ⊎-elim
       (λ w. rw w (out-three n (t .place) x (any-list s x .1 (t .counts, right))))
       (λ w. rw (w .0) (in-three n (t .place) x (t .counts) (x + length c) (l (w .1)) (w .2)))

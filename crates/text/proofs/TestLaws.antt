@@ -8,7 +8,7 @@ use native.Mathlib.Nat.{add-zero}
 use lib.Dec.{leb, eqb}
 use borrow.Author.Tests.{leb-true, le-leb, eqb-true, eq-eqb}
 use lib.ListN.{length, getD}
-use Rattle.text.specs.Lines.{every, within}
+use Rattle.text.specs.Lines.{every, inRange}
 use Rattle.text.specs.Repeat.{everyAt}
 use Rattle.text.proofs.Basics.{and-true}
 
@@ -24,10 +24,10 @@ pub and-eqb : (m n : ℕ) (b : Bool) → m ≡ n → b ≡ true → (eqb m n && 
 and-eqb m n b e h = and-both (eqb m n) b (eq-eqb m n e) h
 
 -- a range, as its two bounds
-pub within-is : (lo hi v : ℕ) → within lo hi v ≡ true → (lo ≤ v) × (v ≤ hi)
+pub within-is : (lo hi v : ℕ) → inRange lo hi v ≡ true → (lo ≤ v) × (v ≤ hi)
 within-is lo hi v h = let p = and-true (leb lo v) (leb v hi) h in (leb-true lo v (p .0), leb-true v hi (p .1))
 
-pub is-within : (lo hi v : ℕ) → lo ≤ v → v ≤ hi → within lo hi v ≡ true
+pub is-within : (lo hi v : ℕ) → lo ≤ v → v ≤ hi → inRange lo hi v ≡ true
 is-within lo hi v p q = rw (le-leb lo v p, le-leb v hi q)
 
 module _ {A : Type 0} where

@@ -9,7 +9,7 @@ use Rattle.text.specs.Bytes.{Text, colon}
 use Rattle.text.proofs.Basics.{and-true}
 use Rattle.text.specs.Number.{Read, missing, found, number, item}
 use Rattle.text.specs.Lists.{listEnd, anyList}
-use Rattle.text.specs.Lines.{got, bad, fault, then, judged, every, within, behind}
+use Rattle.text.specs.Lines.{got, bad, fault, then, judged, every, inRange, behind}
 use Rattle.text.specs.Token.{Token, countsAt, tokenAt, readToken, rightToken}
 use Rattle.text.specs.Printed.{decimal, endText, tokenText}
 use Rattle.text.proofs.Standing.{Stands, stands-left, stands-right, ends-join, reach-join}
@@ -33,7 +33,7 @@ token-split key t = sym (append-assoc key (decimal (t .place) ++ (colon ∷ []))
 
 module _ (key : Text) (places : ℕ) (size : ℕ → ℕ) (range : ℕ → Bool) (s : Text) where
   module _ (at : ℕ) (t : Token) (next : ℕ) where
-    counts-back : (b : Bool) (p x : ℕ) → within 1 places p ≡ b → behind key (item number colon s) s at ≡ found p x
+    counts-back : (b : Bool) (p x : ℕ) → inRange 1 places p ≡ b → behind key (item number colon s) s at ≡ found p x
         → countsAt b (size p) range s at p x ≡ got t next
         → Accepts s at (tokenText key t) next (rightToken places size range t)
     unfolding countsAt rightToken
@@ -54,7 +54,7 @@ module _ (key : Text) (places : ℕ) (size : ℕ → ℕ) (range : ℕ → Bool)
         → Accepts s at (tokenText key t) next (rightToken places size range t)
     unfolding tokenAt
     token-back missing q e = absurd (bad≢got e)
-    token-back (found p x) q e = counts-back (within 1 places p) p x refl q e
+    token-back (found p x) q e = counts-back (inRange 1 places p) p x refl q e
 
   token-forth : (at : ℕ) (t : Token) → Stands s at (tokenText key t) → rightToken places size range t ≡ true
       → readToken key places size range s at ≡ got t (at + length (tokenText key t))
@@ -62,7 +62,7 @@ module _ (key : Text) (places : ℕ) (size : ℕ → ℕ) (range : ℕ → Bool)
   token-forth at t st h =
       let p = placeText key (t .place) in
       let c = endText decimal (t .counts) in
-      let l = and-true (within 1 places (t .place)) _ h in
+      let l = and-true (inRange 1 places (t .place)) _ h in
       let m = and-true (eqb (length (t .counts)) (size (t .place))) (every range (t .counts)) (l .1) in
       let whole : Stands s at (p ++ c) = rw (token-split key t) at st in
       rw (

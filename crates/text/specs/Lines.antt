@@ -45,8 +45,8 @@ module _ {A : Type 0} where
   every f [] = true
   every f (a ∷ l) = f a && every f l
 
-abbrev pub within : ℕ → ℕ → ℕ → Bool
-within lo hi v = leb lo v && leb v hi
+abbrev pub inRange : ℕ → ℕ → ℕ → Bool
+inRange lo hi v = leb lo v && leb v hi
 
 -- what f finds behind the key, which has its '=' at its end
 unfoldable pub behind : {A : Type 0} → Text → (ℕ → Read A) → Text → ℕ → Read A

@@ -14,16 +14,16 @@ stopOf (suc n) = comma
 
 module _ {A : Type 0} where
   -- a before the others
-  unfoldable pub before : A → Read (List A) → Read (List A)
-  before a missing = missing
-  before a (found l end) = found (a ∷ l) end
+  unfoldable pub prepended : A → Read (List A) → Read (List A)
+  prepended a missing = missing
+  prepended a (found l end) = found (a ∷ l) end
 
 -- over a reader of one value
 module _ {A : Type 0} (value : Text → ℕ → Read A) where
   -- n values, joined by commas and ended by LF; for no value, nothing at all
   unfoldable pub items : ℕ → Text → ℕ → Read (List A)
   items zero s at = found [] at
-  items (suc n) s at = elim (item value (stopOf n) s at) [ missing ↦ missing | found a next ↦ before a (items n s next) ]
+  items (suc n) s at = elim (item value (stopOf n) s at) [ missing ↦ missing | found a next ↦ prepended a (items n s next) ]
 
   -- a list of n values to the end of its line. 01: "a list of length 0 is nothing after the sign"
   unfoldable pub listEnd : ℕ → Text → ℕ → Read (List A)

@@ -1,6 +1,6 @@
 // Lines `key=number`. A key has its '=' at its end.
 ghost use mathlib.Core.Path.{_≡_};
-ghost use Rattle.text.specs.Lines.{within, readNumber, readHead};
+ghost use Rattle.text.specs.Lines.{inRange, readNumber, readHead};
 ghost use Rattle.text.specs.Answers.{lineOf, endedIn};
 use text::Decimal;
 use text::Ended;
@@ -11,7 +11,7 @@ use text_scan::starts;
 
 // The line of key and one number from lo to hi.
 pub fn number_line(s: &[u8], at: usize, key: &[u8], lo: u16, hi: u16) -> Line
-    ensures { λ r. ⌜ r ≡ lineOf (readNumber (now (key .entry)) (within lo hi) (now (s .entry)) at) ⌝ }
+    ensures { λ r. ⌜ r ≡ lineOf (readNumber (now (key .entry)) (inRange lo hi) (now (s .entry)) at) ⌝ }
 {
     if !starts(s, at, key) {
         return Line::Refused {

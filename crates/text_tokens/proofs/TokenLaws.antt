@@ -9,7 +9,7 @@ use lib.ListN.{length, drop}
 use Rattle.text.specs.Bytes.{Text, colon, starts}
 use Rattle.text.specs.Number.{missing, number, item}
 use Rattle.text.specs.Lists.{anyList}
-use Rattle.text.specs.Lines.{Outcome, got, bad, fault, then, need, within}
+use Rattle.text.specs.Lines.{Outcome, got, bad, fault, then, need, inRange}
 use Rattle.text.specs.Token.{Token, countsAt, tokenAt, readToken}
 use Rattle.text.specs.Answers.{endedOf, keptOr, rowOf, tokenRowOf}
 use Rattle.text.specs.declared.Fault.{Fault}
@@ -53,11 +53,11 @@ module _ (key : Text) (places : ℕ) (size : ℕ → ℕ) (range : ℕ → Bool)
     token-missing e = rw (behind-key key (item number colon s) s at key-is, e)
 
     module _ (fits : places < 65536) (v x : ℕ) (h : Exact (item number colon s (at + length key)) (Capped v) x) where
-      token-judged : (b : Bool) → within 1 places v ≡ b → readToken key places size range s at ≡ countsAt b (size (h .value)) range s at (h .value) x
+      token-judged : (b : Bool) → inRange 1 places v ≡ b → readToken key places size range s at ≡ countsAt b (size (h .value)) range s at (h .value) x
       unfolding readToken tokenAt
       token-judged b e = rw (behind-key key (item number colon s) s at key-is, h .is, capped-within 1 places v (h .value) (lit< tt) fits (h .told), e)
 
-      token-out : within 1 places v ≡ false → readToken key places size range s at ≡ need (anyList s x) 2 at (bad (fault 3 at))
+      token-out : inRange 1 places v ≡ false → readToken key places size range s at ≡ need (anyList s x) 2 at (bad (fault 3 at))
       unfolding countsAt
       token-out e = token-judged false e
 

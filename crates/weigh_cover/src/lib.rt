@@ -46,7 +46,7 @@ fn least(w: &[u16], n: usize) -> u16
 }
 
 // Whether a weight is at least 1, and the sum divided by it at most a count's limit.
-fn enough(sum: u64, w: u16) -> bool
+fn weight_covers(sum: u64, w: u16) -> bool
     ensures { λ r. ⌜ r ≡ (ltb 0 w && leb (sum / w) 65535) ⌝ }
 {
     if w == 0 {
@@ -63,7 +63,7 @@ fn all_enough(sum: u64, w: &[u16], at: usize, n: usize) -> bool
     let mut i = n;
     while 0 < i {
         i -= 1;
-        if !enough(sum, w[at + i]) {
+        if !weight_covers(sum, w[at + i]) {
             return false;
         }
     }

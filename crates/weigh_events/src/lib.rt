@@ -13,7 +13,7 @@ use model::ObjectNet;
 use model_tables::sums::put_sums;
 
 // A weight times an arc.
-fn scaled(w: u16, v: u8) -> u64
+fn arc_weight(w: u16, v: u8) -> u64
     ensures { λ r. ⌜ (r ≡ w * v) × (r ≤ 16711425) ⌝ }
 {
     w as u64 * v as u64
@@ -27,7 +27,7 @@ fn side_weight<'a>(w: &'a [u16], i: usize, v: &'a [u8], j: usize) -> u64
     let mut sum: u64 = 0;
     let mut k = 0;
     while k < 32 {
-        sum += scaled(w[i + k], v[j + k]);
+        sum += arc_weight(w[i + k], v[j + k]);
         k += 1;
     }
     sum
@@ -112,7 +112,7 @@ fn move_gain(kind: u8, index: u8, gain: &[u64]) -> u64
 }
 
 // A gain, as often as it is counted.
-fn counted(c: u8, gain: u64) -> u64
+fn gain_counted(c: u8, gain: u64) -> u64
     requires { ⌜ gain ≤ 1069531200 ⌝ }
     ensures { λ r. ⌜ (r ≡ c * gain) × (r ≤ 272730456000) ⌝ }
 {
@@ -127,7 +127,7 @@ fn counts_gain<'a>(sync: &'a [u8], n: usize, gain: &'a [u64]) -> u64
     let mut sum: u64 = 0;
     let mut k = 0;
     while k < n {
-        sum += counted(sync[k], gain[32 + k]);
+        sum += gain_counted(sync[k], gain[32 + k]);
         k += 1;
     }
     sum

@@ -5,7 +5,7 @@ ghost use lib.ListN.{length};
 ghost use Rattle.weigh.specs.Sums.{product, tokenWeight, markingWeight, PlaceIn, TypesIn};
 
 // A weight times a count.
-fn scaled(w: u16, v: u16) -> u64
+fn count_weight(w: u16, v: u16) -> u64
     ensures { λ r. ⌜ (r ≡ w * v) × (r ≤ 4294836225) ⌝ }
 {
     w as u64 * v as u64
@@ -19,7 +19,7 @@ fn counts_weight<'a>(w: &'a [u16], i: usize, v: &'a [u16], j: usize) -> u64
     let mut sum: u64 = 0;
     let mut k = 0;
     while k < 32 {
-        sum += scaled(w[i + k], v[j + k]);
+        sum += count_weight(w[i + k], v[j + k]);
         k += 1;
     }
     sum

@@ -32,27 +32,27 @@ add-t6 c =
     let a = c .before .before .before in
     omega (arith, most-nets _ (held-is _ (model-held _ _ (a .pre))))
 
-refused-requires : tie.Need-refused-requires
-refused-requires c κs = search needs
+weights-refused-requires : tie.Need-weights-refused-requires
+weights-refused-requires c κs = search needs
 
 returns : tie.Need-returns
 returns c =
     let t = c .before .before in
     let z = t .before in
-    λ w h. c .refused .ensures ∙ turned-zero _ w _ (zero z w h ∙ t .if1 .taken)
+    λ w h. c .weights-refused .ensures ∙ turned-zero _ w _ (zero z w h ∙ t .if1 .taken)
 
 unbalanced-requires : tie.Need-unbalanced-requires
 unbalanced-requires c κs = model-held _ _ (c .before .before .pre)
 
-refused-requires-2 : tie.Need-refused-requires-2
-refused-requires-2 c κs = search needs
+weights-refused-requires-2 : tie.Need-weights-refused-requires-2
+weights-refused-requires-2 c κs = search needs
 
 returns-2 : tie.Need-returns-2
 returns-2 c =
     let t = c .before in
     let u = t .before in
     let e = u .before in
-    λ w h. c .refused2 .ensures ∙ turned-event _ w _ (zero (e .before) w h ∙ e .if1 .left) _ (u .unbalanced .ensures w h) (t .if2 .taken)
+    λ w h. c .weights-refused2 .ensures ∙ turned-event _ w _ (zero (e .before) w h ∙ e .if1 .left) _ (u .unbalanced .ensures w h) (t .if2 .taken)
 
 passed-requires : tie.Need-passed-requires
 passed-requires c κs = c .before .before .before .before .pre
@@ -70,10 +70,10 @@ judged-spec =
     (tie.spec
     all-zero-requires
     add-t6
-    refused-requires
+    weights-refused-requires
     returns
     unbalanced-requires
-    refused-requires-2
+    weights-refused-requires-2
     returns-2
     passed-requires
     returns-3)

@@ -19,27 +19,27 @@ both c = sym (c .before .test-marking .ensures) ∙ not-false _ (c .if2 .left)
 abbrev start : tie.Else2 → tie.Start
 start c = c .before .before .before .before
 
-refused-requires : tie.Need-refused-requires
-refused-requires c κs = search needs
+weights-refused-requires : tie.Need-weights-refused-requires
+weights-refused-requires c κs = search needs
 
 returns : tie.Need-returns
 returns c =
     let t = c .before in
     let a = t .before .before in
-    c .refused .ensures ∙ from-long (a .args .m) (a .args .k) (now (a .args .s)) (a .args .at) (t .if1 .taken)
+    c .weights-refused .ensures ∙ from-long (a .args .m) (a .args .k) (now (a .args .s)) (a .args .at) (t .if1 .taken)
 
 test-marking-requires : tie.Need-test-marking-requires
 test-marking-requires c κs = search needs
 
-refused-requires-2 : tie.Need-refused-requires-2
-refused-requires-2 c κs = search needs
+weights-refused-requires-2 : tie.Need-weights-refused-requires-2
+weights-refused-requires-2 c κs = search needs
 
 returns-2 : tie.Need-returns-2
 returns-2 c =
     let t = c .before in
     let b = t .before in
     let a = b .before .before .before in
-    c .refused2 .ensures
+    c .weights-refused2 .ensures
     ∙ from-unheld (a .args .m) (a .args .k) (now (a .args .s)) (a .args .at) (b .before .if1 .left) (sym (b .test-marking .ensures) ∙ not-true _ (t .if2 .taken))
 
 weight-lines-requires : tie.Need-weight-lines-requires
@@ -66,8 +66,8 @@ returns-3 c =
 fault-answer-requires : tie.Need-fault-answer-requires
 fault-answer-requires c κs = search needs
 
-refused-requires-3 : tie.Need-refused-requires-3
-refused-requires-3 c κs = search needs
+weights-refused-requires-3 : tie.Need-weights-refused-requires-3
+weights-refused-requires-3 c κs = search needs
 
 returns-4 : tie.Need-returns-4
 returns-4 c =
@@ -75,17 +75,17 @@ returns-4 c =
     let l = k .before .before .before .before in
     let e = l .before in
     let a = start e in
-    c .refused3 .ensures ∙ ap refusedWeights (c .before .fault-answer .ensures)
+    c .weights-refused3 .ensures ∙ ap refusedWeights (c .before .fault-answer .ensures)
     ∙ from-stopped (a .args .m) (a .args .k) (now (a .args .s)) (a .args .at) (e .before .before .if1 .left) (both e) _ (l .weight-lines .ensures) _ (k .before .ended .given .1)
 
 pub weights-at-spec : {M : Type 1} → statement M
 weights-at-spec =
     tie.close
     (tie.spec
-    refused-requires
+    weights-refused-requires
     returns
     test-marking-requires
-    refused-requires-2
+    weights-refused-requires-2
     returns-2
     weight-lines-requires
     enum-known-ended
@@ -93,5 +93,5 @@ weights-at-spec =
     judged-requires
     returns-3
     fault-answer-requires
-    refused-requires-3
+    weights-refused-requires-3
     returns-4)

@@ -5,14 +5,14 @@ use Rattle.model_events.proofs.event_at.Tie as tie
 use mathlib.Core.Path.{sym, _∙_}
 use denote.Ref.{now}
 use Rattle.model_text.specs.Reading.{readAct}
-use Rattle.model_text.specs.Answers.{framed}
+use Rattle.model_text.specs.Answers.{asFrame}
 use Rattle.model_text.proofs.EventLaws.{ActGot, act-got, index-in, act-refused, counts-refused, event-read}
 
 abbrev start : tie.After-known-told → tie.Start
 start c = c .before .before .before .before .before
 
 -- the first line, which was accepted
-first : (c : tie.After-known-told) → ActGot (readAct (framed (start c .args .f)) (now (start c .args .s)) (start c .args .at))
+first : (c : tie.After-known-told) → ActGot (readAct (asFrame (start c .args .f)) (now (start c .args .s)) (start c .args .at))
     (c .before .a .given .0 .0) (c .before .a .given .0 .1 .0) (c .before .a .given .0 .1 .1 .0)
 first c = act-got _ _ _ _ (sym (c .before .a .given .1) ∙ c .before .before .before .act-at .ensures)
 
@@ -42,7 +42,7 @@ returns c =
     let r = c .before .before .before in
     let o = r .before in
     c .no-event .ensures
-    ∙ counts-refused (framed (start (o .before) .args .f)) _ _ _ _ _ (first (o .before)) _ (o .own-net .ensures) _ (r .syncs-at .ensures) _
+    ∙ counts-refused (asFrame (start (o .before) .args .f)) _ _ _ _ _ (first (o .before)) _ (o .own-net .ensures) _ (r .syncs-at .ensures) _
     (c .before .enum-told .given .1)
 
 enum-known-a-2 : tie.Need-enum-known-a-2
@@ -56,7 +56,7 @@ returns-2 c =
     let e = c .before .before in
     let r = e .before .before in
     let o = r .before in
-    event-read (framed (start (o .before) .args .f)) _ _ _ _ _ (first (o .before)) _ (o .own-net .ensures) _ (r .syncs-at .ensures) _ (e .e .given .1)
+    event-read (asFrame (start (o .before) .args .f)) _ _ _ _ _ (first (o .before)) _ (o .own-net .ensures) _ (r .syncs-at .ensures) _ (e .e .given .1)
 
 returns-3 : tie.Need-returns-3
 returns-3 c =

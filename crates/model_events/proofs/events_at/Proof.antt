@@ -13,14 +13,14 @@ use Rattle.text.specs.Repeat.{filled}
 use Rattle.text.proofs.Loops.{loop-done}
 use Rattle.model.specs.Held.{holdEvent, noEvent, putAt}
 use Rattle.model_text.specs.Reading.{readEvent}
-use Rattle.model_text.specs.Answers.{framed}
+use Rattle.model_text.specs.Answers.{asFrame}
 use Rattle.model_text.proofs.EventLaws.{events-more, events-stop, events-refused, events-read}
 
 abbrev Inv-loop : tie.InvT-loop
 Inv-loop s from f n none events₀ at₀ i₀ events at i =
     (i ≤ n)
-    × (filled (putAt holdEvent) 0 (replicate 64 noEvent) (many (readEvent (framed f) s) n from)
-    ≡ filled (putAt holdEvent) i events (many (readEvent (framed f) s) (n - i) at))
+    × (filled (putAt holdEvent) 0 (replicate 64 noEvent) (many (readEvent (asFrame f) s) n from)
+    ≡ filled (putAt holdEvent) i events (many (readEvent (asFrame f) s) (n - i) at))
 
 abbrev μ-loop : tie.MeasureT-loop
 μ-loop s from f n none events₀ at₀ i₀ events at i = n - i

@@ -6,10 +6,10 @@ use mathlib.Core.Path.{_≡_, sym, _∙_}
 use native.Mathlib.Omega.{arith}
 use denote.Ref.{now}
 use Rattle.text.specs.Bytes.{bytes}
-use Rattle.text.specs.Lines.{within, readNumber}
+use Rattle.text.specs.Lines.{inRange, readNumber}
 use Rattle.text.specs.Answers.{lineOf}
 use Rattle.text.specs.declared.Line.the-variants.{Value}
-use Rattle.model_text.specs.Answers.{framed}
+use Rattle.model_text.specs.Answers.{asFrame}
 use Rattle.model_text.specs.declared.Frame.{Frame}
 use Rattle.model_text.proofs.LineAnswers.{value-in}
 use Rattle.model_text.proofs.ActLaws.{idle-refused, idle-black, idle-read}
@@ -22,7 +22,7 @@ frame c = start c .args .f
 
 -- the line that was accepted
 first : (c : tie.After-known-told) → Value (c .before .a .given .0 .0) (c .before .a .given .0 .1 .0)
-    ≡ lineOf (readNumber (bytes "idle=") (within 1 (frame c .places)) (now (start c .args .s)) (start c .args .at))
+    ≡ lineOf (readNumber (bytes "idle=") (inRange 1 (frame c .places)) (now (start c .args .s)) (start c .args .at))
 first c = sym (c .before .a .given .1) ∙ c .before .before .before .number-line .ensures
 
 slice-aggregate-number-line : tie.Need-slice-aggregate-number-line
@@ -50,7 +50,7 @@ array-read-if1 c =
     omega (arith, p .0, p .1, start t .pre .places)
 
 returns : tie.Need-returns
-returns c = idle-black (framed (frame (c .before .before))) _ _ _ _ (first (c .before .before)) (c .if1 .taken)
+returns c = idle-black (asFrame (frame (c .before .before))) _ _ _ _ (first (c .before .before)) (c .if1 .taken)
 
 cast-t18 : tie.Need-cast-t18
 cast-t18 c =
@@ -61,7 +61,7 @@ enum-known-a-2 : tie.Need-enum-known-a-2
 enum-known-a-2 c = search needs
 
 returns-2 : tie.Need-returns-2
-returns-2 c = idle-read (framed (frame (c .before .before))) _ _ _ _ (first (c .before .before)) (c .if1 .left)
+returns-2 c = idle-read (asFrame (frame (c .before .before))) _ _ _ _ (first (c .before .before)) (c .if1 .left)
 
 returns-3 : tie.Need-returns-3
 returns-3 c = idle-refused _ _ _ _ (sym (c .before .a2 .given .1) ∙ c .before .before .before .number-line .ensures)

@@ -6,10 +6,10 @@ use mathlib.Core.Path.{_≡_, sym, _∙_}
 use native.Mathlib.Omega.{arith}
 use denote.Ref.{now}
 use Rattle.text.specs.Bytes.{bytes}
-use Rattle.text.specs.Lines.{within, readNumber}
+use Rattle.text.specs.Lines.{inRange, readNumber}
 use Rattle.text.specs.Answers.{lineOf}
 use Rattle.text.specs.declared.Line.the-variants.{Value}
-use Rattle.model_text.specs.Answers.{framed}
+use Rattle.model_text.specs.Answers.{asFrame}
 use Rattle.model_text.specs.declared.Frame.{Frame}
 use Rattle.model_text.proofs.LineAnswers.{value-in}
 use Rattle.model_text.proofs.ActLaws.{move-refused, move-read}
@@ -22,7 +22,7 @@ frame c = start c .args .f
 
 -- the line that was accepted
 first : (c : tie.After-known-told) → Value (c .before .a .given .0 .0) (c .before .a .given .0 .1 .0)
-    ≡ lineOf (readNumber (bytes "event=") (within 1 (frame c .moves)) (now (start c .args .s)) (start c .args .at))
+    ≡ lineOf (readNumber (bytes "event=") (inRange 1 (frame c .moves)) (now (start c .args .s)) (start c .args .at))
 first c = sym (c .before .a .given .1) ∙ c .before .before .before .number-line .ensures
 
 slice-aggregate-number-line : tie.Need-slice-aggregate-number-line
@@ -44,7 +44,7 @@ enum-known-a-2 : tie.Need-enum-known-a-2
 enum-known-a-2 c = search needs
 
 returns : tie.Need-returns
-returns c = move-read (framed (frame c)) _ _ _ _ (first c)
+returns c = move-read (asFrame (frame c)) _ _ _ _ (first c)
 
 returns-2 : tie.Need-returns-2
 returns-2 c = move-refused _ _ _ _ (sym (c .before .a2 .given .1) ∙ c .before .before .before .number-line .ensures)

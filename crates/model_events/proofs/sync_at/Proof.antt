@@ -3,7 +3,7 @@ use borrow.Author.Needs.{needs}
 use Rattle.model_events.proofs.sync_at.Statement.{statement}
 use Rattle.model_events.proofs.sync_at.Tie as tie
 use borrow.Author.Tests.{not-true, not-false}
-use Rattle.model_text.specs.Answers.{framed}
+use Rattle.model_text.specs.Answers.{asFrame}
 use Rattle.model_text.proofs.ActLaws.{sync-refused, no-part, sync-read}
 
 slice-aggregate-list-line : tie.Need-slice-aggregate-list-line
@@ -28,7 +28,7 @@ returns : tie.Need-returns
 returns c =
     let r = c .before .before in
     let a = r .before .before .before .before .args in
-    sync-refused (framed (a .f)) _ _ (a .n) _ _ (r .list-line .ensures) _ (c .enum-told .given .1)
+    sync-refused (asFrame (a .f)) _ _ (a .n) _ _ (r .list-line .ensures) _ (c .enum-told .given .1)
 
 narrow-requires : tie.Need-narrow-requires
 narrow-requires c κs = search needs
@@ -43,7 +43,7 @@ returns-2 c =
     let e = n .before .before .before in
     let r = e .before .before in
     let s = r .before .before .before .before in
-    no-part (framed (s .args .f)) _ _ (s .args .n) _ _ (r .list-line .ensures) (s .pre .0 .steps (s .args .n)) _ (e .e .given .1)
+    no-part (asFrame (s .args .f)) _ _ (s .args .n) _ _ (r .list-line .ensures) (s .pre .0 .steps (s .args .n)) _ (e .e .given .1)
     _ (n .narrow .ensures) _ (t .takes-part .ensures) (not-true _ (c .if1 .taken))
 
 returns-3 : tie.Need-returns-3
@@ -53,7 +53,7 @@ returns-3 c =
     let e = n .before .before .before in
     let r = e .before .before in
     let s = r .before .before .before .before in
-    sync-read (framed (s .args .f)) _ _ (s .args .n) _ _ (r .list-line .ensures) (s .pre .0 .steps (s .args .n)) _ (e .e .given .1)
+    sync-read (asFrame (s .args .f)) _ _ (s .args .n) _ _ (r .list-line .ensures) (s .pre .0 .steps (s .args .n)) _ (e .e .given .1)
     _ (n .narrow .ensures) _ (t .takes-part .ensures) (not-false _ (c .if1 .left))
 
 pub sync-at-spec : {M : Type 1} → statement M

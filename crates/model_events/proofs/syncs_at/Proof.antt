@@ -12,14 +12,14 @@ use Rattle.text.specs.Repeat.{manyAt, filled}
 use Rattle.text.proofs.Loops.{done-at}
 use Rattle.model.specs.Held.{row, putRow}
 use Rattle.model_text.specs.Reading.{readSync}
-use Rattle.model_text.specs.Answers.{framed}
+use Rattle.model_text.specs.Answers.{asFrame}
 use Rattle.model_text.proofs.EventLaws.{syncs-more, syncs-stop, syncs-refused, syncs-read}
 
 abbrev Inv-loop : tie.InvT-loop
 Inv-loop s from f own nets sync₀ at₀ i₀ sync at i =
     (i ≤ f .nets) × (length sync ≡ 256)
-    × (filled (putRow row) 0 (replicate 256 0) (manyAt (readSync (framed f) own s) 0 (f .nets) from)
-    ≡ filled (putRow row) i sync (manyAt (readSync (framed f) own s) i (f .nets - i) at))
+    × (filled (putRow row) 0 (replicate 256 0) (manyAt (readSync (asFrame f) own s) 0 (f .nets) from)
+    ≡ filled (putRow row) i sync (manyAt (readSync (asFrame f) own s) i (f .nets - i) at))
 
 abbrev μ-loop : tie.MeasureT-loop
 μ-loop s from f own nets sync₀ at₀ i₀ sync at i = f .nets - i

@@ -5,7 +5,7 @@ use Rattle.model_nets.proofs.net_at.Tie as tie
 use mathlib.Core.Path.{_≡_, ap, sym, _∙_}
 use denote.Ref.{now}
 use Rattle.text.specs.Bytes.{bytes}
-use Rattle.text.specs.Lines.{within, readNumber}
+use Rattle.text.specs.Lines.{inRange, readNumber}
 use Rattle.text.specs.Answers.{lineOf}
 use Rattle.text.specs.declared.Line.the-variants.{Value}
 use Rattle.text.specs.declared.Ended.{Ended}
@@ -25,11 +25,11 @@ up c = c .before .before .before .before .before
 
 -- the lines that were accepted on the way
 first : (c : tie.After-known-told) → Value (c .before .a .given .0 .0) (c .before .a .given .0 .1 .0)
-    ≡ lineOf (readNumber (bytes "inner=") (within 1 32) (now (start c .args .s)) (start c .args .at))
+    ≡ lineOf (readNumber (bytes "inner=") (inRange 1 32) (now (start c .args .s)) (start c .args .at))
 first c = sym (c .before .a .given .1) ∙ c .before .before .before .number-line .ensures
 
 second : (c : tie.After-known-told2) → Value (c .before .b .given .0 .0) (c .before .b .given .0 .1 .0)
-    ≡ lineOf (readNumber (bytes "steps=") (within 0 32) (now (start (up c) .args .s)) (up c .before .a .given .0 .1 .0))
+    ≡ lineOf (readNumber (bytes "steps=") (inRange 0 32) (now (start (up c) .args .s)) (up c .before .a .given .0 .1 .0))
 second c = sym (c .before .b .given .1) ∙ c .before .before .before .number-line2 .ensures
 
 slice-aggregate-number-line : tie.Need-slice-aggregate-number-line

@@ -7,7 +7,7 @@ use mathlib.Core.List.{List}
 use Prim.Native.Nat.{ℕ}
 use denote.Ref.{now}
 use Rattle.text.specs.Bytes.{bytes}
-use Rattle.text.specs.Lines.{within, readNumber, readHead}
+use Rattle.text.specs.Lines.{inRange, readNumber, readHead}
 use Rattle.text.specs.Answers.{lineOf}
 use Rattle.text.specs.declared.Line.the-variants.{Value}
 use Rattle.model_text.proofs.PartLaws.{noOutline, eos-refused, nets-refused, places-refused, types-refused, outline-read}
@@ -31,11 +31,11 @@ first : (c : tie.After-known-told) → Value (c .before .a .given .0 .0) (c .bef
 first c = sym (c .before .a .given .1) ∙ c .before .before .before .head-line .ensures
 
 second : (c : tie.After-known-told2) → Value (c .before .b .given .0 .0) (c .before .b .given .0 .1 .0)
-    ≡ lineOf (readNumber (bytes "nets=") (within 0 8) (text (up₂ c)) (up₂ c .before .a .given .0 .1 .0))
+    ≡ lineOf (readNumber (bytes "nets=") (inRange 0 8) (text (up₂ c)) (up₂ c .before .a .given .0 .1 .0))
 second c = sym (c .before .b .given .1) ∙ c .before .before .before .number-line .ensures
 
 third : (c : tie.After-known-told3) → Value (c .before .c .given .0 .0) (c .before .c .given .0 .1 .0)
-    ≡ lineOf (readNumber (bytes "places=") (within 1 32) (text (up₂ (up₃ c))) (up₃ c .before .b .given .0 .1 .0))
+    ≡ lineOf (readNumber (bytes "places=") (inRange 1 32) (text (up₂ (up₃ c))) (up₃ c .before .b .given .0 .1 .0))
 third c = sym (c .before .c .given .1) ∙ c .before .before .before .number-line2 .ensures
 
 slice-aggregate-head-line : tie.Need-slice-aggregate-head-line

@@ -38,22 +38,22 @@ passed c = sym (c .before .test-marking .ensures) ∙ not-false _ (c .if2 .left)
 left-requires : tie.Need-left-requires
 left-requires c κs = search needs
 
-refused-requires : tie.Need-refused-requires
-refused-requires c κs = search needs
+run-refused-requires : tie.Need-run-refused-requires
+run-refused-requires c κs = search needs
 
 returns : tie.Need-returns
-returns c = c .refused .ensures ∙ trace-long _ _ _ (c .before .if1 .taken) ∙ on-rest (c .before .before)
+returns c = c .run-refused .ensures ∙ trace-long _ _ _ (c .before .if1 .taken) ∙ on-rest (c .before .before)
 
 test-marking-requires : tie.Need-test-marking-requires
 test-marking-requires c κs = search needs
 
-refused-requires-2 : tie.Need-refused-requires-2
-refused-requires-2 c κs = search needs
+run-refused-requires-2 : tie.Need-run-refused-requires-2
+run-refused-requires-2 c κs = search needs
 
 returns-2 : tie.Need-returns-2
 returns-2 c =
     let t = c .before in
-    c .refused2 .ensures ∙ trace-unheld _ _ _ (t .before .before .if1 .left) (sym (t .before .test-marking .ensures) ∙ not-true _ (t .if2 .taken))
+    c .run-refused2 .ensures ∙ trace-unheld _ _ _ (t .before .before .if1 .left) (sym (t .before .test-marking .ensures) ∙ not-true _ (t .if2 .taken))
     ∙ on-rest (t .before .before .before)
 
 slice-aggregate-head-line : tie.Need-slice-aggregate-head-line
@@ -68,15 +68,15 @@ enum-known-head c = search needs
 enum-told : tie.Need-enum-told
 enum-told c = search needs
 
-refused-requires-3 : tie.Need-refused-requires-3
-refused-requires-3 c κs = search needs
+run-refused-requires-3 : tie.Need-run-refused-requires-3
+run-refused-requires-3 c κs = search needs
 
 returns-3 : tie.Need-returns-3
 returns-3 c =
     let t = c .before in
     let h = t .before .before in
     let p = h .before .before in
-    c .refused3 .ensures
+    c .run-refused3 .ensures
     ∙ trace-unheaded _ _ _ (p .before .before .if1 .left) (passed p) _ (line-bad _ _ (sym (t .enum-told .given .1) ∙ h .head-line .ensures))
     ∙ on-rest (rest p)
 
@@ -129,16 +129,16 @@ run-at-spec =
     tie.close
     (tie.spec
     left-requires
-    refused-requires
+    run-refused-requires
     returns
     test-marking-requires
-    refused-requires-2
+    run-refused-requires-2
     returns-2
     slice-aggregate-head-line
     head-line-requires
     enum-known-head
     enum-told
-    refused-requires-3
+    run-refused-requires-3
     returns-3
     pack-requires
     slice-aggregate-run-steps

@@ -12,7 +12,7 @@ use denote.Ref.{now}
 use Rattle.text.specs.Bytes.{lf, starts}
 use Rattle.text.proofs.ByteLaws.{key-past}
 use Rattle.text.specs.Number.{number, item}
-use Rattle.text.specs.Lines.{within}
+use Rattle.text.specs.Lines.{inRange}
 use Rattle.text.proofs.NumberLaws.{Exact, Capped, missing-of, exact-of}
 use Rattle.text.proofs.LineLaws.{within-low, within-low-not, within-most, line-other, line-missing, line-out, line-value}
 
@@ -29,7 +29,7 @@ read c = exact-of _ _ _ (sym (c .before .value .given .1) ∙ c .before .before 
 inside : (c : tie.Else3) →
     let m = c .before .before in
     let a = m .before .before .before .before .before .before .before .before .args in
-    within (a .lo) (a .hi) (m .before .value .given .0 .0) ≡ true
+    inRange (a .lo) (a .hi) (m .before .value .given .0 .0) ≡ true
 inside c = within-low-not _ _ _ (c .before .if2 .left) ∙ le-leb _ _ (c .if3 .left)
 
 starts-requires : tie.Need-starts-requires

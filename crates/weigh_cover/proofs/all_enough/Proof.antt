@@ -22,23 +22,23 @@ loop-holds c = (search needs, refl)
 sub-i : tie.Need-sub-i Inv-loop μ-loop
 sub-i c = search needs
 
-add-enough : tie.Need-add-enough Inv-loop μ-loop
-add-enough c = search needs
+add-weight-covers : tie.Need-add-weight-covers Inv-loop μ-loop
+add-weight-covers c = search needs
 
-mul-enough : tie.Need-mul-enough Inv-loop μ-loop
-mul-enough c = search needs
+mul-weight-covers : tie.Need-mul-weight-covers Inv-loop μ-loop
+mul-weight-covers c = search needs
 
-shared-slice-read-enough : tie.Need-shared-slice-read-enough Inv-loop μ-loop
-shared-slice-read-enough c = search needs
+shared-slice-read-weight-covers : tie.Need-shared-slice-read-weight-covers Inv-loop μ-loop
+shared-slice-read-weight-covers c = search needs
 
-enough-requires : tie.Need-enough-requires Inv-loop μ-loop
-enough-requires c κs = search needs
+weight-covers-requires : tie.Need-weight-covers-requires Inv-loop μ-loop
+weight-covers-requires c κs = search needs
 
 returns : tie.Need-returns Inv-loop μ-loop
 returns c =
     let e = c .before in
     let t = e .before .before in
-    sym (t .before .loop .inv .1 ∙ below-bad _ _ (t .loop-test .taken) (sym (e .enough .ensures) ∙ not-true _ (c .if1 .taken)))
+    sym (t .before .loop .inv .1 ∙ below-bad _ _ (t .loop-test .taken) (sym (e .weight-covers .ensures) ∙ not-true _ (c .if1 .taken)))
 
 loop-less : tie.Need-loop-less Inv-loop μ-loop
 loop-less c = search needs
@@ -47,7 +47,7 @@ loop-again : tie.Need-loop-again Inv-loop μ-loop
 loop-again c =
     let e = c .before in
     let t = e .before .before in
-    (omega arith, t .before .loop .inv .1 ∙ below-good _ _ (t .loop-test .taken) (sym (e .enough .ensures) ∙ not-false _ (c .if1 .left)))
+    (omega arith, t .before .loop .inv .1 ∙ below-good _ _ (t .loop-test .taken) (sym (e .weight-covers .ensures) ∙ not-false _ (c .if1 .left)))
 
 returns-2 : tie.Need-returns-2 Inv-loop μ-loop
 returns-2 c = sym (c .before .loop .inv .1 ∙ below-end _ _ (c .loop-test .left))
@@ -60,10 +60,10 @@ all-enough-spec =
     μ-loop
     loop-holds
     sub-i
-    add-enough
-    mul-enough
-    shared-slice-read-enough
-    enough-requires
+    add-weight-covers
+    mul-weight-covers
+    shared-slice-read-weight-covers
+    weight-covers-requires
     returns
     loop-less
     loop-again

@@ -19,20 +19,20 @@ abbrev μ-loop : tie.MeasureT-loop
 loop-holds : tie.Need-loop-holds Inv-loop μ-loop
 loop-holds c = (search needs, sym (total-none _), search needs)
 
-shared-slice-read-counted : tie.Need-shared-slice-read-counted Inv-loop μ-loop
-shared-slice-read-counted c = search needs
+shared-slice-read-gain-counted : tie.Need-shared-slice-read-gain-counted Inv-loop μ-loop
+shared-slice-read-gain-counted c = search needs
 
-add-counted : tie.Need-add-counted Inv-loop μ-loop
-add-counted c = search needs
+add-gain-counted : tie.Need-add-gain-counted Inv-loop μ-loop
+add-gain-counted c = search needs
 
-mul-counted : tie.Need-mul-counted Inv-loop μ-loop
-mul-counted c = search needs
+mul-gain-counted : tie.Need-mul-gain-counted Inv-loop μ-loop
+mul-gain-counted c = search needs
 
-shared-slice-read-counted-2 : tie.Need-shared-slice-read-counted-2 Inv-loop μ-loop
-shared-slice-read-counted-2 c = search needs
+shared-slice-read-gain-counted-2 : tie.Need-shared-slice-read-gain-counted-2 Inv-loop μ-loop
+shared-slice-read-gain-counted-2 c = search needs
 
-counted-requires : tie.Need-counted-requires Inv-loop μ-loop
-counted-requires c κs = c .before .before .before .before .before .before .pre .3 _
+gain-counted-requires : tie.Need-gain-counted-requires Inv-loop μ-loop
+gain-counted-requires c κs = c .before .before .before .before .before .before .pre .3 _
 
 add-sum : tie.Need-add-sum Inv-loop μ-loop
 add-sum c = search needs
@@ -46,7 +46,7 @@ loop-less c = search needs
 loop-again : tie.Need-loop-again Inv-loop μ-loop
 loop-again c =
     let l = c .before .before .before .before .loop in
-    (search needs, add-next _ _ _ _ (l .inv .1) (c .counted .ensures .0), omega arith)
+    (search needs, add-next _ _ _ _ (l .inv .1) (c .gain-counted .ensures .0), omega arith)
 
 returns : tie.Need-returns Inv-loop μ-loop
 returns c =
@@ -61,11 +61,11 @@ counts-gain-spec =
     Inv-loop
     μ-loop
     loop-holds
-    shared-slice-read-counted
-    add-counted
-    mul-counted
-    shared-slice-read-counted-2
-    counted-requires
+    shared-slice-read-gain-counted
+    add-gain-counted
+    mul-gain-counted
+    shared-slice-read-gain-counted-2
+    gain-counted-requires
     add-sum
     add-k
     loop-less

@@ -19,23 +19,23 @@ abbrev μ-loop : tie.MeasureT-loop
 loop-holds : tie.Need-loop-holds Inv-loop μ-loop
 loop-holds c = (search needs, sym (total-none _), search needs)
 
-add-scaled : tie.Need-add-scaled Inv-loop μ-loop
-add-scaled c = search needs
+add-arc-weight : tie.Need-add-arc-weight Inv-loop μ-loop
+add-arc-weight c = search needs
 
-mul-scaled : tie.Need-mul-scaled Inv-loop μ-loop
-mul-scaled c = search needs
+mul-arc-weight : tie.Need-mul-arc-weight Inv-loop μ-loop
+mul-arc-weight c = search needs
 
-shared-slice-read-scaled : tie.Need-shared-slice-read-scaled Inv-loop μ-loop
-shared-slice-read-scaled c = search needs
+shared-slice-read-arc-weight : tie.Need-shared-slice-read-arc-weight Inv-loop μ-loop
+shared-slice-read-arc-weight c = search needs
 
-add-scaled-2 : tie.Need-add-scaled-2 Inv-loop μ-loop
-add-scaled-2 c = search needs
+add-arc-weight-2 : tie.Need-add-arc-weight-2 Inv-loop μ-loop
+add-arc-weight-2 c = search needs
 
-shared-slice-read-scaled-2 : tie.Need-shared-slice-read-scaled-2 Inv-loop μ-loop
-shared-slice-read-scaled-2 c = search needs
+shared-slice-read-arc-weight-2 : tie.Need-shared-slice-read-arc-weight-2 Inv-loop μ-loop
+shared-slice-read-arc-weight-2 c = search needs
 
-scaled-requires : tie.Need-scaled-requires Inv-loop μ-loop
-scaled-requires c κs = search needs
+arc-weight-requires : tie.Need-arc-weight-requires Inv-loop μ-loop
+arc-weight-requires c κs = search needs
 
 add-sum : tie.Need-add-sum Inv-loop μ-loop
 add-sum c = search needs
@@ -49,7 +49,7 @@ loop-less c = search needs
 loop-again : tie.Need-loop-again Inv-loop μ-loop
 loop-again c =
     let l = c .before .before .before .before .loop in
-    (search needs, add-next _ _ _ _ (l .inv .1) (c .scaled .ensures .0), omega arith)
+    (search needs, add-next _ _ _ _ (l .inv .1) (c .arc-weight .ensures .0), omega arith)
 
 returns : tie.Need-returns Inv-loop μ-loop
 unfolding product
@@ -62,12 +62,12 @@ side-weight-spec =
     Inv-loop
     μ-loop
     loop-holds
-    add-scaled
-    mul-scaled
-    shared-slice-read-scaled
-    add-scaled-2
-    shared-slice-read-scaled-2
-    scaled-requires
+    add-arc-weight
+    mul-arc-weight
+    shared-slice-read-arc-weight
+    add-arc-weight-2
+    shared-slice-read-arc-weight-2
+    arc-weight-requires
     add-sum
     add-k
     loop-less

@@ -19,26 +19,26 @@ abbrev μ-loop : tie.MeasureT-loop
 loop-holds : tie.Need-loop-holds Inv-loop μ-loop
 loop-holds c = (search needs, sym (total-none _), search needs)
 
-add-scaled : tie.Need-add-scaled Inv-loop μ-loop
-add-scaled c = search needs
+add-count-weight : tie.Need-add-count-weight Inv-loop μ-loop
+add-count-weight c = search needs
 
-mul-scaled : tie.Need-mul-scaled Inv-loop μ-loop
-mul-scaled c = search needs
+mul-count-weight : tie.Need-mul-count-weight Inv-loop μ-loop
+mul-count-weight c = search needs
 
-shared-slice-read-scaled : tie.Need-shared-slice-read-scaled Inv-loop μ-loop
-shared-slice-read-scaled c = search needs
+shared-slice-read-count-weight : tie.Need-shared-slice-read-count-weight Inv-loop μ-loop
+shared-slice-read-count-weight c = search needs
 
-add-scaled-2 : tie.Need-add-scaled-2 Inv-loop μ-loop
-add-scaled-2 c = search needs
+add-count-weight-2 : tie.Need-add-count-weight-2 Inv-loop μ-loop
+add-count-weight-2 c = search needs
 
-mul-scaled-2 : tie.Need-mul-scaled-2 Inv-loop μ-loop
-mul-scaled-2 c = search needs
+mul-count-weight-2 : tie.Need-mul-count-weight-2 Inv-loop μ-loop
+mul-count-weight-2 c = search needs
 
-shared-slice-read-scaled-2 : tie.Need-shared-slice-read-scaled-2 Inv-loop μ-loop
-shared-slice-read-scaled-2 c = search needs
+shared-slice-read-count-weight-2 : tie.Need-shared-slice-read-count-weight-2 Inv-loop μ-loop
+shared-slice-read-count-weight-2 c = search needs
 
-scaled-requires : tie.Need-scaled-requires Inv-loop μ-loop
-scaled-requires c κs = search needs
+count-weight-requires : tie.Need-count-weight-requires Inv-loop μ-loop
+count-weight-requires c κs = search needs
 
 add-sum : tie.Need-add-sum Inv-loop μ-loop
 add-sum c = search needs
@@ -52,7 +52,7 @@ loop-less c = search needs
 loop-again : tie.Need-loop-again Inv-loop μ-loop
 loop-again c =
     let l = c .before .before .before .before .loop in
-    (search needs, add-next _ _ _ _ (l .inv .1) (c .scaled .ensures .0), omega arith)
+    (search needs, add-next _ _ _ _ (l .inv .1) (c .count-weight .ensures .0), omega arith)
 
 returns : tie.Need-returns Inv-loop μ-loop
 unfolding product
@@ -65,13 +65,13 @@ counts-weight-spec =
     Inv-loop
     μ-loop
     loop-holds
-    add-scaled
-    mul-scaled
-    shared-slice-read-scaled
-    add-scaled-2
-    mul-scaled-2
-    shared-slice-read-scaled-2
-    scaled-requires
+    add-count-weight
+    mul-count-weight
+    shared-slice-read-count-weight
+    add-count-weight-2
+    mul-count-weight-2
+    shared-slice-read-count-weight-2
+    count-weight-requires
     add-sum
     add-k
     loop-less

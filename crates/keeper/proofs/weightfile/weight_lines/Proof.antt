@@ -15,7 +15,7 @@ use Rattle.text.specs.declared.Ended.{Ended}
 use Rattle.model.proofs.HeldTests.{held-is, most-nets, most-places}
 use Rattle.keeper.specs.Held.{noWeights}
 use Rattle.keeper.specs.declared.WeightLines.{WeightLines}
-use Rattle.keeper.proofs.ChainLaws.{head-refused, outer-refused, inner-refused, more-refused, file-read}
+use Rattle.keeper.proofs.ChainLaws.{head-weights-refused, outer-weights-refused, inner-weights-refused, more-weights-refused, file-read}
 
 abbrev none : Ended → WeightLines
 none e = record { ended = e; weights = noWeights }
@@ -64,7 +64,7 @@ returns c =
     let l = o .before .before in
     let a = l .before .before .before in
     c .no-lines .ensures ∙ ap none (c .before .ended-of .ensures)
-    ∙ head-refused (a .args .m) (long a) (few a) (now (a .args .s)) (a .args .at) _ _ (o .enum-told .given .1) (l .head-line .ensures)
+    ∙ head-weights-refused (a .args .m) (long a) (few a) (now (a .args .s)) (a .args .at) _ _ (o .enum-told .given .1) (l .head-line .ensures)
 
 slice-aggregate-weight-line : tie.Need-slice-aggregate-weight-line
 slice-aggregate-weight-line c = search needs
@@ -88,7 +88,7 @@ returns-2 c =
     let p = l .before .before in
     let a = start p in
     c .no-lines2 .ensures
-    ∙ outer-refused (a .args .m) (long a) (few a) (now (a .args .s)) (a .args .at) _ _ (first p) _ (l .weight-line .ensures) _ (o .enum-told2 .given .1)
+    ∙ outer-weights-refused (a .args .m) (long a) (few a) (now (a .args .s)) (a .args .at) _ _ (first p) _ (l .weight-line .ensures) _ (o .enum-told2 .given .1)
 
 outer-row-requires : tie.Need-outer-row-requires
 outer-row-requires c κs = search needs
@@ -116,7 +116,7 @@ returns-3 c =
     let p = up q in
     let a = start p in
     c .no-lines3 .ensures
-    ∙ inner-refused (a .args .m) (long a) (few a) (now (a .args .s)) (a .args .at) _ _ (first p) _ (l .weight-line .ensures) _ (q .before .e .given .1) _
+    ∙ inner-weights-refused (a .args .m) (long a) (few a) (now (a .args .s)) (a .args .at) _ _ (first p) _ (l .weight-line .ensures) _ (q .before .e .given .1) _
     (i .before .before .outer-row .ensures) _ (i .inner-lines .ensures) _ (o .enum-told3 .given .1)
 
 no-lines-requires-4 : tie.Need-no-lines-requires-4
@@ -132,7 +132,7 @@ returns-4 c =
     let p = up q in
     let a = start p in
     c .no-lines4 .ensures
-    ∙ more-refused (a .args .m) (long a) (few a) (now (a .args .s)) (a .args .at) _ _ (first p) _ (l .weight-line .ensures) _ (q .before .e .given .1) _
+    ∙ more-weights-refused (a .args .m) (long a) (few a) (now (a .args .s)) (a .args .at) _ _ (first p) _ (l .weight-line .ensures) _ (q .before .e .given .1) _
     (i .before .before .outer-row .ensures) _ (i .inner-lines .ensures) _ (k .before .f .given .1) (t .if1 .taken)
 
 returns-5 : tie.Need-returns-5

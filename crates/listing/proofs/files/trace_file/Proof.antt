@@ -5,11 +5,11 @@ use Rattle.listing.proofs.files.trace_file.Tie as tie
 use mathlib.Core.Path.{_∙_}
 use Rattle.listing.proofs.ThreeFiles.{trace-long, trace-short}
 
-refused-requires : tie.Need-refused-requires
-refused-requires c κs = search needs
+run-refused-requires : tie.Need-run-refused-requires
+run-refused-requires c κs = search needs
 
 returns : tie.Need-returns
-returns c = c .refused .ensures ∙ trace-long _ _ _ (c .before .if1 .taken)
+returns c = c .run-refused .ensures ∙ trace-long _ _ _ (c .before .if1 .taken)
 
 run-requires : tie.Need-run-requires
 run-requires c κs = search needs
@@ -18,4 +18,4 @@ returns-2 : tie.Need-returns-2
 returns-2 c = c .run .ensures ∙ trace-short _ _ _ (c .before .if1 .left)
 
 pub trace-file-spec : {M : Type 1} → statement M
-trace-file-spec = tie.close (tie.spec refused-requires returns run-requires returns-2)
+trace-file-spec = tie.close (tie.spec run-refused-requires returns run-requires returns-2)

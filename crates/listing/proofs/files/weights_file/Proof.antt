@@ -5,11 +5,11 @@ use Rattle.listing.proofs.files.weights_file.Tie as tie
 use mathlib.Core.Path.{_∙_}
 use Rattle.listing.proofs.ThreeFiles.{weights-long, weights-short}
 
-refused-requires : tie.Need-refused-requires
-refused-requires c κs = search needs
+weights-refused-requires : tie.Need-weights-refused-requires
+weights-refused-requires c κs = search needs
 
 returns : tie.Need-returns
-returns c = c .refused .ensures ∙ weights-long _ _ _ (c .before .if1 .taken)
+returns c = c .weights-refused .ensures ∙ weights-long _ _ _ (c .before .if1 .taken)
 
 check-weights-requires : tie.Need-check-weights-requires
 check-weights-requires c κs = search needs
@@ -18,4 +18,4 @@ returns-2 : tie.Need-returns-2
 returns-2 c = c .check-weights .ensures ∙ weights-short _ _ _ (c .before .if1 .left)
 
 pub weights-file-spec : {M : Type 1} → statement M
-weights-file-spec = tie.close (tie.spec refused-requires returns check-weights-requires returns-2)
+weights-file-spec = tie.close (tie.spec weights-refused-requires returns check-weights-requires returns-2)
