@@ -53,11 +53,11 @@ returns-2 c =
     let a = e .before .before .before in
     cover-many (a .args .places) (a .args .nets) (a .args .objects) (a .args .t4) (a .args .sum) (some e) _ (l .least .ensures) (c .if2 .taken)
 
-slice-aggregate-nets-weight-covers : tie.Need-slice-aggregate-nets-weight-covers
-slice-aggregate-nets-weight-covers c = search needs
+slice-aggregate-nets-enough : tie.Need-slice-aggregate-nets-enough
+slice-aggregate-nets-enough c = search needs
 
-nets-weight-covers-requires : tie.Need-nets-weight-covers-requires
-nets-weight-covers-requires c κs = search needs
+nets-enough-requires : tie.Need-nets-enough-requires
+nets-enough-requires c κs = search needs
 
 returns-3 : tie.Need-returns-3
 returns-3 c =
@@ -65,7 +65,7 @@ returns-3 c =
     let l = t .before in
     let e = l .before .before in
     let a = e .before .before .before in
-    cover-rest (a .args .places) (a .args .nets) (a .args .objects) (a .args .t4) (a .args .sum) (some e) _ (l .least .ensures) (t .if2 .left) _ (c .nets-weight-covers .ensures)
+    cover-rest (a .args .places) (a .args .nets) (a .args .objects) (a .args .t4) (a .args .sum) (some e) _ (l .least .ensures) (t .if2 .left) _ (c .nets-enough .ensures)
 
 pub covers-spec : {M : Type 1} → statement M
 covers-spec =
@@ -80,6 +80,6 @@ covers-spec =
     cast-if2
     div-if2
     returns-2
-    slice-aggregate-nets-weight-covers
-    nets-weight-covers-requires
+    slice-aggregate-nets-enough
+    nets-enough-requires
     returns-3)

@@ -38,13 +38,13 @@ same-net c =
     at-any (a .args .t4) (c .before .loop .i - 1) outside noNet (omega (arith, a .pre .1, c .before .loop .inv .0, c .loop-test .taken))
 
 -- and its test
-net-test : (c : tie.After-all-weight-covers Inv-loop μ-loop)
+net-test : (c : tie.After-all-enough Inv-loop μ-loop)
     → netCovered (c .before .before .before .before .args .sum) (now (c .before .before .before .before .args .w)) (c .before .before .before .before .args .t4)
     (c .before .before .loop .i - 1)
-    ≡ c .all-weight-covers .result
+    ≡ c .all-enough .result
 net-test c =
     let a = c .before .before .before .before in
-    net-at (a .args .sum) (now (a .args .w)) (a .args .t4) (c .before .before .loop .i - 1) outside (same-net (c .before)) _ (c .all-weight-covers .ensures)
+    net-at (a .args .sum) (now (a .args .w)) (a .args .t4) (c .before .before .loop .i - 1) outside (same-net (c .before)) _ (c .all-enough .ensures)
 
 loop-holds : tie.Need-loop-holds Inv-loop μ-loop
 loop-holds c = (search needs, refl)
@@ -52,20 +52,20 @@ loop-holds c = (search needs, refl)
 sub-i : tie.Need-sub-i Inv-loop μ-loop
 sub-i c = search needs
 
-mul-all-weight-covers : tie.Need-mul-all-weight-covers Inv-loop μ-loop
-mul-all-weight-covers c = search needs
+mul-all-enough : tie.Need-mul-all-enough Inv-loop μ-loop
+mul-all-enough c = search needs
 
-add-all-weight-covers : tie.Need-add-all-weight-covers Inv-loop μ-loop
-add-all-weight-covers c = search needs
+add-all-enough : tie.Need-add-all-enough Inv-loop μ-loop
+add-all-enough c = search needs
 
-mul-all-weight-covers-2 : tie.Need-mul-all-weight-covers-2 Inv-loop μ-loop
-mul-all-weight-covers-2 c = search needs
+mul-all-enough-2 : tie.Need-mul-all-enough-2 Inv-loop μ-loop
+mul-all-enough-2 c = search needs
 
-element-copy-out-all-weight-covers : tie.Need-element-copy-out-all-weight-covers Inv-loop μ-loop
-element-copy-out-all-weight-covers c = search needs
+element-copy-out-all-enough : tie.Need-element-copy-out-all-enough Inv-loop μ-loop
+element-copy-out-all-enough c = search needs
 
-all-weight-covers-requires : tie.Need-all-weight-covers-requires Inv-loop μ-loop
-all-weight-covers-requires c κs =
+all-enough-requires : tie.Need-all-enough-requires Inv-loop μ-loop
+all-enough-requires c κs =
     let a = c .before .before .before in
     omega (arith, a .pre .0, a .pre .1, a .pre .2 (c .before .loop .i - 1), c .before .loop .inv .0, c .loop-test .taken, ap places (same-net c))
 
@@ -95,11 +95,11 @@ nets-enough-spec =
     μ-loop
     loop-holds
     sub-i
-    mul-all-weight-covers
-    add-all-weight-covers
-    mul-all-weight-covers-2
-    element-copy-out-all-weight-covers
-    all-weight-covers-requires
+    mul-all-enough
+    add-all-enough
+    mul-all-enough-2
+    element-copy-out-all-enough
+    all-enough-requires
     returns
     loop-less
     loop-again
