@@ -12,7 +12,7 @@ use Rattle.text.specs.Capped.{above, below}
 use Rattle.text.proofs.TestLaws.{within-is}
 use Rattle.eos.specs.Model as eos
 use Rattle.eos.specs.Causes.{first, unless, at, failing, numbered}
-use Rattle.eos.specs.Weights.{Weights, isZero, effect, allZero, weigh, weightRefusal, covers}
+use Rattle.eos.specs.Weights.{Weights, isZero, effect, allZero, weigh, unbalanced, weightRefusal, covers}
 use Rattle.model.specs.Held.{noEvent, tabled, eventOf, modelOf}
 use Rattle.model.specs.Test.{heldModel}
 use Rattle.model.specs.declared.Model.{Model}
@@ -99,8 +99,12 @@ module _ (m : Model) (w : Weights) (kept : Kept m w) (k : Marking) (held : heldM
 -- ---- the causes
 
 module _ (m : Model) (w : Weights) (μ : eos.Marking) where
-  abbrev unbalanced : Option ℕ
-  unbalanced = failing (m .listed) 0 (λ k. isZero (effect (modelOf m) w (eos.event (modelOf m) k)))
+  abbrev first-unbalanced : Option ℕ
+  first-unbalanced = failing (m .listed) 0 (λ k. isZero (effect (modelOf m) w (eos.event (modelOf m) k)))
+
+  -- the last line of the file
+  abbrev last : ℕ
+  last = 2 + length (modelOf m .nets)
 
   events-long : length (modelOf m .events) ≡ m .listed
   unfolding modelOf
@@ -113,18 +117,18 @@ module _ (m : Model) (w : Weights) (μ : eos.Marking) where
       rw (h, nets-long m [], e)
 
   module _ (some-weight : allZero w ≡ false) where
-    pub turned-event : (r : ℕ) → r ≡ numbered unbalanced → (r ≡ 0 → ⊥) → refusedWeights (Turned 7 r) ≡ judgedWeights (modelOf m) μ w
+    pub turned-event : (r : ℕ) → r ≡ numbered first-unbalanced → (r ≡ 0 → ⊥) → refusedWeights (Turned 7 r) ≡ judgedWeights (modelOf m) μ w
     unfolding judgedWeights turnedOr weightRefusal first unless at
-    turned-event r e d = rw (some-weight, events-long) (go unbalanced e)
+    turned-event r e d = rw (some-weight, events-long) (go first-unbalanced e)
       where
-        go : (o : Option ℕ) → r ≡ numbered o → refusedWeights (Turned 7 r) ≡ turnedOr (first (at 7 o ∷ [])) (passedWeights w (weigh (modelOf m) w μ))
+        go : (o : Option ℕ) → r ≡ numbered o → refusedWeights (Turned 7 r) ≡ turnedOr last (first (at unbalanced o ∷ [])) (passedWeights w (weigh (modelOf m) w μ))
         go none p = absurd (d p)
         go (some i) p = rw p
 
-    pub none-turned : (r : ℕ) → r ≡ numbered unbalanced → r ≡ 0 → passedWeights w (weigh (modelOf m) w μ) ≡ judgedWeights (modelOf m) μ w
+    pub none-turned : (r : ℕ) → r ≡ numbered first-unbalanced → r ≡ 0 → passedWeights w (weigh (modelOf m) w μ) ≡ judgedWeights (modelOf m) μ w
     unfolding judgedWeights turnedOr weightRefusal first unless at
-    none-turned r e d = rw (some-weight, events-long) (go unbalanced e)
+    none-turned r e d = rw (some-weight, events-long) (go first-unbalanced e)
       where
-        go : (o : Option ℕ) → r ≡ numbered o → passedWeights w (weigh (modelOf m) w μ) ≡ turnedOr (first (at 7 o ∷ [])) (passedWeights w (weigh (modelOf m) w μ))
+        go : (o : Option ℕ) → r ≡ numbered o → passedWeights w (weigh (modelOf m) w μ) ≡ turnedOr last (first (at unbalanced o ∷ [])) (passedWeights w (weigh (modelOf m) w μ))
         go none p = refl
         go (some i) p = absurd (omega arith)

@@ -18,8 +18,7 @@ use Rattle.text.specs.Capped.{above}
 use Rattle.text.proofs.TestLaws.{and-both, every-at, every-of}
 use Rattle.eos.specs.Model as eos
 use Rattle.eos.specs.Multiset.{every}
-use Rattle.eos.specs.Causes.{Refusal}
-use Rattle.eos.specs.Weights.{Weights, weigh, weightRefusal, Passing, positive, least, covers}
+use Rattle.eos.specs.Weights.{Weights, weigh, WeightCause, weightRefusal, Passing, positive, least, covers}
 use Rattle.eos.proofs.CauseLaws.{no-cause-passes, passes-no-cause}
 use Rattle.model.specs.Held.{modelOf}
 use Rattle.model.specs.declared.Model.{Model}
@@ -79,14 +78,15 @@ covers-parts w sum =
 abbrev pub Nothing : WeightCheck → Type 0
 Nothing c = (c .sum ≡ record { above = 0; below = 0 }) × (c .cover ≡ false)
 
-judged-nothing : (o : Option Refusal) (w : Weights) (z : ℤ) → (turnedOr o (passedWeights w z) .answer ≡ Passed → ⊥) → Nothing (turnedOr o (passedWeights w z))
+judged-nothing : (last : ℕ) (o : Option WeightCause) (w : Weights) (z : ℤ) → (turnedOr last o (passedWeights w z) .answer ≡ Passed → ⊥)
+    → Nothing (turnedOr last o (passedWeights w z))
 unfolding turnedOr
-judged-nothing none w z h = absurd (h refl)
-judged-nothing (some r) w z h = (refl, refl)
+judged-nothing last none w z h = absurd (h refl)
+judged-nothing last (some why) w z h = (refl, refl)
 
 weighed-nothing : (m : eos.Model) (μ : eos.Marking) (s : Text) (o : Outcome Weights) → (weighed m μ s o .answer ≡ Passed → ⊥) → Nothing (weighed m μ s o)
 unfolding weighed judgedWeights
-weighed-nothing m μ s (got w x) h = judged-nothing (weightRefusal (2 + length (m .nets)) m w) w (weigh m w μ) h
+weighed-nothing m μ s (got w x) h = judged-nothing (2 + length (m .nets)) (weightRefusal m w) w (weigh m w μ) h
 weighed-nothing m μ s (bad e) h = (refl, refl)
 
 held-nothing : (t : Bool) (m : Model) (k : Marking) (s : Text) → (weightsOr t m k s 0 .answer ≡ Passed → ⊥) → Nothing (weightsOr t m k s 0)
@@ -106,10 +106,10 @@ refused-nothing m k s h =
 
 -- ---- weights that pass
 
-turned-passed : (o : Option Refusal) (w : Weights) (z : ℤ) → turnedOr o (passedWeights w z) .answer ≡ Passed → o ≡ none
+turned-passed : (last : ℕ) (o : Option WeightCause) (w : Weights) (z : ℤ) → turnedOr last o (passedWeights w z) .answer ≡ Passed → o ≡ none
 unfolding turnedOr
-turned-passed none w z h = refl
-turned-passed (some r) w z h = let y : _≡_ {A = ℕ} 0 1 = cc in absurd (omega arith)
+turned-passed last none w z h = refl
+turned-passed last (some why) w z h = let y : _≡_ {A = ℕ} 0 1 = cc in absurd (omega arith)
 
 module _ (m : Model) (k : Marking) (s : Text) (held : heldBoth m k ≡ true) (few : length s ≤ longest) where
   abbrev file : Outcome Weights
@@ -121,7 +121,7 @@ module _ (m : Model) (k : Marking) (s : Text) (held : heldBoth m k ≡ true) (fe
   -- weights that pass are answered with their sum and cover
   passes : (w : Weights) (x : ℕ) → file ≡ got w x → Passing (modelOf m) w → weightChecking m k s ≡ passedWeights w (sum w)
   unfolding judgedWeights turnedOr
-  passes w x e p = from-got m k s 0 few held w x e ∙ rw (passes-no-cause (2 + length (modelOf m .nets)) (modelOf m) w p)
+  passes w x e p = from-got m k s 0 few held w x e ∙ rw (passes-no-cause (modelOf m) w p)
 
   abbrev Found : Type 0
   Found = (w : Weights) × (x : ℕ) × (file ≡ got w x) × Passing (modelOf m) w
@@ -130,7 +130,7 @@ module _ (m : Model) (k : Marking) (s : Text) (held : heldBoth m k ≡ true) (fe
   unfolding judgedWeights
   found (got w x) e h =
       let c = ap (λ (c : WeightCheck). c .answer) (from-got m k s 0 few held w x e) in
-      (w, x, e, no-cause-passes (2 + length (modelOf m .nets)) (modelOf m) w (turned-passed (weightRefusal (2 + length (modelOf m .nets)) (modelOf m) w) w (sum w) (sym c ∙ h)))
+      (w, x, e, no-cause-passes (modelOf m) w (turned-passed (2 + length (modelOf m .nets)) (weightRefusal (modelOf m) w) w (sum w) (sym c ∙ h)))
   found (bad d) e h =
       let c : weightChecking m k s .answer ≡ _ = ap (λ (c : WeightCheck). c .answer) (from-bad m k s 0 few held d e) in
       let y : _≡_ {A = ℕ} 0 1 = cc in

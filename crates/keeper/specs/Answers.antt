@@ -1,5 +1,5 @@
 -- What the weight check answers, for every input; and the numbers of 01's table for each answer.
-use Prim.Native.Nat.{ℕ, _+_}
+use Prim.Native.Nat.{ℕ, suc, _+_}
 use mathlib.Core.Bool.{Bool, true, false}
 use mathlib.Core.Option.{Option, none, some}
 use lib.Dec.{leb}
@@ -11,7 +11,7 @@ use Rattle.text.specs.Capped.{above, below}
 use Rattle.text.specs.declared.Fault.{Fault}
 use Rattle.eos.specs.Model as eos
 use Rattle.eos.specs.Causes.{Refusal}
-use Rattle.eos.specs.Weights.{Weights, weigh, weightRefusal, covers}
+use Rattle.eos.specs.Weights.{Weights, weigh, WeightCause, weightless, unbalanced, weightRefusal, covers}
 use Rattle.model.specs.Held.{modelOf}
 use Rattle.model.specs.declared.Model.{Model}
 use Rattle.marking.specs.Held.{tokensOf}
@@ -44,13 +44,18 @@ refusedWeights a = record { answer = a; sum = record { above = 0; below = 0 }; c
 abbrev pub passedWeights : Weights → ℤ → WeightCheck
 passedWeights w z = record { answer = Passed; sum = sumOf z; cover = covers 256 65535 w (natAbs z) }
 
-unfoldable pub turnedOr : Option Refusal → WeightCheck → WeightCheck
-turnedOr none c = c
-turnedOr (some r) c = refusedWeights (Turned (r .number) (r .beside))
+-- 01's table: the number of a cause against weights, and what stands beside it; events are numbered from 1, `last` is the file's last line
+abbrev pub weightCausePair : ℕ → WeightCause → Refusal
+weightCausePair last weightless = pair 6 last
+weightCausePair last (unbalanced k) = pair 7 (suc k)
+
+unfoldable pub turnedOr : ℕ → Option WeightCause → WeightCheck → WeightCheck
+turnedOr last none c = c
+turnedOr last (some why) c = let r = weightCausePair last why in refusedWeights (Turned (r .number) (r .beside))
 
 -- causes 6 and 7, else the weighted sum and whether the weights cover; the last line of the file is 2 + nets
 unfoldable pub judgedWeights : eos.Model → eos.Marking → Weights → WeightCheck
-judgedWeights m μ w = turnedOr (weightRefusal (2 + length (m .nets)) m w) (passedWeights w (weigh m w μ))
+judgedWeights m μ w = turnedOr (2 + length (m .nets)) (weightRefusal m w) (passedWeights w (weigh m w μ))
 
 -- a fault as its line
 abbrev pub faulty : Text → Fault → WeightAnswer

@@ -2,8 +2,6 @@
 use Prim.Native.Nat.{ℕ, suc, _+_, _≤_, _<_}
 use mathlib.Core.Path.{_≡_, refl, ap}
 use mathlib.Core.Bool.{Bool, true, false, _&&_}
-use mathlib.Core.Logic.{_⊎_, inl, inr, ⊎-elim}
-use mathlib.Core.List.{[], _∷_}
 use mathlib.Core.Option.{Option, none, some}
 use native.Mathlib.Omega.{arith}
 use lib.Dec.{leb, eqb}
@@ -13,8 +11,8 @@ use Rattle.text.specs.Bytes.{Text, newlines}
 use Rattle.text.proofs.Basics.{by-test, and-true}
 use Rattle.text.specs.Lines.{Outcome, got, bad}
 use Rattle.eos.specs.Model as eos
-use Rattle.eos.specs.Causes.{Refusal, first, unless, at}
-use Rattle.eos.specs.Weights.{Weights, weigh, weightRefusal}
+use Rattle.eos.specs.Causes.{Refusal}
+use Rattle.eos.specs.Weights.{Weights, weigh, WeightCause, weightless, unbalanced, weightRefusal}
 use Rattle.model.specs.Held.{modelOf}
 use Rattle.model.specs.declared.Model.{Model}
 use Rattle.marking.specs.Held.{tokensOf}
@@ -117,25 +115,18 @@ model-held s l is p says h = rw is (file-held s (rw (says, is) at h))
 
 -- ---- weights whose pair is 0,0 passed
 
-cause-numbered : (b : Bool) (last : ℕ) (o : Option ℕ) (r : Refusal) → first (unless b 6 last ∷ at 7 o ∷ []) ≡ some r → (r .number ≡ 6) ⊎ (r .number ≡ 7)
-unfolding first unless at
-cause-numbered false last o r e = inl (cc)
-cause-numbered true last (some i) r e = inr (cc)
-cause-numbered true last none r e = let z : _≡_ {A = ℕ} 0 1 = cc in absurd (omega arith)
-
-turned-accepted : (m : eos.Model) (w : Weights) (last : ℕ) (c : WeightCheck) (o : Option Refusal) → weightRefusal last m w ≡ o → c .answer ≡ weight.Passed
-    → accepted (weightPair (turnedOr o c .answer)) ≡ true → turnedOr o c .answer ≡ weight.Passed
-unfolding turnedOr weightRefusal
-turned-accepted m w last c none e p h = p
-turned-accepted m w last c (some r) e p h =
-    let z = eqb-true (r .number) 0 (and-true (eqb (r .number) 0) _ h .0) in
-    ⊎-elim (λ q. absurd (omega arith)) (λ q. absurd (omega arith)) (cause-numbered _ last _ r e)
+turned-accepted : (last : ℕ) (c : WeightCheck) (o : Option WeightCause) → c .answer ≡ weight.Passed → accepted (weightPair (turnedOr last o c .answer)) ≡ true
+    → turnedOr last o c .answer ≡ weight.Passed
+unfolding turnedOr
+turned-accepted last c none p h = p
+turned-accepted last c (some weightless) p h = absurd (omega (arith, eqb-true 6 0 (and-true (eqb 6 0) (eqb last 0) h .0)))
+turned-accepted last c (some (unbalanced k)) p h = absurd (omega (arith, eqb-true 7 0 (and-true (eqb 7 0) (eqb (suc k) 0) h .0)))
 
 weighed-accepted : (m : eos.Model) (μ : eos.Marking) (s : Text) (o : Outcome Weights) → accepted (weightPair (weighed m μ s o .answer)) ≡ true
     → weighed m μ s o .answer ≡ weight.Passed
 unfolding weighed judgedWeights
 weighed-accepted m μ s (got w x) h =
-    turned-accepted m w (2 + length (m .nets)) (passedWeights w (weigh m w μ)) (weightRefusal (2 + length (m .nets)) m w) refl refl h
+    turned-accepted (2 + length (m .nets)) (passedWeights w (weigh m w μ)) (weightRefusal m w) refl h
 weighed-accepted m μ s (bad e) h = never (eqb (e .why) 0) (newlines (take (e .at) s)) h
 
 none-weights-refused : {A : Type 0} (n : ℕ) → (eqb (suc n) 0 && true) ≡ true → A

@@ -5,13 +5,14 @@ use mathlib.Core.Path.{_≡_, refl, ap, sym, _∙_}
 use mathlib.Core.Bool.{true}
 use mathlib.Core.Option.{Option, none, some}
 use native.Mathlib.Omega.{arith}
+use lib.Dec.{leb→le, le→leb}
 use lib.ListN.{length}
 use Rattle.text.specs.Bytes.{Text}
 use Rattle.text.specs.Lines.{Outcome, got, bad}
 use Rattle.eos.specs.Multiset as M
 use Rattle.eos.specs.Model as eos
 use Rattle.eos.specs.Firing.{Enabled, Step, after}
-use Rattle.eos.specs.Causes.{Refusal, refusal}
+use Rattle.eos.specs.Causes.{Cause, refusal}
 use Rattle.eos.proofs.FiringLaws.{fires-yes, fires-all}
 use Rattle.eos.proofs.CauseLaws.{no-cause, no-cause-fires}
 use Rattle.model.specs.Held.{modelOf}
@@ -22,6 +23,7 @@ use Rattle.reader.specs.Reading.{bounds}
 use Rattle.marking.specs.Sizes.{sizesFor}
 use Rattle.reader.specs.Answers.{longest, heldBoth}
 use Rattle.step.specs.Reading.{readStep}
+use Rattle.step.specs.Verdict.{hasRoom}
 use Rattle.runner.specs.declared.Stepped.{Stepped}
 use Rattle.runner.specs.declared.StepAnswer.the-variants.{Fired, Faulty, Turned}
 use Rattle.runner.specs.Answers.{fires, stepJudged, readThen, tried, stepped, heldStep, stepping}
@@ -53,19 +55,19 @@ module _ (m : Model) (k : Marking) (s : Text) (next : ℕ) where
   abbrev μ : eos.Marking
   μ = tokensOf (sizesFor m) k
 
-  judged-brings : (t : Step) (n : ℕ) → reading m k s ≡ got t n → (o : Option Refusal) → refusal 256 (modelOf m) t μ ≡ o
+  judged-brings : (t : Step) (n : ℕ) → reading m k s ≡ got t n → (o : Option Cause) → refusal hasRoom (modelOf m) t μ ≡ o
       → stepped k (stepJudged μ t n o) .answer ≡ Fired next → Brings m k s next
   unfolding stepJudged stepped
   judged-brings t n e none f h =
       let z : n ≡ next = cc in
-      let c = no-cause-fires 256 (modelOf m) t μ f in
+      let c = no-cause-fires hasRoom (modelOf m) t μ f in
       let y = fires-yes (modelOf m) t μ (c .0) in
-      record { step = t; read = e ∙ ap (got t) z; enabled = y .0; within = y .1; room = c .1 }
+      record { step = t; read = e ∙ ap (got t) z; enabled = y .0; within = y .1; room = leb→le (length (after t μ)) 256 (c .1) }
   judged-brings t n e (some c) f h = absurd (turned≢fired h)
 
   read-brings : (o : Outcome Step) → reading m k s ≡ o → stepped k (readThen (modelOf m) μ s o) .answer ≡ Fired next → Brings m k s next
   unfolding readThen stepped
-  read-brings (got t n) e h = judged-brings t n e (refusal 256 (modelOf m) t μ) refl h
+  read-brings (got t n) e h = judged-brings t n e (refusal hasRoom (modelOf m) t μ) refl h
   read-brings (bad d) e h = absurd (faulty≢fired h)
 
   pub held-brings : heldStep m k s .answer ≡ Fired next → Brings m k s next
@@ -75,7 +77,7 @@ module _ (m : Model) (k : Marking) (s : Text) (next : ℕ) where
   pub brings-tried : (b : Brings m k s next) → tried (modelOf m) (sizesFor m) μ s ≡ fires next (eos.canonical (after (b .step) μ))
   unfolding readThen stepJudged
   brings-tried b =
-      let c = no-cause 256 (modelOf m) (b .step) μ (fires-all (modelOf m) (b .step) μ (b .enabled) (b .within)) (b .room) in
+      let c = no-cause hasRoom (modelOf m) (b .step) μ (fires-all (modelOf m) (b .step) μ (b .enabled) (b .within)) (le→leb (length (after (b .step) μ)) 256 (b .room)) in
       tried-reads m k s ∙ ap (readThen (modelOf m) μ s) (b .read) ∙ rw c
 
   pub brings-fires : (b : Brings m k s next) → heldStep m k s ≡ record { answer = Fired next; marking = holdMarking (eos.canonical (after (b .step) μ)) }

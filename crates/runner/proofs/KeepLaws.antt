@@ -5,13 +5,14 @@ use mathlib.Core.List.{map}
 use mathlib.Core.Bool.{true}
 use mathlib.Core.Option.{Option, none, some}
 use native.Mathlib.Omega.{arith}
+use lib.Dec.{leb→le}
 use lib.ListN.{length, length-map}
 use Rattle.text.specs.Bytes.{Text}
 use Rattle.text.specs.Lines.{Outcome, got, bad}
 use Rattle.text.proofs.TestLaws.{and-both}
 use Rattle.eos.specs.Model as eos
 use Rattle.eos.specs.Firing.{Step, after}
-use Rattle.eos.specs.Causes.{Refusal, refusal}
+use Rattle.eos.specs.Causes.{Cause, refusal}
 use Rattle.eos.proofs.OrderLaws.{sort-again}
 use Rattle.eos.proofs.FiringLaws.{tokenOrder, fires-yes}
 use Rattle.eos.proofs.CauseLaws.{no-cause-fires}
@@ -29,6 +30,7 @@ use Rattle.marking.specs.Sizes.{sizesFor}
 use Rattle.reader.specs.Answers.{heldBoth}
 use Rattle.reader.proofs.ReadingLaws.{both-model}
 use Rattle.marking.proofs.SizeLaws.{held-roomy}
+use Rattle.step.specs.Verdict.{hasRoom}
 use Rattle.runner.specs.declared.Stepped.{Stepped}
 use Rattle.runner.specs.Answers.{stepJudged, readThen, stepped, heldStep}
 use Rattle.runner.proofs.StandsLaws.{Stands, any-range, after-every}
@@ -48,21 +50,21 @@ module _ (m : Model) (k : Marking) (kept : Keeps m k) where
   st = both-stands m k (kept .long) (kept .held)
 
   -- the marking after a step that meets no cause
-  after-keeps : (t : Step) → RightStep (sizesFor m) (m .listed) t → refusal 256 (modelOf m) t μ ≡ none → Keeps m (holdMarking (eos.canonical (after t μ)))
+  after-keeps : (t : Step) → RightStep (sizesFor m) (m .listed) t → refusal hasRoom (modelOf m) t μ ≡ none → Keeps m (holdMarking (eos.canonical (after t μ)))
   unfolding heldBoth holdMarking
   after-keeps t r e =
       let z = sizesFor m in
       let model = both-model m k (kept .held) in
       let ν = eos.canonical (after t μ) in
-      let f = no-cause-fires 256 (modelOf m) t μ e in
-      let few : length ν ≤ 256 = omega (arith, length-canonical (after t μ), f .1) in
+      let f = no-cause-fires hasRoom (modelOf m) t μ e in
+      let few : length ν ≤ 256 = omega (arith, length-canonical (after t μ), leb→le (length (after t μ)) 256 (f .1)) in
       let right = after-every (rightNetToken free z) t μ (fires-yes (modelOf m) t μ (f .0) .1) (st .right) (any-range bounds z (t .given) (r .given)) in
       record {
         held = and-both (heldModel m) _ model (ordered-held z (held-roomy m model) free ν few (sort-again eos.before tokenOrder (after t μ)) right);
         long = laid-long (map tokenRow ν) (rows-wide ν) (omega (arith, length-map ν tokenRow));
       }
 
-  judged-keeps : (t : Step) (next : ℕ) → RightStep (sizesFor m) (m .listed) t → (o : Option Refusal) → refusal 256 (modelOf m) t μ ≡ o
+  judged-keeps : (t : Step) (next : ℕ) → RightStep (sizesFor m) (m .listed) t → (o : Option Cause) → refusal hasRoom (modelOf m) t μ ≡ o
       → Keeps m (stepped k (stepJudged μ t next o) .marking)
   unfolding stepJudged stepped
   judged-keeps t next r none e = after-keeps t r e
@@ -70,7 +72,7 @@ module _ (m : Model) (k : Marking) (kept : Keeps m k) where
 
   read-keeps : (s : Text) (o : Outcome Step) → reading m k s ≡ o → Keeps m (stepped k (readThen (modelOf m) μ s o) .marking)
   unfolding readThen stepped
-  read-keeps s (got t next) e = judged-keeps t next (read-right (sizesFor m) (m .listed) s t next e) (refusal 256 (modelOf m) t μ) refl
+  read-keeps s (got t next) e = judged-keeps t next (read-right (sizesFor m) (m .listed) s t next e) (refusal hasRoom (modelOf m) t μ) refl
   read-keeps s (bad d) e = kept
 
   pub step-keeps : (s : Text) → Keeps m (heldStep m k s .marking)

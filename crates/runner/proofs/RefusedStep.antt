@@ -10,7 +10,7 @@ use Rattle.text.proofs.Basics.{by-test}
 use Rattle.text.specs.Lines.{Outcome, got, bad}
 use Rattle.eos.specs.Model as eos
 use Rattle.eos.specs.Firing.{Step}
-use Rattle.eos.specs.Causes.{Refusal, refusal}
+use Rattle.eos.specs.Causes.{Cause, refusal}
 use Rattle.model.specs.Held.{modelOf}
 use Rattle.model.specs.declared.Model.{Model}
 use Rattle.marking.specs.Held.{tokensOf}
@@ -19,6 +19,7 @@ use Rattle.reader.specs.Reading.{bounds}
 use Rattle.marking.specs.Sizes.{sizesFor}
 use Rattle.reader.specs.Answers.{longest, heldBoth}
 use Rattle.step.specs.Reading.{readStep}
+use Rattle.step.specs.Verdict.{hasRoom}
 use Rattle.runner.specs.declared.Stepped.{Stepped}
 use Rattle.runner.specs.declared.StepAnswer.the-variants.{Fired}
 use Rattle.runner.specs.Answers.{usedBy, stepJudged, readThen, tried, stepped, heldStep, whereHeld, stepping}
@@ -27,14 +28,14 @@ use Rattle.runner.specs.Answers.{usedBy, stepJudged, readThen, tried, st
 abbrev pub Leaves : Marking → Stepped → Type 0
 Leaves k r = ((n : ℕ) → r .answer ≡ Fired n → ⊥) → (r .marking ≡ k) × (usedBy (r .answer) ≡ 0)
 
-judged-leaves : (k : Marking) (μ : eos.Marking) (t : Step) (next : ℕ) (o : Option Refusal) → Leaves k (stepped k (stepJudged μ t next o))
+judged-leaves : (k : Marking) (μ : eos.Marking) (t : Step) (next : ℕ) (o : Option Cause) → Leaves k (stepped k (stepJudged μ t next o))
 unfolding stepJudged stepped
 judged-leaves k μ t next none n = absurd (n next refl)
 judged-leaves k μ t next (some r) n = (refl, refl)
 
 read-leaves : (k : Marking) (m : eos.Model) (μ : eos.Marking) (s : Text) (o : Outcome Step) → Leaves k (stepped k (readThen m μ s o))
 unfolding readThen stepped
-read-leaves k m μ s (got t next) n = judged-leaves k μ t next (refusal 256 m t μ) n
+read-leaves k m μ s (got t next) n = judged-leaves k μ t next (refusal hasRoom m t μ) n
 read-leaves k m μ s (bad e) n = (refl, refl)
 
 pub step-leaves : (m : Model) (k : Marking) (s : Text) → Leaves k (heldStep m k s)

@@ -85,12 +85,12 @@ module _ (m : Model) (k : Marking) (s : Text) where
   -- its lines are read, and it is judged
   pub step-ruled : SizedModel m → heldModel m ≡ true → Stands (sizesFor m) k → (next : ℕ) (lines : StepLines) (taken given : List Row)
       → ReadRows lines taken given reading next → (q : Rule) → q ≡ holdRule (modelOf m) (lines .event)
-      → ruled next k taken given (verdictOf (first (causesIn q taken given (rowsIn (k .len) (k .rows))))) ≡ heldStep m k s
+      → ruled next k taken given (verdictOf (lines .take) (first (causesIn q taken given (rowsIn (k .len) (k .rows))))) ≡ heldStep m k s
   unfolding readThen
   step-ruled sized held st next lines taken given g q e =
       let t = g .step in
       let r = read-right (sizesFor m) (m .listed) s t next (g .is) in
-      rw (e, g .event-is, g .taken-are, g .given-are)
+      rw (e, g .event-is, g .take-is, g .taken-are, g .given-are)
       (ruled-same m sized held t r k st next
       ∙ sym (held-reads ∙ ap (λ (o : Outcome Step). stepped k (readThen (modelOf m) (tokensOf (sizesFor m) k) s o)) (g .is)))
 

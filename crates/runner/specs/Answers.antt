@@ -8,7 +8,7 @@ use Rattle.text.specs.Bytes.{Text, lineAt}
 use Rattle.text.specs.Lines.{Outcome, got, bad}
 use Rattle.eos.specs.Model as eos
 use Rattle.eos.specs.Firing.{Step, after}
-use Rattle.eos.specs.Causes.{Refusal, refusal}
+use Rattle.eos.specs.Causes.{Refusal, Cause, refusal}
 use Rattle.model.specs.Held.{modelOf}
 use Rattle.model.specs.declared.Model.{Model}
 use Rattle.marking.specs.Held.{Sizes, holdMarking, tokensOf}
@@ -17,6 +17,7 @@ use Rattle.reader.specs.Reading.{bounds}
 use Rattle.marking.specs.Sizes.{sizesFor}
 use Rattle.reader.specs.Answers.{pair, longest, heldBoth}
 use Rattle.step.specs.Reading.{readStep}
+use Rattle.step.specs.Verdict.{hasRoom, causePair}
 use Rattle.runner.specs.declared.StepAnswer.{StepAnswer}
 use Rattle.runner.specs.declared.StepAnswer.the-variants.{Fired, TooLong, NotHeld, Faulty, Turned}
 use Rattle.runner.specs.declared.Stepped.{Stepped}
@@ -42,14 +43,14 @@ pub data Tried : Type 0 where
   fires : ℕ → eos.Marking → Tried
   stops : StepAnswer → Tried
 
--- a step that was read: the first of the causes 8 to 12, or the marking after in canonical order
-unfoldable pub stepJudged : eos.Marking → Step → ℕ → Option Refusal → Tried
+-- a step that was read, a line for each net-token: the first of the causes 8 to 12, or the marking after in canonical order
+unfoldable pub stepJudged : eos.Marking → Step → ℕ → Option Cause → Tried
 stepJudged μ t next none = fires next (eos.canonical (after t μ))
-stepJudged μ t next (some r) = stops (Turned (r .number) (r .beside))
+stepJudged μ t next (some c) = let r = causePair (length (t .taken)) c in stops (Turned (r .number) (r .beside))
 
 -- line by line 2 and 3, lines counted from the step's own `fire` line, which begins the text; then 8 to 12
 unfoldable pub readThen : eos.Model → eos.Marking → Text → Outcome Step → Tried
-readThen m μ s (got t next) = stepJudged μ t next (refusal 256 m t μ)
+readThen m μ s (got t next) = stepJudged μ t next (refusal hasRoom m t μ)
 readThen m μ s (bad e) = stops (Faulty (e .why) (lineAt s (e .at)))
 
 unfoldable pub tried : eos.Model → Sizes → eos.Marking → Text → Tried

@@ -53,7 +53,7 @@ fn fire<'a>(
     requires { ⌜ SidesLent (now plan) (now pre) (now post) × Placed take (now taken) × Placed give (now given) × Kept len (now rows) ⌝ }
     ensures { λ r. ⌜ record { answer = r .answer; marking = record { len = r .len; rows = now (rows .exit) } }
         ≡ ruled next (record { len = len; rows = now (rows .entry) }) (rowsIn take (now (taken .entry))) (rowsIn give (now (given .entry)))
-        (verdictOf (first (causesIn (ruleIn (now (plan .entry)) (now (pre .entry)) (now (post .entry))) (rowsIn take (now (taken .entry))) (rowsIn give (now (given .entry))) (rowsIn len (now (rows .entry)))))) ⌝ }
+        (verdictOf take (first (causesIn (ruleIn (now (plan .entry)) (now (pre .entry)) (now (post .entry))) (rowsIn take (now (taken .entry))) (rowsIn give (now (given .entry))) (rowsIn len (now (rows .entry)))))) ⌝ }
 {
     let judged = verdict(plan, pre, post, taken, take, given, give, rows, len);
     let Verdict::Turned { cause, beside } = judged else {

@@ -1,18 +1,17 @@
 -- The verdict on rows is the theory's: the rows of a right step meet the cause that the step meets.
 use Prim.Native.Nat.{ℕ, _+_, _-_, _<_}
 use mathlib.Core.Path.{_≡_, refl, sym, ap, _∙_}
-use mathlib.Core.Bool.{true}
+use mathlib.Core.Bool.{Bool, true}
 use mathlib.Core.List.{List, [], _∷_, _++_, map}
 use mathlib.Core.Option.{Option, none, some}
 use native.Mathlib.Omega.{arith}
-use borrow.Author.Tests.{le-leb}
 use lib.Dec.{T, leb}
 use lib.ListN.{length, length-append, length-map}
 use Rattle.eos.specs.Vector.{_⊕_, _⊖_, eqV}
 use Rattle.eos.specs.Multiset as M
 use Rattle.eos.specs.Model.{Marking, like, Model, event, proper}
 use Rattle.eos.specs.Firing.{pre, post, outer, inner, outerOf, innerOf, outerTaken, outerGiven, innerTaken, innerGiven, Step, StepOf, after}
-use Rattle.eos.specs.Causes.{Refusal, first, unless, at, failing, lacking, causes, refusal}
+use Rattle.eos.specs.Causes.{Cause, taking, giving, short, unequal, missing, crowded, first, unless, at, failing, lacking, causes, refusal}
 use Rattle.eos.proofs.Basics.{some-not}
 use Rattle.eos.proofs.MultisetLaws.{length-less}
 use Rattle.eos.proofs.FiringLaws.{alike, fires-yes}
@@ -22,7 +21,7 @@ use Rattle.model.proofs.RuleLaws.{right-is, few-places}
 use Rattle.model.proofs.PaddedRows.{eq-padded}
 use Rattle.marking.specs.Held.{tokenRow}
 use Rattle.step.specs.Rule.{holdSides, holdRule}
-use Rattle.step.specs.Verdict.{outerRows, innerTakenIn, innerGivenIn, causesIn}
+use Rattle.step.specs.Verdict.{outerRows, innerTakenIn, innerGivenIn, hasRoom, outerCauses, innerCauses, markingCauses, causesIn}
 use Rattle.step.proofs.FirstFailing.{failing-same}
 use Rattle.step.proofs.PaddedTests.{le-padded, moved-padded, moved-long}
 use Rattle.step.proofs.SidesHeld.{Side, pre-side, post-side, outer-side-long, inner-side-long, side-row, net-small}
@@ -31,22 +30,18 @@ use Rattle.step.proofs.LikeRows.{lacking-rows}
 
 -- ---- a list of tests and one more
 
-first-more : (l : List (Option Refusal)) (x : Option Refusal) → first l ≡ none → first (l ++ (x ∷ [])) ≡ first (x ∷ [])
+first-more : (l : List (Option Cause)) (x : Option Cause) → first l ≡ none → first (l ++ (x ∷ [])) ≡ first (x ∷ [])
 unfolding first
 first-more [] x e = refl
 first-more (none ∷ l) x e = first-more l x e
 first-more (some r ∷ l) x e = some-not e
 
 -- the last is asked only where the others are passed
-first-last : (l : List (Option Refusal)) (x y : Option Refusal) → (first l ≡ none → x ≡ y) → first (l ++ (x ∷ [])) ≡ first (l ++ (y ∷ []))
+first-last : (l : List (Option Cause)) (x y : Option Cause) → (first l ≡ none → x ≡ y) → first (l ++ (x ∷ [])) ≡ first (l ++ (y ∷ []))
 unfolding first
-first-last [] x y h = ap (λ (z : Option Refusal). first (z ∷ [])) (h refl)
+first-last [] x y h = ap (λ (z : Option Cause). first (z ∷ [])) (h refl)
 first-last (none ∷ l) x y h = first-last l x y h
 first-last (some r ∷ l) x y h = refl
-
-no-more : (n k : ℕ) → first (unless (leb n n) 12 k ∷ []) ≡ none
-unfolding first unless
-no-more n k = rw (le-leb n n (omega arith))
 
 -- ---- a right step
 module _ (m : Model) (right : rightModel m ≡ true) (s : Step) (of : StepOf m s) where
@@ -91,33 +86,32 @@ module _ (m : Model) (right : rightModel m ≡ true) (s : Step) (of : StepOf m s
 
   -- ---- all tests but the last, and the last
   module _ (μ : Marking) where
-    abbrev before : List (Option Refusal)
+    abbrev before : List (Option Cause)
     before =
         let ev = event m (s .event) in
-        unless (outerTaken m ev (s .taken)) 8 2
-        ∷ unless (outerGiven m ev (s .given)) 8 (3 + length (s .taken))
-        ∷ at 9 (failing (length (m .nets)) 0 (innerTaken m ev (s .taken)))
-        ∷ at 10 (failing (length (m .nets)) 0 (innerGiven m ev (s .taken) (s .given)))
-        ∷ at 11 (lacking μ 2 [] (s .taken))
+        unless (outerTaken m ev (s .taken)) taking
+        ∷ unless (outerGiven m ev (s .given)) giving
+        ∷ at short (failing (length (m .nets)) 0 (innerTaken m ev (s .taken)))
+        ∷ at unequal (failing (length (m .nets)) 0 (innerGiven m ev (s .taken) (s .given)))
+        ∷ at missing (lacking μ 0 [] (s .taken))
         ∷ []
 
-    refusal-is : (tokens : ℕ) → refusal tokens m s μ ≡ first (before ++ (unless (leb (length (after s μ)) tokens) 12 (3 + length (s .taken)) ∷ []))
+    refusal-is : (room : Marking → Bool) → refusal room m s μ ≡ first (before ++ (unless (room (after s μ)) crowded ∷ []))
     unfolding refusal causes
-    refusal-is tokens = refl
+    refusal-is room = refl
 
     -- where the others are passed, so many net-tokens are left
     left : first before ≡ none → length (after s μ) ≡ length μ - length (s .taken) + length (s .given)
+    unfolding first unless
     left e =
-        let n = length (after s μ) in
-        let x = unless (leb n n) 12 (3 + length (s .taken)) in
-        let r : refusal n m s μ ≡ none = refusal-is n ∙ first-more before x e ∙ no-more n (3 + length (s .taken)) in
-        let w = fires-yes m s μ (no-cause-fires n m s μ r .0) .1 in
+        let r : refusal (λ ν. true) m s μ ≡ none = refusal-is (λ ν. true) ∙ first-more before (unless true crowded) e in
+        let w = fires-yes m s μ (no-cause-fires (λ ν. true) m s μ r .0) .1 in
         omega (arith, length-append (M.less like μ (s .taken)) (s .given), length-less like alike (s .taken) μ w)
 
     -- the same tests over rows
     rows-are : T (M.every (proper m) μ) → causesIn (holdRule m (s .event)) (map tokenRow (s .taken)) (map tokenRow (s .given)) (map tokenRow μ)
-        ≡ before ++ (unless (leb (length μ - length (s .taken) + length (s .given)) 256) 12 (3 + length (s .taken)) ∷ [])
-    unfolding causesIn holdRule outerTaken outerGiven
+        ≡ before ++ (unless (leb (length μ - length (s .taken) + length (s .given)) 256) crowded ∷ [])
+    unfolding causesIn outerCauses innerCauses markingCauses holdRule outerTaken outerGiven
     rows-are h =
         let q = holdRule m (s .event) in
         let ev = event m (s .event) in
@@ -127,15 +121,14 @@ module _ (m : Model) (right : rightModel m ≡ true) (s : Step) (of : StepOf m s
         let p : eqV (outerRows given) (holdSides post m ev .outer) ≡ outerGiven m ev (s .given) = outer-same post post-side (s .given) (of .given) in
         let a = failing-same (length (m .nets)) 0 (innerTakenIn q taken) (innerTaken m ev (s .taken)) (λ i k. taken-at i (omega arith)) in
         let b = failing-same (length (m .nets)) 0 (innerGivenIn q taken given) (innerGiven m ev (s .taken) (s .given)) (λ i k. given-at i (omega arith)) in
-        let l = lacking-rows m right μ 2 [] (s .taken) h tt (of .taken) in
+        let l = lacking-rows m right μ 0 [] (s .taken) h tt (of .taken) in
         rw (o, p, a, b, l, length-map (s .taken) tokenRow, length-map (s .given) tokenRow, length-map μ tokenRow)
 
   -- the rows meet the cause that the step meets
   pub causes-are : (μ : Marking) → T (M.every (proper m) μ)
-      → first (causesIn (holdRule m (s .event)) (map tokenRow (s .taken)) (map tokenRow (s .given)) (map tokenRow μ)) ≡ refusal 256 m s μ
+      → first (causesIn (holdRule m (s .event)) (map tokenRow (s .taken)) (map tokenRow (s .given)) (map tokenRow μ)) ≡ refusal hasRoom m s μ
   causes-are μ h =
-      let give = 3 + length (s .taken) in
       ap first (rows-are μ h)
-      ∙ first-last (before μ) (unless (leb (length μ - length (s .taken) + length (s .given)) 256) 12 give) (unless (leb (length (after s μ)) 256) 12 give)
-      (λ e. ap (λ (n : ℕ). unless (leb n 256) 12 give) (sym (left μ e)))
-      ∙ sym (refusal-is μ 256)
+      ∙ first-last (before μ) (unless (leb (length μ - length (s .taken) + length (s .given)) 256) crowded) (unless (hasRoom (after s μ)) crowded)
+      (λ e. ap (λ (n : ℕ). unless (leb n 256) crowded) (sym (left μ e)))
+      ∙ sym (refusal-is μ hasRoom)

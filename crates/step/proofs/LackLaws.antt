@@ -54,7 +54,7 @@ before-count x (suc n) (suc i) l seen h = omega (arith, before-count x n i (drop
 
 -- what is left to be asked at row i
 abbrev pub rest : List Row → ℕ → List ℕ → ℕ → Option ℕ
-rest rows n l i = lackingRows rows (i + 2) (before i [] (rowsIn n l)) (drop i (rowsIn n l))
+rest rows n l i = lackingRows rows i (before i [] (rowsIn n l)) (drop i (rowsIn n l))
 
 module _ (rows : List Row) (n : ℕ) (l : List ℕ) (i : ℕ) where
   count-so-far : i < n → count eqV (take 33 (drop (i * 33) l)) (take 33 (drop (i * 33) l) ∷ before i [] (rowsIn n l))
@@ -67,24 +67,23 @@ module _ (rows : List Row) (n : ℕ) (l : List ℕ) (i : ℕ) where
   abbrev pub hasRow : Bool
   hasRow = ltb (count eqV (take 33 (drop (i * 33) l)) (rowsIn i l)) (count eqV (take 33 (drop (i * 33) l)) rows)
 
-  rest-turn : (t : Bool) → i < n → t ≡ hasRow → rest rows n l i ≡ cond t (rest rows n l (i + 1)) (some (i + 2))
+  rest-turn : (t : Bool) → i < n → t ≡ hasRow → rest rows n l i ≡ cond t (rest rows n l (i + 1)) (some i)
   rest-turn t h e =
       let rs : List Row = rowsIn n l in
       let d : drop i rs ≡ getD rs i [] ∷ drop (suc i) rs = drop-cons rs i [] (omega (arith, length-rows n l)) in
       let b : before (suc i) [] rs ≡ getD rs i [] ∷ before i [] rs = before-next rs i [] (omega (arith, length-rows n l)) in
-      let k : suc i + 2 ≡ suc (i + 2) = omega arith in
-      rw (add-one i, k, b, d, row-at n l i h, count-so-far h, e)
+      rw (add-one i, b, d, row-at n l i h, count-so-far h, e)
 
   pub rest-on : {t : Bool} → i < n → t ≡ hasRow → t ≡ true → rest rows n l i ≡ rest rows n l (i + 1)
   rest-on {t} h e d = rest-turn t h e ∙ rw d
 
-  pub rest-here : {t : Bool} → i < n → t ≡ hasRow → t ≡ false → rest rows n l i ≡ some (i + 2)
+  pub rest-here : {t : Bool} → i < n → t ≡ hasRow → t ≡ false → rest rows n l i ≡ some i
   rest-here {t} h e d = rest-turn t h e ∙ rw d
 
   pub rest-end : n ≤ i → rest rows n l i ≡ none
   rest-end h = rw (drop-of-length-le (rowsIn n l) {i = i} (omega (arith, length-rows n l)))
 
-pub rest-start : (rows : List Row) (n : ℕ) (l : List ℕ) → lackingRows rows 2 [] (rowsIn n l) ≡ rest rows n l 0
+pub rest-start : (rows : List Row) (n : ℕ) (l : List ℕ) → lackingRows rows 0 [] (rowsIn n l) ≡ rest rows n l 0
 rest-start rows zero l = refl
 rest-start rows (suc n) l = refl
 

@@ -1,64 +1,128 @@
 -- Laws of the verdict: the tests before one are passed, and it says why.
-use Prim.Native.Nat.{ℕ, _+_, _-_, _≤_, _<_}
+use Prim.Native.Nat.{ℕ, zero, suc, _+_, _-_, _≤_, _<_}
 use mathlib.Core.Path.{_≡_, refl, sym, ap, _∙_}
 use mathlib.Core.Bool.{Bool, true, false}
-use mathlib.Core.List.{List, [], _∷_}
+use mathlib.Core.List.{List, [], _∷_, _++_}
 use mathlib.Core.Option.{Option, none, some}
 use native.Mathlib.Omega.{arith}
 use borrow.Author.Tests.{le-leb, lt-leb}
-use lib.Dec.{leb}
 use lib.ListN.{length}
 use Rattle.eos.specs.Vector.{leV, eqV}
-use Rattle.eos.specs.Causes.{Refusal, first, unless, at, failing, numbered}
+use Rattle.eos.specs.Causes.{Cause, taking, giving, short, unequal, missing, crowded, first, unless, at, failing, numbered}
 use Rattle.marking.specs.Rows.{Row}
 use Rattle.model.specs.Held.{rowIn}
-use Rattle.step.specs.Rule.{Rule}
+use Rattle.step.specs.Rule.{Sides, Rule}
 use Rattle.step.specs.declared.Verdict.{Verdict}
 use Rattle.step.specs.declared.Verdict.the-variants.{Fires, Turned}
-use Rattle.step.specs.Verdict.{outerRows, innerTakenIn, innerGivenIn, lackingRows, causesIn, verdictOf}
+use Rattle.step.specs.Verdict.{outerRows, innerTakenIn, innerGivenIn, lackingRows, outerCauses, innerCauses, markingCauses, causesIn, causePair, verdictOf}
 use Rattle.step.specs.VerdictParts.{Inner, evenIn}
 use Rattle.step.proofs.FirstFailing.{failing-same}
 
+pub never : {A : Type 0} (n b : ℕ) → Turned n b ≡ Fires → A
+never n b e = let z : _≡_ {A = ℕ} 0 1 = cc in absurd (omega arith)
+
+-- the verdict of a list of tests, on a step that takes t lines
+abbrev answer : ℕ → List (Option Cause) → Verdict
+answer t l = verdictOf t (first l)
+
 -- ---- one test
 
-abbrev pub answer : List (Option Refusal) → Verdict
-answer l = verdictOf (first l)
-
-module _ (n k : ℕ) (l : List (Option Refusal)) where
-  pub skip : (b : Bool) → b ≡ true → answer (unless b n k ∷ l) ≡ answer l
+module _ (t : ℕ) (c : Cause) (l : List (Option Cause)) where
+  skip : (b : Bool) → b ≡ true → answer t (unless b c ∷ l) ≡ answer t l
   unfolding first unless
   skip b e = rw e
 
-  pub stop : (b : Bool) → b ≡ false → answer (unless b n k ∷ l) ≡ Turned n k
-  unfolding first unless verdictOf
+  stop : (b : Bool) → b ≡ false → answer t (unless b c ∷ l) ≡ verdictOf t (some c)
+  unfolding first unless
   stop b e = rw e
 
-module _ (n : ℕ) (l : List (Option Refusal)) where
-  pub skip-at : (o : Option ℕ) → numbered o ≡ 0 → answer (at n o ∷ l) ≡ answer l
+module _ (t : ℕ) (c : ℕ → Cause) (l : List (Option Cause)) where
+  skip-at : (o : Option ℕ) → numbered o ≡ 0 → answer t (at c o ∷ l) ≡ answer t l
   unfolding first at
   skip-at none e = refl
   skip-at (some i) e = absurd (omega arith)
 
-  pub stop-at : (o : Option ℕ) (v : ℕ) → v ≡ numbered o → (v ≡ 0 → ⊥) → answer (at n o ∷ l) ≡ Turned n v
-  unfolding first at verdictOf
+  stop-at : (o : Option ℕ) (v : ℕ) → v ≡ numbered o → (v ≡ 0 → ⊥) → answer t (at c o ∷ l) ≡ verdictOf t (some (c (v - 1)))
+  unfolding first at
   stop-at none v e h = absurd (h e)
-  stop-at (some i) v e h = ap (Turned n) (sym e)
+  stop-at (some i) v e h =
+      let k : i ≡ v - 1 = omega arith in
+      ap (λ (n : ℕ). verdictOf t (some (c n))) k
 
-pub nothing : answer [] ≡ Fires
+nothing : (t : ℕ) → answer t [] ≡ Fires
 unfolding first verdictOf
-nothing = refl
+nothing t = refl
 
--- ---- the tests against the marking
-module _ (o : Option ℕ) (take give len : ℕ) where
-  pub on-12 : numbered o ≡ 0 → 256 + take < len + give → answer (at 11 o ∷ unless (leb (len - take + give) 256) 12 (3 + take) ∷ []) ≡ Turned 12 (take + 3)
-  on-12 e h =
-      let k : 3 + take ≡ take + 3 = omega arith in
-      skip-at 11 _ o e ∙ stop 12 (3 + take) [] _ (lt-leb (len - take + give) 256 (omega arith)) ∙ ap (Turned 12) k
+some-number : (v : ℕ) → (v ≡ 0 → ⊥) → 1 ≤ v
+some-number zero h = absurd (h refl)
+some-number (suc v) h = omega arith
 
-  pub on-fires : numbered o ≡ 0 → give ≤ 256 → len + give ≤ 256 + take → answer (at 11 o ∷ unless (leb (len - take + give) 256) 12 (3 + take) ∷ []) ≡ Fires
-  on-fires e g h = skip-at 11 _ o e ∙ skip 12 (3 + take) [] _ (le-leb (len - take + give) 256 (omega arith)) ∙ nothing
+-- ---- a list and one behind it
 
--- ---- the tests of nets, over tables of the inner projections
+module _ (t : ℕ) (b : List (Option Cause)) where
+  -- the one behind is asked where the first is passed
+  goes-on : (a : List (Option Cause)) → answer t a ≡ Fires → answer t (a ++ b) ≡ answer t b
+  unfolding first verdictOf
+  goes-on [] e = refl
+  goes-on (none ∷ a) e = goes-on a e
+  goes-on (some c ∷ a) e = never (causePair t c .number) (causePair t c .beside) e
+
+  -- and not where it turns the step down
+  turns : (a : List (Option Cause)) {n k : ℕ} → answer t a ≡ Turned n k → answer t (a ++ b) ≡ Turned n k
+  unfolding first verdictOf
+  turns [] {n} {k} e = never n k (sym e)
+  turns (none ∷ a) e = turns a e
+  turns (some c ∷ a) e = e
+
+-- ---- the tests on the places
+module _ (t : ℕ) (pre post : Sides) (taken given : List Row) where
+  abbrev pub on-places : Verdict
+  on-places = answer t (outerCauses pre post taken given)
+
+  pub stop-take : eqV (outerRows taken) (pre .outer) ≡ false → on-places ≡ Turned 8 2
+  unfolding outerCauses verdictOf
+  stop-take e = stop t taking _ (eqV (outerRows taken) (pre .outer)) e
+
+  module _ (a : eqV (outerRows taken) (pre .outer) ≡ true) where
+    pub stop-give : eqV (outerRows given) (post .outer) ≡ false → on-places ≡ Turned 8 (t + 3)
+    unfolding outerCauses verdictOf
+    stop-give e =
+        let k : 3 + t ≡ t + 3 = omega arith in
+        skip t taking _ (eqV (outerRows taken) (pre .outer)) a ∙ stop t giving [] (eqV (outerRows given) (post .outer)) e ∙ ap (Turned 8) k
+
+    pub pass-places : eqV (outerRows given) (post .outer) ≡ true → on-places ≡ Fires
+    unfolding outerCauses
+    pass-places e = skip t taking _ (eqV (outerRows taken) (pre .outer)) a ∙ skip t giving [] (eqV (outerRows given) (post .outer)) e ∙ nothing t
+
+-- ---- the tests on the nets
+module _ (t : ℕ) (q : Rule) (taken given : List Row) where
+  abbrev pub on-nets : Verdict
+  on-nets = answer t (innerCauses q taken given)
+
+  abbrev takes : Option ℕ
+  takes = failing (q .nets) 0 (innerTakenIn q taken)
+
+  abbrev gives : Option ℕ
+  gives = failing (q .nets) 0 (innerGivenIn q taken given)
+
+  pub stop-short : (v : ℕ) → v ≡ numbered takes → (v ≡ 0 → ⊥) → on-nets ≡ Turned 9 v
+  unfolding innerCauses verdictOf
+  stop-short v e h =
+      let k : suc (v - 1) ≡ v = omega (arith, some-number v h) in
+      stop-at t short _ takes v e h ∙ ap (Turned 9) k
+
+  module _ (a : numbered takes ≡ 0) where
+    pub stop-unequal : (v : ℕ) → v ≡ numbered gives → (v ≡ 0 → ⊥) → on-nets ≡ Turned 10 v
+    unfolding innerCauses verdictOf
+    stop-unequal v e h =
+        let k : suc (v - 1) ≡ v = omega (arith, some-number v h) in
+        skip-at t short _ takes a ∙ stop-at t unequal [] gives v e h ∙ ap (Turned 10) k
+
+    pub pass-nets : numbered gives ≡ 0 → on-nets ≡ Fires
+    unfolding innerCauses
+    pass-nets e = skip-at t short _ takes a ∙ skip-at t unequal [] gives e ∙ nothing t
+
+-- over tables of the inner projections
 module _ (q : Rule) (taken : List Row) (held : List ℕ) (few : q .nets ≤ 8) (h : Inner (q .types) taken held) where
   pub taken-same : failing (q .nets) 0 (λ n. leV (rowIn 32 (q .pre .inner) n) (rowIn 32 held n)) ≡ failing (q .nets) 0 (innerTakenIn q taken)
   unfolding innerTakenIn
@@ -71,43 +135,58 @@ module _ (q : Rule) (taken : List Row) (held : List ℕ) (few : q .nets ≤ 8) (
       failing-same (q .nets) 0 (evenIn made held (q .pre .inner) (q .post .inner)) (innerGivenIn q taken given)
       (λ i k. rw (h .rows i (omega arith), m .rows i (omega arith)))
 
--- ---- all tests
-module _ (q : Rule) (taken given rows : List Row) where
-  pub stop-8 : eqV (outerRows taken) (q .pre .outer) ≡ false → answer (causesIn q taken given rows) ≡ Turned 8 2
-  unfolding causesIn
-  stop-8 e = stop 8 2 _ (eqV (outerRows taken) (q .pre .outer)) e
+-- ---- the tests on the marking
+module _ (t : ℕ) (taken : List Row) (give : ℕ) (rows : List Row) where
+  abbrev pub on-marking : Verdict
+  on-marking = answer t (markingCauses taken give rows)
 
-  module _ (a : eqV (outerRows taken) (q .pre .outer) ≡ true) where
-    pub stop-8-given : (t : ℕ) → length taken ≡ t → eqV (outerRows given) (q .post .outer) ≡ false → answer (causesIn q taken given rows) ≡ Turned 8 (t + 3)
+  abbrev lacks : Option ℕ
+  lacks = lackingRows rows 0 [] taken
+
+  pub stop-missing : (v : ℕ) → v ≡ numbered lacks → (v ≡ 0 → ⊥) → on-marking ≡ Turned 11 (v + 2)
+  unfolding markingCauses verdictOf
+  stop-missing v e h =
+      let k : 3 + (v - 1) ≡ v + 2 = omega (arith, some-number v h) in
+      stop-at t missing _ lacks v e h ∙ ap (Turned 11) k
+
+  module _ (a : numbered lacks ≡ 0) where
+    pub stop-crowded : 256 + length taken < length rows + give → on-marking ≡ Turned 12 (t + 3)
+    unfolding markingCauses verdictOf
+    stop-crowded h =
+        let k : 3 + t ≡ t + 3 = omega arith in
+        skip-at t missing _ lacks a ∙ stop t crowded [] _ (lt-leb (length rows - length taken + give) 256 (omega arith)) ∙ ap (Turned 12) k
+
+    pub pass-marking : give ≤ 256 → length rows + give ≤ 256 + length taken → on-marking ≡ Fires
+    unfolding markingCauses
+    pass-marking g h = skip-at t missing _ lacks a ∙ skip t crowded [] _ (le-leb (length rows - length taken + give) 256 (omega arith)) ∙ nothing t
+
+-- ---- the parts in turn
+module _ (t : ℕ) (q : Rule) (taken given rows : List Row) where
+  abbrev in-turn : Verdict
+  in-turn = answer t (causesIn q taken given rows)
+
+  abbrev behind-places : List (Option Cause)
+  behind-places = innerCauses q taken given ++ markingCauses taken (length given) rows
+
+  module _ (u : Verdict) (is : u ≡ on-places t (q .pre) (q .post) taken given) where
+    -- turned down on the places
+    pub by-places : {n k : ℕ} → u ≡ Turned n k → u ≡ in-turn
     unfolding causesIn
-    stop-8-given t l e =
-        let k : 3 + length taken ≡ t + 3 = omega arith in
-        skip 8 2 _ (eqV (outerRows taken) (q .pre .outer)) a ∙ stop 8 (3 + length taken) _ (eqV (outerRows given) (q .post .outer)) e ∙ ap (Turned 8) k
+    by-places e = e ∙ sym (turns t behind-places (outerCauses (q .pre) (q .post) taken given) (sym is ∙ e))
 
-    module _ (b : eqV (outerRows given) (q .post .outer) ≡ true) where
-      -- the tests that follow the outer ones
-      abbrev after-outer : List (Option Refusal)
-      after-outer =
-          at 9 (failing (q .nets) 0 (innerTakenIn q taken))
-          ∷ at 10 (failing (q .nets) 0 (innerGivenIn q taken given))
-          ∷ at 11 (lackingRows rows 2 [] taken)
-          ∷ unless (leb (length rows - length taken + length given) 256) 12 (3 + length taken)
-          ∷ []
-
-      outer-passed : answer (causesIn q taken given rows) ≡ answer after-outer
+    module _ (e : u ≡ Fires) where
+      places-passed : answer t behind-places ≡ in-turn
       unfolding causesIn
-      outer-passed = skip 8 2 _ (eqV (outerRows taken) (q .pre .outer)) a ∙ skip 8 (3 + length taken) _ (eqV (outerRows given) (q .post .outer)) b
+      places-passed = sym (goes-on t behind-places (outerCauses (q .pre) (q .post) taken given) (sym is ∙ e))
 
-      pub stop-9 : (v : ℕ) → v ≡ numbered (failing (q .nets) 0 (innerTakenIn q taken)) → (v ≡ 0 → ⊥) → answer (causesIn q taken given rows) ≡ Turned 9 v
-      stop-9 v e h = outer-passed ∙ stop-at 9 _ (failing (q .nets) 0 (innerTakenIn q taken)) v e h
+      module _ (v : Verdict) (says : v ≡ on-nets t q taken given) where
+        -- on the nets
+        pub by-nets : {n k : ℕ} → v ≡ Turned n k → v ≡ in-turn
+        by-nets f = f ∙ sym (turns t (markingCauses taken (length given) rows) (innerCauses q taken given) (sym says ∙ f)) ∙ places-passed
 
-      module _ (c : numbered (failing (q .nets) 0 (innerTakenIn q taken)) ≡ 0) where
-        pub stop-10 : (v : ℕ) → v ≡ numbered (failing (q .nets) 0 (innerGivenIn q taken given)) → (v ≡ 0 → ⊥) → answer (causesIn q taken given rows) ≡ Turned 10 v
-        stop-10 v e h =
-            outer-passed ∙ skip-at 9 _ (failing (q .nets) 0 (innerTakenIn q taken)) c ∙ stop-at 10 _ (failing (q .nets) 0 (innerGivenIn q taken given)) v e h
-
-        pub go-on : (t g n : ℕ) → length taken ≡ t → length given ≡ g → length rows ≡ n → numbered (failing (q .nets) 0 (innerGivenIn q taken given)) ≡ 0
-            → answer (causesIn q taken given rows) ≡ answer (at 11 (lackingRows rows 2 [] taken) ∷ unless (leb (n - t + g) 256) 12 (3 + t) ∷ [])
-        go-on t g n x y z e =
-            rw (← x, ← y, ← z)
-            (outer-passed ∙ skip-at 9 _ (failing (q .nets) 0 (innerTakenIn q taken)) c ∙ skip-at 10 _ (failing (q .nets) 0 (innerGivenIn q taken given)) e)
+        -- and else it is for the marking to say
+        pub by-marking : v ≡ Fires → (give : ℕ) → length given ≡ give → (w : Verdict) → w ≡ on-marking t taken give rows → w ≡ in-turn
+        by-marking f give l w h =
+            h ∙ ap (λ (g : ℕ). on-marking t taken g rows) (sym l)
+            ∙ sym (goes-on t (markingCauses taken (length given) rows) (innerCauses q taken given) (sym says ∙ f))
+            ∙ places-passed

@@ -1,16 +1,17 @@
 -- Why a step is turned down, over the rows of its net-tokens: 01's causes 8 to 12, in the table's order.
 use Prim.Native.Nat.{ℕ, suc, _+_, _-_}
 use mathlib.Core.Bool.{Bool, cond}
-use mathlib.Core.List.{List, [], _∷_}
+use mathlib.Core.List.{List, [], _∷_, _++_}
 use mathlib.Core.Option.{Option, none, some}
 use lib.Dec.{leb, eqb}
 use lib.ListN.{length, drop, getD}
 use Rattle.eos.specs.Vector.{_⊕_, _⊖_, zeros, unit, leV, eqV}
 use Rattle.eos.specs.Multiset as M
-use Rattle.eos.specs.Causes.{Refusal, unless, at, failing}
+use Rattle.eos.specs.Model.{Marking}
+use Rattle.eos.specs.Causes.{Refusal, Cause, taking, giving, short, unequal, missing, crowded, unless, at, failing}
 use Rattle.marking.specs.Rows.{Row}
 use Rattle.model.specs.Held.{rowIn}
-use Rattle.step.specs.Rule.{Rule}
+use Rattle.step.specs.Rule.{Sides, Rule}
 use Rattle.step.specs.declared.Verdict.{Verdict}
 use Rattle.step.specs.declared.Verdict.the-variants.{Fires, Turned}
 
@@ -42,19 +43,46 @@ abbrev pub lackingRows : List Row → ℕ → List Row → List Row → Option �
 lackingRows rows i seen [] = none
 lackingRows rows i seen (r ∷ l) = cond (leb (M.count eqV r (r ∷ seen)) (M.count eqV r rows)) (lackingRows rows (suc i) (r ∷ seen) l) (some i)
 
--- the tests of a step in their order; lines are counted from the step's `fire` line
-unfoldable pub causesIn : Rule → List Row → List Row → List Row → List (Option Refusal)
-causesIn q taken given rows =
-    let give = 3 + length taken in
-    unless (eqV (outerRows taken) (q .pre .outer)) 8 2
-    ∷ unless (eqV (outerRows given) (q .post .outer)) 8 give
-    ∷ at 9 (failing (q .nets) 0 (innerTakenIn q taken))
-    ∷ at 10 (failing (q .nets) 0 (innerGivenIn q taken given))
-    ∷ at 11 (lackingRows rows 2 [] taken)
-    ∷ unless (leb (length rows - length taken + length given) 256) 12 give
+-- room for 256 net-tokens, the test of 12
+abbrev pub hasRoom : Marking → Bool
+hasRoom μ = leb (length μ) 256
+
+-- the tests of a step in three parts: on the places of the system net (8)
+unfoldable pub outerCauses : Sides → Sides → List Row → List Row → List (Option Cause)
+outerCauses pre post taken given =
+    unless (eqV (outerRows taken) (pre .outer)) taking
+    ∷ unless (eqV (outerRows given) (post .outer)) giving
     ∷ []
 
+-- on each object net (9 and 10)
+unfoldable pub innerCauses : Rule → List Row → List Row → List (Option Cause)
+innerCauses q taken given =
+    at short (failing (q .nets) 0 (innerTakenIn q taken))
+    ∷ at unequal (failing (q .nets) 0 (innerGivenIn q taken given))
+    ∷ []
+
+-- on the marking, where `give` net-tokens are given (11 and 12)
+unfoldable pub markingCauses : List Row → ℕ → List Row → List (Option Cause)
+markingCauses taken give rows =
+    at missing (lackingRows rows 0 [] taken)
+    ∷ unless (leb (length rows - length taken + give) 256) crowded
+    ∷ []
+
+-- all tests of a step in their order
+unfoldable pub causesIn : Rule → List Row → List Row → List Row → List (Option Cause)
+causesIn q taken given rows = outerCauses (q .pre) (q .post) taken given ++ (innerCauses q taken given ++ markingCauses taken (length given) rows)
+
+-- 01's table: a cause's number, and what stands beside it. Nets are numbered from 1, lines from the step's `fire` line: `take` is line 2,
+-- its `lines` token lines follow, then `give`
+abbrev pub causePair : ℕ → Cause → Refusal
+causePair lines taking = record { number = 8; beside = 2 }
+causePair lines giving = record { number = 8; beside = 3 + lines }
+causePair lines (short n) = record { number = 9; beside = suc n }
+causePair lines (unequal n) = record { number = 10; beside = suc n }
+causePair lines (missing i) = record { number = 11; beside = 3 + i }
+causePair lines crowded = record { number = 12; beside = 3 + lines }
+
 -- a step fires where it meets no cause, and is turned down by the first that it meets
-unfoldable pub verdictOf : Option Refusal → Verdict
-verdictOf none = Fires
-verdictOf (some r) = Turned (r .number) (r .beside)
+unfoldable pub verdictOf : ℕ → Option Cause → Verdict
+verdictOf lines none = Fires
+verdictOf lines (some c) = let r = causePair lines c in Turned (r .number) (r .beside)

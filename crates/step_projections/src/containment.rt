@@ -39,15 +39,15 @@ fn has(taken: &[u16], i: usize, rows: &[u16], len: usize) -> bool
     seen(taken, i, row) < count(rows, len, row)
 }
 
-// The line of the first of the rows taken of which the marking has too few; 0 where there is none.
+// The first of the rows taken, numbered from 1, of which the marking has too few; 0 where there is none.
 pub fn lacking(taken: &[u16], n: usize, rows: &[u16], len: usize) -> usize
     requires { ⌜ (n ≤ 256) × (length (now taken) ≡ 8448) × Kept len (now rows) ⌝ }
-    ensures { λ r. ⌜ r ≡ numbered (lackingRows (rowsIn len (now (rows .entry))) 2 [] (rowsIn n (now (taken .entry)))) ⌝ }
+    ensures { λ r. ⌜ (r ≤ n) × (r ≡ numbered (lackingRows (rowsIn len (now (rows .entry))) 0 [] (rowsIn n (now (taken .entry))))) ⌝ }
 {
     let mut i = 0;
     while i < n {
         if !has(taken, i, rows, len) {
-            return i + 3;
+            return i + 1;
         }
         i += 1;
     }

@@ -1,14 +1,12 @@
 // The verdict on a step: the tests in their order, up to the first that fails.
 ghost use mathlib.Core.Path.{_≡_};
-ghost use mathlib.Core.List.{[], _∷_};
-ghost use Prim.Native.Nat.{_+_, _-_, _≤_};
-ghost use lib.Dec.{leb};
+ghost use Prim.Native.Nat.{_≤_};
 ghost use lib.ListN.{length};
-ghost use Rattle.eos.specs.Causes.{first, unless, at};
+ghost use Rattle.eos.specs.Causes.{first};
 ghost use Rattle.marking.specs.Rows.{rowsIn, Kept};
 ghost use Rattle.step.specs.declared.Verdict.the-variants.{Turned};
-ghost use Rattle.step.specs.Verdict.{lackingRows, causesIn, verdictOf};
-ghost use Rattle.step.specs.Rule.{ruleIn};
+ghost use Rattle.step.specs.Verdict.{outerCauses, innerCauses, markingCauses, causesIn, verdictOf};
+ghost use Rattle.step.specs.Rule.{ruleSides, ruleIn};
 ghost use Rattle.step.specs.VerdictParts.{SidesLent, Placed};
 use model::Model;
 use model_packed::PRE;
@@ -30,38 +28,17 @@ fn turned(cause: u8, beside: usize) -> Verdict
     }
 }
 
-// The tests against the marking: it has the net-tokens taken, and room for those given.
-fn on_marking(taken: &[u16], take: usize, give: usize, rows: &[u16], len: usize) -> Verdict
-    requires { ⌜ (take ≤ 256) × (length (now taken) ≡ 8448) × (give ≤ 256) × Kept len (now rows) ⌝ }
-    ensures { λ r. ⌜ r ≡ verdictOf (first (at 11 (lackingRows (rowsIn len (now (rows .entry))) 2 [] (rowsIn take (now (taken .entry))))
-        ∷ unless (leb (len - take + give) 256) 12 (3 + take) ∷ [])) ⌝ }
-{
-    let line = lacking(taken, take, rows, len);
-    if line != 0 {
-        return turned(11, line);
-    }
-    let most = Model::TOKENS as usize;
-    if most + take < len + give {
-        return turned(12, take + 3);
-    }
-    Verdict::Fires
-}
-
-// Why a step is turned down, or that it fires: an event with the sides `pre` and `post`, of a model that is packed; `take` rows of `taken`
-// and `give` rows of `given`, on a marking of `len` rows.
-pub fn verdict<'a>(
-    plan: &[u8],
-    pre: &'a [u64],
-    post: &'a [u64],
+// The tests on the places (8): the net-tokens taken are those that the event asks, and those given are those that it gives.
+pub fn on_places(
+    pre: &[u64],
+    post: &[u64],
     taken: &[u16],
     take: usize,
     given: &[u16],
     give: usize,
-    rows: &[u16],
-    len: usize,
 ) -> Verdict
-    requires { ⌜ SidesLent (now plan) (now pre) (now post) × Placed take (now taken) × Placed give (now given) × Kept len (now rows) ⌝ }
-    ensures { λ r. ⌜ r ≡ verdictOf (first (causesIn (ruleIn (now (plan .entry)) (now (pre .entry)) (now (post .entry))) (rowsIn take (now (taken .entry))) (rowsIn give (now (given .entry))) (rowsIn len (now (rows .entry))))) ⌝ }
+    requires { ⌜ (length (now pre) ≡ 288) × (length (now post) ≡ 288) × Placed take (now taken) × Placed give (now given) ⌝ }
+    ensures { λ r. ⌜ r ≡ verdictOf take (first (outerCauses (ruleSides (now (pre .entry))) (ruleSides (now (post .entry))) (rowsIn take (now (taken .entry))) (rowsIn give (now (given .entry))))) ⌝ }
 {
     if !same_places(outer_of(taken, take), &pre[0..32]) {
         return turned(8, 2);
@@ -69,6 +46,22 @@ pub fn verdict<'a>(
     if !same_places(outer_of(given, give), &post[0..32]) {
         return turned(8, take + 3);
     }
+    Verdict::Fires
+}
+
+// The tests on the nets (9 and 10): the tokens inside the net-tokens taken are enough, and those inside the net-tokens given are what is left.
+pub fn on_nets<'a>(
+    plan: &[u8],
+    pre: &'a [u64],
+    post: &'a [u64],
+    taken: &[u16],
+    take: usize,
+    given: &[u16],
+    give: usize,
+) -> Verdict
+    requires { ⌜ SidesLent (now plan) (now pre) (now post) × Placed take (now taken) × Placed give (now given) ⌝ }
+    ensures { λ r. ⌜ r ≡ verdictOf take (first (innerCauses (ruleIn (now (plan .entry)) (now (pre .entry)) (now (post .entry))) (rowsIn take (now (taken .entry))) (rowsIn give (now (given .entry))))) ⌝ }
+{
     let nets = plan[0] as usize;
     let mut held = [0u64; 256];
     inner_of(taken, take, &plan[TYPES..PRE], &mut held);
@@ -82,5 +75,48 @@ pub fn verdict<'a>(
     if unbalanced != 0 {
         return turned(10, unbalanced);
     }
+    Verdict::Fires
+}
+
+// The tests on the marking (11 and 12): it has the net-tokens taken, and room for those given.
+pub fn on_marking(taken: &[u16], take: usize, give: usize, rows: &[u16], len: usize) -> Verdict
+    requires { ⌜ (take ≤ 256) × (length (now taken) ≡ 8448) × (give ≤ 256) × Kept len (now rows) ⌝ }
+    ensures { λ r. ⌜ r ≡ verdictOf take (first (markingCauses (rowsIn take (now (taken .entry))) give (rowsIn len (now (rows .entry))))) ⌝ }
+{
+    let lacks = lacking(taken, take, rows, len);
+    if lacks != 0 {
+        return turned(11, lacks + 2);
+    }
+    let most = Model::TOKENS as usize;
+    if most + take < len + give {
+        return turned(12, take + 3);
+    }
+    Verdict::Fires
+}
+
+// Why a step is turned down, or that it fires: an event with the sides `pre` and `post`, of a model that is packed; `take` rows of `taken`
+// and `give` rows of `given`, on a marking of `len` rows. The three parts are asked in turn.
+pub fn verdict<'a>(
+    plan: &[u8],
+    pre: &'a [u64],
+    post: &'a [u64],
+    taken: &[u16],
+    take: usize,
+    given: &[u16],
+    give: usize,
+    rows: &[u16],
+    len: usize,
+) -> Verdict
+    requires { ⌜ SidesLent (now plan) (now pre) (now post) × Placed take (now taken) × Placed give (now given) × Kept len (now rows) ⌝ }
+    ensures { λ r. ⌜ r ≡ verdictOf take (first (causesIn (ruleIn (now (plan .entry)) (now (pre .entry)) (now (post .entry))) (rowsIn take (now (taken .entry))) (rowsIn give (now (given .entry))) (rowsIn len (now (rows .entry))))) ⌝ }
+{
+    let outer = on_places(pre, post, taken, take, given, give);
+    let Verdict::Fires = outer else {
+        return outer;
+    };
+    let inner = on_nets(plan, pre, post, taken, take, given, give);
+    let Verdict::Fires = inner else {
+        return inner;
+    };
     on_marking(taken, take, give, rows, len)
 }

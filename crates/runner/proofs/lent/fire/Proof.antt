@@ -34,7 +34,7 @@ marked s = rowsIn (s .args .len) (s .args .rows .now)
 
 -- the step meets no cause
 fires : (c : tie.After-enum-told)
-    → verdictOf (first (causesIn (rule (start (c .before .before))) (taken (start (c .before .before))) (given (start (c .before .before))) (marked (start (c .before .before))))) ≡ Fires
+    → verdictOf (start (c .before .before) .args .take) (first (causesIn (rule (start (c .before .before))) (taken (start (c .before .before))) (given (start (c .before .before))) (marked (start (c .before .before))))) ≡ Fires
 fires c = sym (c .before .before .verdict .ensures) ∙ c .enum-told .given .1
 
 verdict-requires : tie.Need-verdict-requires
@@ -51,8 +51,8 @@ change-requires c κs =
     let e = c .before in
     let s = start (e .before .before) in
     let a = s .args in
-    let w = fires-within (rule s) (taken s) (given s) (marked s) (fires e) in
-    let r = fires-room (rule s) (taken s) (given s) (marked s) (fires e) in
+    let w = fires-within (a .take) (rule s) (taken s) (given s) (marked s) (fires e) in
+    let r = fires-room (a .take) (rule s) (taken s) (given s) (marked s) (fires e) in
     let n = length-rows (a .take) (a .taken .now) in
     let g = length-rows (a .give) (a .given .now) in
     let k = length-rows (a .len) (a .rows .now) in
@@ -63,7 +63,7 @@ sub-t19 c =
     let e = c .before .before in
     let s = start (e .before .before) in
     let a = s .args in
-    taken-few (a .rows .now) (a .len) (a .taken .now) (a .take) (fires-within (rule s) (taken s) (given s) (marked s) (fires e))
+    taken-few (a .rows .now) (a .len) (a .taken .now) (a .take) (fires-within (a .take) (rule s) (taken s) (given s) (marked s) (fires e))
 
 add-t20 : tie.Need-add-t20
 add-t20 c = search needs

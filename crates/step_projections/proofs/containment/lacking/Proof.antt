@@ -13,7 +13,7 @@ use Rattle.eos.specs.Causes.{numbered}
 use Rattle.step.proofs.LackLaws.{rest, rest-start, rest-on, rest-here, rest-end}
 
 abbrev Inv-loop : tie.InvT-loop
-Inv-loop taken n rows len i₀ i = (i ≤ n) × (lackingRows (rowsIn len rows) 2 [] (rowsIn n taken) ≡ rest (rowsIn len rows) n taken i)
+Inv-loop taken n rows len i₀ i = (i ≤ n) × (lackingRows (rowsIn len rows) 0 [] (rowsIn n taken) ≡ rest (rowsIn len rows) n taken i)
 
 abbrev μ-loop : tie.MeasureT-loop
 μ-loop taken n rows len i₀ i = n - i
@@ -34,11 +34,11 @@ returns c =
     let l = c .before .before .before in
     let a = l .before .before .before .args in
     let t = c .before .has in
-    let k : suc (l .loop .i + 2) ≡ l .loop .i + 3 = omega arith in
+    let k : suc (l .loop .i) ≡ l .loop .i + 1 = omega arith in
     let e =
     rest-here (rowsIn (a .len) (a .rows .now)) (a .n) (a .taken .now) (l .loop .i) (c .before .before .loop-test .taken) (t .ensures)
     (not-true (t .result) (c .if1 .taken)) in
-    sym (ap numbered (l .loop .inv .1 ∙ e) ∙ k)
+    (omega (arith, c .before .before .loop-test .taken), sym (ap numbered (l .loop .inv .1 ∙ e) ∙ k))
 
 add-i : tie.Need-add-i Inv-loop μ-loop
 add-i c = search needs
@@ -60,7 +60,7 @@ returns-2 : tie.Need-returns-2 Inv-loop μ-loop
 returns-2 c =
     let l = c .before in
     let a = l .before .before .before .args in
-    sym (ap numbered (l .loop .inv .1 ∙ rest-end (rowsIn (a .len) (a .rows .now)) (a .n) (a .taken .now) (l .loop .i) (c .loop-test .left)))
+    (omega arith, sym (ap numbered (l .loop .inv .1 ∙ rest-end (rowsIn (a .len) (a .rows .now)) (a .n) (a .taken .now) (l .loop .i) (c .loop-test .left))))
 
 pub lacking-spec : {M : Type 1} → statement M
 lacking-spec =
