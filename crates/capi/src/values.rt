@@ -27,7 +27,7 @@ pub fn used_by(answer: StepAnswer) -> usize
         StepAnswer::Fired { bytes } => bytes,
         StepAnswer::TooLong => 0,
         StepAnswer::NotHeld => 0,
-        StepAnswer::Faulty { why: _, line: _ } => 0,
+        StepAnswer::Faulty { spot: _ } => 0,
         StepAnswer::Turned {
             cause: _,
             beside: _,

@@ -7,7 +7,7 @@ pub use model::Event;
 pub use model::Model;
 pub use model::ObjectNet;
 
-// Reader. `modelReading`, `markingReading`, `heldModel`, `heldBoth`, `markingWriting` (reader/specs/Answers.antt).
+// Reader. `modelReading`, `markingReading`, `heldBoth`, `markingWriting` (reader/specs/Answers.antt), `heldModel` (model/specs/Test.antt).
 pub use reader::MarkingReading;
 pub use reader::ModelReading;
 pub use reader::ReadAnswer;
@@ -18,7 +18,10 @@ pub use reader::test_marking;
 pub use reader::test_model;
 pub use reader::write_marking;
 
-// Runner. `stepping` (firing/specs/Answers.antt), `running` (running/specs/Running.antt).
+// A fault, in the answers of all levels.
+pub use text::Spot;
+
+// Runner. `stepping` (runner/specs/Answers.antt), `running` (runner_trace/specs/Running.antt).
 pub use runner::StepAnswer;
 pub use runner::Stepped;
 pub use runner::stepping::step;
@@ -26,7 +29,7 @@ pub use runner_trace::Ran;
 pub use runner_trace::Stop;
 pub use runner_trace::run;
 
-// Keeper. `weightChecking` (weights/specs/Answers.antt).
+// Keeper. `weightChecking` (keeper/specs/Answers.antt).
 pub use keeper::Sum;
 pub use keeper::WeightAnswer;
 pub use keeper::WeightCheck;

@@ -10,14 +10,12 @@ use Rattle.text.specs.Bytes.{Text, bytes}
 use Rattle.text.specs.Lines.{Outcome, got, bad, fault, then, need, readHead, readWeights, modest}
 use Rattle.text.specs.Repeat.{manyAt, fill}
 use Rattle.text.specs.Capped.{above, below}
-use Rattle.text.specs.Answers.{lineOf, endedIn, endedOf, keptOr, padded, weightRowOf}
+use Rattle.text.specs.Answers.{endedOf, keptOr, padded, weightRowOf}
 use Rattle.text.specs.declared.Fault.{Fault}
 use Rattle.text.specs.declared.Ended.{Ended}
 use Rattle.text.specs.declared.Ended.the-variants.{Past, Stopped}
-use Rattle.text.specs.declared.Line.{Line}
-use Rattle.text.specs.declared.Line.the-variants.{Value, Refused}
 use Rattle.text.specs.declared.WeightRow.{WeightRow}
-use Rattle.text.proofs.Loops.{Got, got-of, bad-of, line-got, line-bad}
+use Rattle.text.proofs.Loops.{Got, got-of, bad-of, head-got}
 use Rattle.eos.specs.Weights.{Weights}
 use Rattle.model.specs.Held.{tabled, modelOf}
 use Rattle.model.specs.declared.Model.{Model}
@@ -76,11 +74,11 @@ module _ (m : Model) (long : length (m .types) ≡ 32) (few : m .places ≤ 32) 
   abbrev outers : ℕ → Outcome (List ℤ)
   outers at = readWeights (bytes "outer=") (m .places) (modest 1000) s at
 
-  head-bad : (d : Fault) → readHead (bytes "inv=") s at ≡ bad d → file ≡ bad d
+  head-bad : (d : Fault) → readHead (bytes "inv=1\n") s at ≡ bad d → file ≡ bad d
   unfolding readWeightsAt then
   head-bad d a = rw a
 
-  module _ (v x₁ : ℕ) (first : readHead (bytes "inv=") s at ≡ got v x₁) where
+  module _ (x₁ : ℕ) (first : readHead (bytes "inv=1\n") s at ≡ got tt x₁) where
     outer-bad : (d : Fault) → outers x₁ ≡ bad d → file ≡ bad d
     unfolding readWeightsAt then
     outer-bad d b = rw (first, places-long m s long few, b)
@@ -104,15 +102,15 @@ module _ (m : Model) (long : length (m .types) ≡ 32) (few : m .places ≤ 32) 
   abbrev none : Ended → WeightLines
   none e = record { ended = e; weights = noWeights }
 
-  pub head-weights-refused : (a : Line) (d : Fault) → a ≡ Refused d → a ≡ lineOf (readHead (bytes "inv=") s at) → none (endedIn a) ≡ linesOf file
-  head-weights-refused a d h k = lines-bad file (endedIn a) d (ap endedIn h) (head-bad d (line-bad _ d (sym h ∙ k))) (none (endedIn a)) refl
+  pub head-weights-refused : (a : Ended) (d : Fault) → a ≡ Stopped d → a ≡ endedOf (readHead (bytes "inv=1\n") s at) → none a ≡ linesOf file
+  head-weights-refused a d h k = lines-bad file a d h (head-bad d (bad-of _ a d k h)) (none a) refl
 
-  module _ (v x₁ : ℕ) (head : Value v x₁ ≡ lineOf (readHead (bytes "inv=") s at)) (a : WeightRow) (line : a ≡ weightRowOf (outers x₁)) where
-    first : readHead (bytes "inv=") s at ≡ got v x₁
-    first = line-got _ v x₁ head
+  module _ (x₁ : ℕ) (head : Past x₁ ≡ endedOf (readHead (bytes "inv=1\n") s at)) (a : WeightRow) (line : a ≡ weightRowOf (outers x₁)) where
+    first : readHead (bytes "inv=1\n") s at ≡ got tt x₁
+    first = head-got _ x₁ head
 
     pub outer-weights-refused : (d : Fault) → a .ended ≡ Stopped d → none (a .ended) ≡ linesOf file
-    outer-weights-refused d e = lines-bad file (a .ended) d e (outer-bad v x₁ first d (row-bad _ a line d e)) (none (a .ended)) refl
+    outer-weights-refused d e = lines-bad file (a .ended) d e (outer-bad x₁ first d (row-bad _ a line d e)) (none (a .ended)) refl
 
     module _ (x₂ : ℕ) (past : a .ended ≡ Past x₂) (h : HeldWeights)
         (laid : h ≡ record { above = sets (replicate 288 0) 0 (a .above); below = sets (replicate 288 0) 0 (a .below) })
@@ -122,7 +120,7 @@ module _ (m : Model) (long : length (m .types) ≡ 32) (few : m .places ≤ 32) 
 
       pub inner-weights-refused : (d : Fault) → r .ended ≡ Stopped d → none (r .ended) ≡ linesOf file
       inner-weights-refused d e =
-          lines-bad file (r .ended) d e (inner-bad v x₁ first (second .value) x₂ (second .is) d (all-bad h _ r all d e)) (none (r .ended)) refl
+          lines-bad file (r .ended) d e (inner-bad x₁ first (second .value) x₂ (second .is) d (all-bad h _ r all d e)) (none (r .ended)) refl
 
       module _ (x₃ : ℕ) (end : r .ended ≡ Past x₃) where
         third : Got (inners x₂) x₃
@@ -131,11 +129,11 @@ module _ (m : Model) (long : length (m .types) ≡ 32) (few : m .places ≤ 32) 
         pub more-weights-refused : x₃ < length s → none (Stopped (fault 2 x₃)) ≡ linesOf file
         more-weights-refused k =
             lines-bad file (Stopped (fault 2 x₃)) (fault 2 x₃) refl
-            (more-bad v x₁ first (second .value) x₂ (second .is) (third .value) x₃ (third .is) k) (none (Stopped (fault 2 x₃))) refl
+            (more-bad x₁ first (second .value) x₂ (second .is) (third .value) x₃ (third .is) k) (none (Stopped (fault 2 x₃))) refl
 
         pub file-read : length s ≤ x₃ → r ≡ linesOf file
         file-read k =
-            lines-got file _ x₃ (file-got v x₁ first (second .value) x₂ (second .is) (third .value) x₃ (third .is) k) r end
+            lines-got file _ x₃ (file-got x₁ first (second .value) x₂ (second .is) (third .value) x₃ (third .is) k) r end
             (all-held h _ r all (third .value) x₃ (third .is) ∙ ap (λ (g : HeldWeights). behindOuter g (third .value)) laid
             ∙ all-laid (second .value) (third .value) (a .above) (a .below)
             (row-above _ a line (second .value) x₂ (second .is)) (row-below _ a line (second .value) x₂ (second .is)))

@@ -31,7 +31,7 @@ use Rattle.keeper.specs.Reading.{readInner, readWeightsAt, readWeightFil
 -- the lines, without the end of the text
 abbrev readLines : eos.Model → Text → ℕ → Outcome Weights
 readLines m s at =
-    then (readHead (bytes "inv=") s at) λ _ x₁.
+    then (readHead (bytes "inv=1\n") s at) λ _ x₁.
     then (readWeights (bytes "outer=") (eos.places m) (modest 1000) s x₁) λ o x₂.
     then (manyAt (readInner m s) 0 (length (m .nets)) x₂) λ i x₃. need true 0 x₂ (got (record { outward = o; inward = i }) x₃)
 
@@ -53,12 +53,12 @@ module _ (m : eos.Model) where
   unfolding weightFileText rightWeights
   lines-exactly s =
       exactly-by
-      (first-makes (head-exactly (bytes "inv=") s)
+      (first-makes (head-exactly (bytes "inv=1\n") s)
       (λ v. first-makes (weights-exactly (bytes "outer=") (eos.places m) (modest 1000) s)
       (λ o. last-makes (manyAt-exactly s (readInner m s) (weightsText (bytes "inner=")) (rightInner m) (inner-exactly s) 0 (length (m .nets)))
       (λ i. true) 0 (λ i. record { outward = o; inward = i }) (λ w. w .inward) (λ i h. refl))
       (λ w. w .outward) (λ o w h r. ap (λ (w : Weights). w .outward) (r .2)))
-      (λ w. 1) (λ v w h r. eqb-true v 1 h))
+      (λ w. tt) (λ v w h r. refl))
       (λ w h. and-both (eqb (length (w .outward)) (eos.places m) && every (modest 1000) (w .outward)) _ (h .1 .0) (h .1 .1 .0))
       (λ w h.
       let p = and-true (eqb (length (w .outward)) (eos.places m) && every (modest 1000) (w .outward)) _ h in

@@ -5,8 +5,8 @@ use mathlib.Core.Option.{Option, none, some}
 use lib.Dec.{leb}
 use lib.IntN.{ℤ, natAbs}
 use lib.ListN.{length}
-use Rattle.text.specs.Bytes.{Text, lineAt}
-use Rattle.text.specs.Lines.{Outcome, got, bad}
+use Rattle.text.specs.Bytes.{Text}
+use Rattle.text.specs.Lines.{Outcome, got, bad, spotOf}
 use Rattle.text.specs.Capped.{above, below}
 use Rattle.text.specs.declared.Fault.{Fault}
 use Rattle.eos.specs.Model as eos
@@ -29,7 +29,7 @@ abbrev pub weightPair : WeightAnswer → Refusal
 weightPair Passed = pair 0 0
 weightPair TooLong = pair 1 0
 weightPair NotHeld = pair 14 0
-weightPair (Faulty why line) = pair why line
+weightPair (Faulty e) = pair (e .why) (e .line)
 weightPair (Turned cause beside) = pair cause beside
 
 -- a sum as its part above 0 and its part below 0
@@ -59,7 +59,7 @@ judgedWeights m μ w = turnedOr (2 + length (m .nets)) (weightRefusal m w) (pass
 
 -- a fault as its line
 abbrev pub faulty : Text → Fault → WeightAnswer
-faulty s e = Faulty (e .why) (lineAt s (e .at))
+faulty s e = Faulty (spotOf s e)
 
 -- the weights of the file are judged, or its line at fault is named
 unfoldable pub weighed : eos.Model → eos.Marking → Text → Outcome Weights → WeightCheck

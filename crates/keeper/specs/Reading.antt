@@ -19,7 +19,7 @@ readInner m s n at = readWeights (bytes "inner=") (eos.net m n .size) (modest 10
 -- `inv=1`, `outer`, then per net `inner`, and nothing after them, from a position on
 unfoldable pub readWeightsAt : eos.Model → Text → ℕ → Outcome Weights
 readWeightsAt m s at =
-    then (readHead (bytes "inv=") s at) λ _ x₁.
+    then (readHead (bytes "inv=1\n") s at) λ _ x₁.
     then (readWeights (bytes "outer=") (eos.places m) (modest 1000) s x₁) λ o x₂.
     then (manyAt (readInner m s) 0 (length (m .nets)) x₂) λ i x₃. readEnd s (record { outward = o; inward = i }) x₃
 

@@ -17,8 +17,9 @@ use model::Model;
 use reader::test_marking;
 use text::Ended;
 use text::Fault;
+use text::Spot;
 use text_reader::Reader;
-use text_scan::line_at;
+use text_scan::spot_of;
 use weigh_cover::covers;
 use weigh_marking::marking_weight;
 use weightfile::weight_lines;
@@ -49,7 +50,7 @@ pub enum WeightAnswer {
     Passed,
     TooLong,
     NotHeld,
-    Faulty { why: u8, line: usize },
+    Faulty { spot: Spot },
     Turned { cause: u8, beside: usize },
 }
 
@@ -82,8 +83,7 @@ fn fault_answer(s: &[u8], fault: Fault) -> WeightAnswer
     ensures { λ r. ⌜ r ≡ faulty (now (s .entry)) fault ⌝ }
 {
     WeightAnswer::Faulty {
-        why: fault.why,
-        line: line_at(s, fault.at),
+        spot: spot_of(s, fault),
     }
 }
 

@@ -16,11 +16,9 @@ use model::Model;
 use model::ObjectNet;
 use model_tables::counts::put_counts;
 use text::Ended;
-use text::Fault;
-use text::Line;
-use text_lines::ended_of;
 use text_lines::head_line;
 use text_lists::weight_line;
+use text_scan::fault_at;
 
 // No weights, and how the reading ended.
 fn no_lines(ended: Ended) -> WeightLines
@@ -85,9 +83,9 @@ pub fn weight_lines(m: Model, s: &[u8], at: usize) -> WeightLines
     requires { ⌜ heldModel m ≡ true ⌝ }
     ensures { λ r. ⌜ r ≡ linesOf (readWeightsAt (modelOf m) (now (s .entry)) at) ⌝ }
 {
-    let head = head_line(s, at, b"inv=");
-    let Line::Value { value: _, next: x1 } = head else {
-        return no_lines(ended_of(head));
+    let head = head_line(s, at, b"inv=1\n");
+    let Ended::Past { next: x1 } = head else {
+        return no_lines(head);
     };
     let o = weight_line(s, x1, b"outer=", m.places, HeldWeights::MOST);
     let e = o.ended;
@@ -104,7 +102,7 @@ pub fn weight_lines(m: Model, s: &[u8], at: usize) -> WeightLines
         return no_lines(f);
     };
     if x3 < s.len() {
-        let fault = Fault { why: 2, at: x3 };
+        let fault = fault_at(2, x3);
         return no_lines(Ended::Stopped { fault });
     }
     all

@@ -19,10 +19,10 @@ use model_text::Events;
 use model_text::Frame;
 use model_text::Syncs;
 use text::Ended;
-use text::Fault;
 use text::Line;
 use text_lines::number_line;
 use text_lists::list_line;
+use text_scan::fault_at;
 use text_scan::starts;
 
 // The line of an event that idles at a place, which is no place of black tokens.
@@ -36,7 +36,7 @@ fn idle_at(s: &[u8], at: usize, f: Frame) -> Acting
             let types = f.types;
             if types[value as usize - 1] == 0 {
                 return Acting::Refused {
-                    fault: Fault { why: 5, at },
+                    fault: fault_at(5, at),
                 };
             }
             Acting::Acts {
@@ -97,7 +97,7 @@ fn sync_at(s: &[u8], at: usize, f: Frame, own: u8, n: usize) -> Counts
     if !takes_part(own, n, counts) {
         return Counts {
             ended: Ended::Stopped {
-                fault: Fault { why: 5, at },
+                fault: fault_at(5, at),
             },
             counts: [0u8; 32],
         };

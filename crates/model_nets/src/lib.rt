@@ -21,6 +21,7 @@ use text::Line;
 use text_lines::ended_of;
 use text_lines::number_line;
 use text_lists::list_line;
+use text_scan::fault_at;
 
 // The bytes of a row.
 pub fn narrow(values: [u16; 32]) -> [u8; 32]
@@ -75,7 +76,7 @@ fn sides_at(s: &[u8], at: usize, size: usize, nets: u8, types: [u8; 32]) -> Side
     let pre = narrow(x);
     let post = narrow(y);
     if !monotonous(nets, size, types, pre, post) {
-        return no_sides(Fault { why: 4, at: next });
+        return no_sides(fault_at(4, next));
     }
     Sides {
         ended: Ended::Past { next: last },

@@ -43,9 +43,9 @@ fn no_outline(ended: Ended) -> Outline
 fn outline_at(s: &[u8], at: usize) -> Outline
     ensures { λ r. ⌜ r ≡ outlineOf (readOutline (now (s .entry)) at) ⌝ }
 {
-    let a = head_line(s, at, b"eos=");
-    let Line::Value { value: _, next: x1 } = a else {
-        return no_outline(ended_of(a));
+    let a = head_line(s, at, b"eos=1\n");
+    let Ended::Past { next: x1 } = a else {
+        return no_outline(a);
     };
     let b = number_line(s, x1, b"nets=", 0, Model::NETS);
     let Line::Value { value: n, next: x2 } = b else {

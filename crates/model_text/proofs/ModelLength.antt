@@ -1,6 +1,6 @@
 -- How long the text of a right model is at most.
 use Prim.Native.Nat.{ℕ, suc, _+_, _≤_, _<_}
-use mathlib.Core.Path.{_≡_}
+use mathlib.Core.Path.{_≡_, refl}
 use mathlib.Core.List.{List, [], _++_}
 use mathlib.Core.Bool.{true}
 use native.Mathlib.Omega.{arith}
@@ -93,7 +93,7 @@ module _ (m : Model) (right : Right m) where
       let size = few-places m right in
       let moves = few-moves m right in
       let events = few-events m right in
-      let t₁ = numberText (bytes "eos=") 1 in
+      let t₁ = bytes "eos=1\n" in
       let t₂ = numberText (bytes "nets=") (length (m .nets)) in
       let t₃ = numberText (bytes "places=") (places m) in
       let t₄ = listText (bytes "type=") (m .types) in
@@ -102,7 +102,7 @@ module _ (m : Model) (right : Right m) where
       let t₇ = texts netText (m .nets) in
       let t₈ = numberText (bytes "events=") (length (m .events)) in
       let t₉ = texts eventText (m .events) in
-      let l₁ = short (bytes "eos=") 1 (omega arith) in
+      let l₁ : length t₁ ≡ 6 = refl in
       let l₂ = short (bytes "nets=") (length (m .nets)) (omega arith) in
       let l₃ = short (bytes "places=") (places m) (omega arith) in
       let l₄ = row-length (bytes "type=") (m .types) size (λ i p. omega (arith, right-type m right i p)) in

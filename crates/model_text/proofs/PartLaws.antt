@@ -16,7 +16,7 @@ use Rattle.text.specs.declared.Ended.{Ended}
 use Rattle.text.specs.declared.Ended.the-variants.{Past, Stopped}
 use Rattle.text.specs.declared.Row.{Row}
 use Rattle.text.proofs.Exactly.{then-got, got-is}
-use Rattle.text.proofs.Loops.{line-got, line-bad, Got, got-of, bad-of}
+use Rattle.text.proofs.Loops.{line-got, line-bad, head-got, Got, got-of, bad-of}
 use Rattle.eos.specs.Model.{Transition, ObjectNet, Event}
 use Rattle.model.specs.Rules.{Frame}
 use Rattle.model.specs.Held.{preOf, postOf, tabled, noNet, holdNets, noEvent, holdEvents}
@@ -47,32 +47,35 @@ unfolding outlineOf endedOf keptOr
 outline-held o n p l t next k e = rw (k, e)
 
 module _ (s : Text) (at : ℕ) where
-  pub eos-refused : (a : Line) (d : Fault) → a ≡ Refused d → a ≡ lineOf (readHead (bytes "eos=") s at) → noOutline (endedIn a) ≡ outlineOf (readOutline s at)
-  unfolding readOutline then outlineOf endedOf keptOr
-  eos-refused a d h k = rw (h, line-bad _ d (sym h ∙ k))
+  abbrev head : Outcome (Unit {0})
+  head = readHead (bytes "eos=1\n") s at
 
-  module _ (v x₁ : ℕ) (first : Value v x₁ ≡ lineOf (readHead (bytes "eos=") s at)) where
+  pub eos-refused : (a : Ended) (d : Fault) → a ≡ Stopped d → a ≡ endedOf head → noOutline a ≡ outlineOf (readOutline s at)
+  unfolding readOutline then outlineOf endedOf keptOr
+  eos-refused a d h k = rw (h, bad-of head a d k h)
+
+  module _ (x₁ : ℕ) (first : Past x₁ ≡ endedOf head) where
     pub nets-refused : (a : Line) (d : Fault) → a ≡ Refused d → a ≡ lineOf (readNumber (bytes "nets=") (inRange 0 8) s x₁)
         → noOutline (endedIn a) ≡ outlineOf (readOutline s at)
     unfolding readOutline then outlineOf endedOf keptOr
-    nets-refused a d h k = rw (h, line-got _ v x₁ first, line-bad _ d (sym h ∙ k))
+    nets-refused a d h k = rw (h, head-got head x₁ first, line-bad _ d (sym h ∙ k))
 
     module _ (n x₂ : ℕ) (second : Value n x₂ ≡ lineOf (readNumber (bytes "nets=") (inRange 0 8) s x₁)) where
       pub places-refused : (a : Line) (d : Fault) → a ≡ Refused d → a ≡ lineOf (readNumber (bytes "places=") (inRange 1 32) s x₂)
           → noOutline (endedIn a) ≡ outlineOf (readOutline s at)
       unfolding readOutline then outlineOf endedOf keptOr
-      places-refused a d h k = rw (h, line-got _ v x₁ first, line-got _ n x₂ second, line-bad _ d (sym h ∙ k))
+      places-refused a d h k = rw (h, head-got head x₁ first, line-got _ n x₂ second, line-bad _ d (sym h ∙ k))
 
       module _ (p x₃ : ℕ) (third : Value p x₃ ≡ lineOf (readNumber (bytes "places=") (inRange 1 32) s x₂))
           (a : Row) (fourth : a ≡ rowOf (readList (bytes "type=") p (λ d. leb d n) s x₃)) where
         pub types-refused : (d : Fault) → a .ended ≡ Stopped d → noOutline (a .ended) ≡ outlineOf (readOutline s at)
         unfolding readOutline then outlineOf endedOf keptOr
-        types-refused d h = rw (h, line-got _ v x₁ first, line-got _ n x₂ second, line-got _ p x₃ third, row-bad _ a d fourth h)
+        types-refused d h = rw (h, head-got head x₁ first, line-got _ n x₂ second, line-got _ p x₃ third, row-bad _ a d fourth h)
 
         outline-is : (l : List ℕ) (x₄ : ℕ) → readList (bytes "type=") p (λ d. leb d n) s x₃ ≡ got l x₄
             → readOutline s at ≡ got (record { nets = n; places = p; types = l }) x₄
         unfolding readOutline then
-        outline-is l x₄ e = rw (line-got _ v x₁ first, line-got _ n x₂ second, line-got _ p x₃ third, e)
+        outline-is l x₄ e = rw (head-got head x₁ first, line-got _ n x₂ second, line-got _ p x₃ third, e)
 
         pub outline-read : (x₄ : ℕ) → a .ended ≡ Past x₄ → (t : List ℕ) → t ≡ map (λ d. d % 256) (a .values)
             → record { ended = Past x₄; nets = n; places = p; types = t } ≡ outlineOf (readOutline s at)
@@ -90,7 +93,7 @@ pub record Sound (o : parts.Outline) : Type 0 where
 pub outline-sound : (s : Text) (at : ℕ) (o : parts.Outline) (next : ℕ) → readOutline s at ≡ got o next → Sound o
 unfolding readOutline
 outline-sound s at o next e =
-    let a = then-got (readHead (bytes "eos=") s at) _ o next e in
+    let a = then-got (head s at) _ o next e in
     let b = then-got (readNumber (bytes "nets=") (inRange 0 8) s (a .next)) _ o next (a .rest) in
     let c = then-got (readNumber (bytes "places=") (inRange 1 32) s (b .next)) _ o next (b .rest) in
     let d = then-got (readList (bytes "type=") (c .value) (λ d. leb d (b .value)) s (c .next)) _ o next (c .rest) in

@@ -2,7 +2,6 @@
 use mathlib.Core.Path.{refl, ap, sym}
 use mathlib.Core.Bool.{true}
 use lib.Dec.{leb}
-use borrow.Author.Tests.{eqb-true}
 use lib.ListN.{length}
 use Rattle.text.specs.Bytes.{Text, bytes}
 use Rattle.text.specs.Lines.{need, inRange}
@@ -23,7 +22,7 @@ pub plant-exactly : (s : Text) → Exactly s (readPlant s) plantText rightModel
 unfolding readPlant plantText rightModel rightMove need
 plant-exactly s =
     exactly-by
-    (first-makes (head-exactly (bytes "eos=") s)
+    (first-makes (head-exactly (bytes "eos=1\n") s)
     (λ v. first-makes (number-exactly (bytes "nets=") (inRange 0 8) s)
     (λ n. first-makes (number-exactly (bytes "places=") (inRange 1 32) s)
     (λ p. first-makes (list-exactly (bytes "type=") p (λ d. leb d n) s)
@@ -40,7 +39,7 @@ plant-exactly s =
     (λ m. m .types) (λ types m h r. ap (λ (m : Model). m .types) (r .1 .1 .1 .1 .2)))
     places (λ p m h r. sym (eqb-and (places m) p _ (r .0) .0)))
     (λ m. length (m .nets)) (λ n m h r. sym (eqb-and (length (m .nets)) n _ (r .1 .1 .1 .1 .0) .0)))
-    (λ m. 1) (λ v m h r. eqb-true v 1 h))
+    (λ m. tt) (λ v m h r. refl))
     (λ m h.
     let moves = h .1 .1 .1 .1 in
     let nets = moves .1 .1 in

@@ -21,7 +21,7 @@ pub record System : Type 0 where
 -- the lines from `eos` to `type`
 unfoldable pub readOutline : Text → ℕ → Outcome Outline
 readOutline s at =
-    then (readHead (bytes "eos=") s at) λ _ x₁.
+    then (readHead (bytes "eos=1\n") s at) λ _ x₁.
     then (readNumber (bytes "nets=") (inRange 0 8) s x₁) λ n x₂.
     then (readNumber (bytes "places=") (inRange 1 32) s x₂) λ p x₃.
     then (readList (bytes "type=") p (λ d. leb d n) s x₃) λ types x₄. got (record { nets = n; places = p; types = types }) x₄

@@ -21,7 +21,7 @@ eventText e = actText (e .act) ++ texts (listText (bytes "sync=")) (e .sync)
 
 unfoldable pub plantText : Model → Text
 plantText m =
-    numberText (bytes "eos=") 1
+    bytes "eos=1\n"
     ++ (numberText (bytes "nets=") (length (m .nets))
     ++ (numberText (bytes "places=") (places m)
     ++ (listText (bytes "type=") (m .types)

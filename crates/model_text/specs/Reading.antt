@@ -49,7 +49,7 @@ eventless types moves nets = record { types = types; moves = moves; nets = nets;
 -- the lines from `eos` to the last event
 unfoldable pub readPlant : Text → ℕ → Outcome Model
 readPlant s at =
-    then (readHead (bytes "eos=") s at) λ _ x₁.
+    then (readHead (bytes "eos=1\n") s at) λ _ x₁.
     then (readNumber (bytes "nets=") (inRange 0 8) s x₁) λ n x₂.
     then (readNumber (bytes "places=") (inRange 1 32) s x₂) λ p x₃.
     then (readList (bytes "type=") p (λ d. leb d n) s x₃) λ types x₄.

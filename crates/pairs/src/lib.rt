@@ -34,7 +34,7 @@ pub fn read_pair(answer: ReadAnswer) -> Pair
         ReadAnswer::Accepted => row(0, 0),
         ReadAnswer::TooLong => row(1, 0),
         ReadAnswer::NotHeld => row(14, 0),
-        ReadAnswer::Faulty { why, line } => row(why, line),
+        ReadAnswer::Faulty { spot } => row(spot.why, spot.line),
     }
 }
 
@@ -46,7 +46,7 @@ pub fn weight_pair(answer: WeightAnswer) -> Pair
         WeightAnswer::Passed => row(0, 0),
         WeightAnswer::TooLong => row(1, 0),
         WeightAnswer::NotHeld => row(14, 0),
-        WeightAnswer::Faulty { why, line } => row(why, line),
+        WeightAnswer::Faulty { spot } => row(spot.why, spot.line),
         WeightAnswer::Turned { cause, beside } => row(cause, beside),
     }
 }
@@ -59,7 +59,7 @@ pub fn stop_pair(stop: Stop) -> Pair
         Stop::AtEnd => row(0, 0),
         Stop::TooLong => row(1, 0),
         Stop::NotHeld => row(14, 0),
-        Stop::Faulty { why, line } => row(why, line),
+        Stop::Faulty { spot } => row(spot.why, spot.line),
         Stop::Turned { cause, beside } => row(cause, beside),
     }
 }
@@ -72,7 +72,7 @@ pub fn step_pair(answer: StepAnswer) -> Pair
         StepAnswer::Fired { bytes: _ } => row(0, 0),
         StepAnswer::TooLong => row(1, 0),
         StepAnswer::NotHeld => row(14, 0),
-        StepAnswer::Faulty { why, line } => row(why, line),
+        StepAnswer::Faulty { spot } => row(spot.why, spot.line),
         StepAnswer::Turned { cause, beside } => row(cause, beside),
     }
 }

@@ -49,7 +49,7 @@ abbrev pub causeOf : StepAnswer → Option Refusal
 causeOf (Fired n) = none
 causeOf TooLong = some (stepPair TooLong)
 causeOf NotHeld = some (stepPair NotHeld)
-causeOf (Faulty why line) = some (stepPair (Faulty why line))
+causeOf (Faulty d) = some (stepPair (Faulty d))
 causeOf (Turned cause beside) = some (stepPair (Turned cause beside))
 
 -- the cause, and the marking left
@@ -60,7 +60,7 @@ not-fired : (a : StepAnswer) → ((n : ℕ) → a ≡ Fired n → ⊥) → hasFi
 not-fired (Fired n) h = absurd (h n refl)
 not-fired TooLong h = refl
 not-fired NotHeld h = refl
-not-fired (Faulty why line) h = refl
+not-fired (Faulty d) h = refl
 not-fired (Turned cause beside) h = refl
 
 long≢fired : {n : ℕ} → TooLong ≡ Fired n → ⊥

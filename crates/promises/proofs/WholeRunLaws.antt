@@ -40,7 +40,7 @@ said-cause : (a : StepAnswer) → saysFired a ≡ hasFired (causeOf a)
 said-cause (Fired n) = refl
 said-cause TooLong = refl
 said-cause NotHeld = refl
-said-cause (Faulty why line) = refl
+said-cause (Faulty d) = refl
 said-cause (Turned cause beside) = refl
 
 module _ (m : Model) where
@@ -59,7 +59,7 @@ fired-number : (a : StepAnswer) → saysFired a ≡ true → stepPair a .number 
 fired-number (Fired n) h = refl
 fired-number TooLong h = absurd (false≢true h)
 fired-number NotHeld h = absurd (false≢true h)
-fired-number (Faulty why line) h = absurd (false≢true h)
+fired-number (Faulty d) h = absurd (false≢true h)
 fired-number (Turned cause beside) h = absurd (false≢true h)
 
 -- and so has the call at an index at which the run fired

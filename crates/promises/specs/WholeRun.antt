@@ -70,7 +70,7 @@ abbrev pub saysFired : StepAnswer → Bool
 saysFired (Fired n) = true
 saysFired TooLong = false
 saysFired NotHeld = false
-saysFired (Faulty why line) = false
+saysFired (Faulty d) = false
 saysFired (Turned cause beside) = false
 
 -- the net-tokens of a held marking

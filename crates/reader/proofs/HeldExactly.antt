@@ -12,6 +12,7 @@ use borrow.Author.Tests.{le-leb, leb-true}
 use Rattle.text.specs.Bytes.{Text}
 use Rattle.text.proofs.Basics.{by-test, and-true}
 use Rattle.text.specs.Lines.{Outcome, got, bad, every}
+use Rattle.text.specs.declared.Spot.{Spot}
 use Rattle.text.proofs.TestLaws.{and-both}
 use Rattle.text.proofs.Unique.{was-printed}
 use Rattle.eos.specs.Model as eos
@@ -66,7 +67,7 @@ Printed s m k =
 long≢accepted : TooLong ≡ Accepted → ⊥
 long≢accepted e = let z : _≡_ {A = ℕ} 0 1 = cc in omega arith
 
-faulty≢accepted : {why line : ℕ} → Faulty why line ≡ Accepted → ⊥
+faulty≢accepted : {d : Spot} → Faulty d ≡ Accepted → ⊥
 faulty≢accepted e = let z : _≡_ {A = ℕ} 0 1 = cc in omega arith
 
 -- equal models and starts are accepted alike

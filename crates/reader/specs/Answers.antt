@@ -4,8 +4,8 @@ use mathlib.Core.Bool.{Bool, true, false, _&&_}
 use mathlib.Core.List.{List}
 use lib.Dec.{leb}
 use lib.ListN.{length}
-use Rattle.text.specs.Bytes.{Text, lineAt}
-use Rattle.text.specs.Lines.{Outcome, got, bad}
+use Rattle.text.specs.Bytes.{Text}
+use Rattle.text.specs.Lines.{Outcome, got, bad, spotOf}
 use Rattle.text.specs.Writing.{lay}
 use Rattle.text.specs.declared.Fault.{Fault}
 use Rattle.text.specs.declared.Wrote.{Wrote}
@@ -36,7 +36,7 @@ abbrev pub readPair : ReadAnswer → Refusal
 readPair Accepted = pair 0 0
 readPair TooLong = pair 1 0
 readPair NotHeld = pair 14 0
-readPair (Faulty why line) = pair why line
+readPair (Faulty e) = pair (e .why) (e .line)
 
 abbrev pub writePair : WriteAnswer → Refusal
 writePair (Written n) = pair 0 0
@@ -51,7 +51,7 @@ longest = 1048576
 
 -- a fault as its line
 abbrev pub faulty : Text → Fault → ReadAnswer
-faulty s e = Faulty (e .why) (lineAt s (e .at))
+faulty s e = Faulty (spotOf s e)
 
 abbrev pub noReading : ReadAnswer → ModelReading
 noReading a = record { answer = a; model = noModel; start = noMarking }

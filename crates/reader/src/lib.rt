@@ -14,17 +14,18 @@ use marking_write::write;
 use model::Model;
 use model_read::read_plant;
 use text::Ended;
-use text::Fault;
+use text::Spot;
 use text::Wrote;
 use text_reader::Reader;
-use text_scan::line_at;
+use text_scan::fault_at;
+use text_scan::spot_of;
 
 // How the reading of a text ended.
 pub enum ReadAnswer {
     Accepted,
     TooLong,
     NotHeld,
-    Faulty { why: u8, line: usize },
+    Faulty { spot: Spot },
 }
 
 // A model and its start in canonical order; refused, the empty model and no net-token.
@@ -55,8 +56,7 @@ fn answer_of(s: &[u8], ended: Ended) -> ReadAnswer
         return ReadAnswer::Accepted;
     };
     ReadAnswer::Faulty {
-        why: fault.why,
-        line: line_at(s, fault.at),
+        spot: spot_of(s, fault),
     }
 }
 
@@ -72,7 +72,7 @@ fn tokens_to_end(s: &[u8], at: usize, places: u16, sizes: [u8; 32]) -> Block
     };
     if next < s.len() {
         let marking = Marking::empty();
-        let fault = Fault { why: 2, at: next };
+        let fault = fault_at(2, next);
         return Block {
             ended: Ended::Stopped { fault },
             marking,

@@ -9,6 +9,7 @@ use lib.Dec.{leb→le, le→leb}
 use lib.ListN.{length}
 use Rattle.text.specs.Bytes.{Text}
 use Rattle.text.specs.Lines.{Outcome, got, bad}
+use Rattle.text.specs.declared.Spot.{Spot}
 use Rattle.eos.specs.Multiset as M
 use Rattle.eos.specs.Model as eos
 use Rattle.eos.specs.Firing.{Enabled, Step, after}
@@ -48,7 +49,7 @@ pub record Exactly (m : Model) (k : Marking) (s : Text) (next : ℕ) : Type 0 wh
 turned≢fired : {c b n : ℕ} → Turned c b ≡ Fired n → ⊥
 turned≢fired e = let z : _≡_ {A = ℕ} 0 1 = cc in omega arith
 
-faulty≢fired : {w l n : ℕ} → Faulty w l ≡ Fired n → ⊥
+faulty≢fired : {d : Spot} {n : ℕ} → Faulty d ≡ Fired n → ⊥
 faulty≢fired e = let z : _≡_ {A = ℕ} 0 1 = cc in omega arith
 
 module _ (m : Model) (k : Marking) (s : Text) (next : ℕ) where

@@ -4,8 +4,8 @@ use mathlib.Core.Bool.{Bool, true, false}
 use mathlib.Core.Option.{Option, none, some}
 use lib.Dec.{leb}
 use lib.ListN.{length}
-use Rattle.text.specs.Bytes.{Text, lineAt}
-use Rattle.text.specs.Lines.{Outcome, got, bad}
+use Rattle.text.specs.Bytes.{Text}
+use Rattle.text.specs.Lines.{Outcome, got, bad, spotOf}
 use Rattle.eos.specs.Model as eos
 use Rattle.eos.specs.Firing.{Step, after}
 use Rattle.eos.specs.Causes.{Refusal, Cause, refusal}
@@ -27,7 +27,7 @@ abbrev pub stepPair : StepAnswer → Refusal
 stepPair (Fired n) = pair 0 0
 stepPair TooLong = pair 1 0
 stepPair NotHeld = pair 14 0
-stepPair (Faulty why line) = pair why line
+stepPair (Faulty e) = pair (e .why) (e .line)
 stepPair (Turned cause beside) = pair cause beside
 
 -- the bytes that a step used; a refused step used none
@@ -35,7 +35,7 @@ abbrev pub usedBy : StepAnswer → ℕ
 usedBy (Fired n) = n
 usedBy TooLong = 0
 usedBy NotHeld = 0
-usedBy (Faulty why line) = 0
+usedBy (Faulty e) = 0
 usedBy (Turned cause beside) = 0
 
 -- what a step's text brings about on a marking: it fires, with the bytes used and the marking after, or is turned down
@@ -51,7 +51,7 @@ stepJudged μ t next (some c) = let r = causePair (length (t .taken)) c in stops
 -- line by line 2 and 3, lines counted from the step's own `fire` line, which begins the text; then 8 to 12
 unfoldable pub readThen : eos.Model → eos.Marking → Text → Outcome Step → Tried
 readThen m μ s (got t next) = stepJudged μ t next (refusal hasRoom m t μ)
-readThen m μ s (bad e) = stops (Faulty (e .why) (lineAt s (e .at)))
+readThen m μ s (bad e) = stops (Faulty (spotOf s e))
 
 unfoldable pub tried : eos.Model → Sizes → eos.Marking → Text → Tried
 tried m z μ s = readThen m μ s (readStep bounds z (length (m .events)) s 0)

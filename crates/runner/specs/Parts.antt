@@ -2,7 +2,8 @@
 use Prim.Native.Nat.{ℕ, _+_, _-_}
 use mathlib.Core.List.{List, _++_}
 use lib.ListN.{length}
-use Rattle.text.specs.Bytes.{Text, lineAt}
+use Rattle.text.specs.Bytes.{Text}
+use Rattle.text.specs.Lines.{spotOf}
 use Rattle.text.specs.declared.Ended.{Ended}
 use Rattle.text.specs.declared.Ended.the-variants.{Past, Stopped}
 use Rattle.eos.specs.Vector.{eqV, lexV}
@@ -19,7 +20,7 @@ use Rattle.runner.specs.Answers.{stays}
 -- how the reading of a step's lines ended: up to a position, or at a fault, which is named by its line
 abbrev pub answered : Text → Ended → StepAnswer
 answered s (Past next) = Fired next
-answered s (Stopped e) = Faulty (e .why) (lineAt s (e .at))
+answered s (Stopped e) = Faulty (spotOf s e)
 
 -- the rows of a marking changed by those taken and given
 abbrev pub changed : Marking → List Row → List Row → Marking

@@ -22,7 +22,7 @@ use step_read::read_step;
 use step_rule::rule_of;
 use step_verdict::verdict;
 use text::Ended;
-use text_scan::line_at;
+use text_scan::spot_of;
 
 // The answer for how the lines of a step ended: a fault is named by its line.
 fn answer_of(s: &[u8], ended: Ended) -> StepAnswer
@@ -31,8 +31,7 @@ fn answer_of(s: &[u8], ended: Ended) -> StepAnswer
     match ended {
         Ended::Past { next } => StepAnswer::Fired { bytes: next },
         Ended::Stopped { fault } => StepAnswer::Faulty {
-            why: fault.why,
-            line: line_at(s, fault.at),
+            spot: spot_of(s, fault),
         },
     }
 }

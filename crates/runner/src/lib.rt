@@ -1,5 +1,6 @@
 // The Runner level: a step's text is tried on a held marking of a held model.
 use marking::Marking;
+use text::Spot;
 
 pub mod lent;
 pub mod stepping;
@@ -9,7 +10,7 @@ pub enum StepAnswer {
     Fired { bytes: usize },
     TooLong,
     NotHeld,
-    Faulty { why: u8, line: usize },
+    Faulty { spot: Spot },
     Turned { cause: u8, beside: usize },
 }
 

@@ -5,7 +5,7 @@ use mathlib.Core.Bool.{true, false}
 use lib.ListN.{length, drop}
 use borrow.Author.Tests.{le-leb, lt-leb}
 use Rattle.text.specs.Bytes.{Text, bytes}
-use Rattle.text.specs.Lines.{got, bad, readHead}
+use Rattle.text.specs.Lines.{got, bad, spotOf, readHead}
 use Rattle.text.specs.declared.Fault.{Fault}
 use Rattle.model.specs.declared.Model.{Model}
 use Rattle.marking.specs.declared.Marking.{Marking}
@@ -25,11 +25,11 @@ module _ (m : Model) (k : Marking) (s : Text) where
 
     module _ (held : heldBoth m k ≡ true) where
       -- the header is refused
-      pub trace-unheaded : (d : Fault) → readHead (bytes "run=") s 0 ≡ bad d → ran 0 (Faulty 2 1) k ≡ running m k s
+      pub trace-unheaded : (d : Fault) → readHead (bytes "run=1\n") s 0 ≡ bad d → ran 0 (Faulty (spotOf s d)) k ≡ running m k s
       unfolding running runWhereHeld headed
       trace-unheaded d e = rw (le-leb (length s) longest few, running, held, e)
 
       -- the steps follow
-      pub trace-headed : (v next : ℕ) → readHead (bytes "run=") s 0 ≡ got v next → runFrom (length s) m k (drop next s) 0 ≡ running m k s
+      pub trace-headed : (next : ℕ) → readHead (bytes "run=1\n") s 0 ≡ got tt next → runFrom (length s) m k (drop next s) 0 ≡ running m k s
       unfolding running runWhereHeld headed
-      trace-headed v next e = rw (le-leb (length s) longest few, running, held, e)
+      trace-headed next e = rw (le-leb (length s) longest few, running, held, e)

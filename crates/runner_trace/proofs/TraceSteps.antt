@@ -39,7 +39,7 @@ pub turn-on : (a : StepAnswer) (n : ℕ) → turnOf a ≡ On n → a ≡ Fired n
 turn-on (Fired k) n e = let z : k ≡ n = cc in ap Fired z
 turn-on TooLong n e = let z : _≡_ {A = ℕ} 0 1 = cc in absurd (omega arith)
 turn-on NotHeld n e = let z : _≡_ {A = ℕ} 0 1 = cc in absurd (omega arith)
-turn-on (Faulty why line) n e = let z : _≡_ {A = ℕ} 0 1 = cc in absurd (omega arith)
+turn-on (Faulty d) n e = let z : _≡_ {A = ℕ} 0 1 = cc in absurd (omega arith)
 turn-on (Turned cause beside) n e = let z : _≡_ {A = ℕ} 0 1 = cc in absurd (omega arith)
 
 off-is : {a b : Stop} → Off a ≡ Off b → a ≡ b
@@ -55,7 +55,7 @@ pub turn-off : (a : StepAnswer) (b : Stop) → turnOf a ≡ Off b → stoppedBy 
 turn-off (Fired k) b e = on≢off e
 turn-off TooLong b e = off-is e
 turn-off NotHeld b e = off-is e
-turn-off (Faulty why line) b e = off-is e
+turn-off (Faulty d) b e = off-is e
 turn-off (Turned cause beside) b e = off-is e
 
 -- a step fired or did not
@@ -63,7 +63,7 @@ by-turn : {G : Type 0} (a : StepAnswer) → ((n : ℕ) → a ≡ Fired n → G) 
 by-turn (Fired n) f g = f n refl
 by-turn TooLong f g = g (λ n e. fired-on TooLong _ n refl e)
 by-turn NotHeld f g = g (λ n e. fired-on NotHeld _ n refl e)
-by-turn (Faulty why line) f g = g (λ n e. fired-on (Faulty why line) _ n refl e)
+by-turn (Faulty d) f g = g (λ n e. fired-on (Faulty d) _ n refl e)
 by-turn (Turned cause beside) f g = g (λ n e. fired-on (Turned cause beside) _ n refl e)
 
 -- ---- one step of a run
@@ -140,7 +140,7 @@ from-keeps (suc f) m k s n h =
     (λ e. subst (λ (r : Ran). Keeps m (r .marking)) (sym (run-stops f m k n s p e)) (step-keeps m k h s)))
     (λ p. subst (λ (r : Ran). Keeps m (r .marking)) (sym (run-end (suc f) m k n s (omega arith))) h)
 
-headed-keeps : (m : Model) (k : Marking) (s : Text) (o : Outcome ℕ) → Keeps m k → Keeps m (headed m k s o .marking)
+headed-keeps : (m : Model) (k : Marking) (s : Text) (o : Outcome (Unit {0})) → Keeps m k → Keeps m (headed m k s o .marking)
 unfolding headed
 headed-keeps m k s (got v next) h = from-keeps (length s) m k (drop next s) 0 h
 headed-keeps m k s (bad e) h = h
@@ -149,7 +149,7 @@ pub run-keeps : (m : Model) (k : Marking) (s : Text) → Keeps m k → Keeps m (
 unfolding running runWhereHeld
 run-keeps m k s h =
     by-test (leb (length s) longest)
-    (λ t. rw (t, running, h .held) (headed-keeps m k s (readHead (bytes "run=") s 0) h))
+    (λ t. rw (t, running, h .held) (headed-keeps m k s (readHead (bytes "run=1\n") s 0) h))
     (λ t. rw (t, running) h)
 
 -- the length of the text is fuel enough: with more, a run is the same

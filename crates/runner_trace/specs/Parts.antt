@@ -6,6 +6,9 @@ use mathlib.Core.Bool.{true, false}
 use lib.Dec.{leb}
 use lib.ListN.{length, drop}
 use Rattle.text.specs.Bytes.{Text}
+use Rattle.text.specs.Lines.{spotOf}
+use Rattle.text.specs.declared.Ended.{Ended}
+use Rattle.text.specs.declared.Ended.the-variants.{Past, Stopped}
 use Rattle.model.specs.Held.{SizedModel}
 use Rattle.model.specs.declared.Model.{Model}
 use Rattle.model_packed.specs.Packed.{modelIn}
@@ -13,23 +16,29 @@ use Rattle.marking.specs.declared.Marking.{Marking}
 use Rattle.marking.specs.Sizes.{sizesIn}
 use Rattle.reader.specs.Answers.{longest, heldBoth}
 use Rattle.runner.specs.declared.StepAnswer.{StepAnswer}
-use Rattle.runner.specs.declared.StepAnswer.the-variants.{Fired, TooLong, NotHeld, Faulty, Turned}
+use Rattle.runner.specs.declared.StepAnswer.the-variants as step
 use Rattle.runner.specs.declared.Stepped.{Stepped}
 use Rattle.runner.specs.Answers.{heldStep}
-use Rattle.runner_trace.specs.declared.Stop.the-variants.{AtEnd}
+use Rattle.runner_trace.specs.declared.Stop.{Stop}
+use Rattle.runner_trace.specs.declared.Stop.the-variants.{AtEnd, Faulty}
 use Rattle.runner_trace.specs.declared.Turn.{Turn}
 use Rattle.runner_trace.specs.declared.Turn.the-variants.{On, Off}
 use Rattle.runner_trace.specs.declared.Progress.{Progress}
 use Rattle.runner_trace.specs.declared.Ran.{Ran}
 use Rattle.runner_trace.specs.Running.{stoppedBy, ran}
 
+-- what stops a run at its header, by how that ended: a fault, which is named by its line
+abbrev pub stopIn : Text → Ended → Stop
+stopIn s (Past next) = AtEnd
+stopIn s (Stopped e) = Faulty (spotOf s e)
+
 -- a run after a step: on behind its bytes, or stopped
 abbrev pub turnOf : StepAnswer → Turn
-turnOf (Fired n) = On n
-turnOf TooLong = Off (stoppedBy TooLong)
-turnOf NotHeld = Off (stoppedBy NotHeld)
-turnOf (Faulty why line) = Off (stoppedBy (Faulty why line))
-turnOf (Turned cause beside) = Off (stoppedBy (Turned cause beside))
+turnOf (step.Fired n) = On n
+turnOf step.TooLong = Off (stoppedBy step.TooLong)
+turnOf step.NotHeld = Off (stoppedBy step.NotHeld)
+turnOf (step.Faulty e) = Off (stoppedBy (step.Faulty e))
+turnOf (step.Turned cause beside) = Off (stoppedBy (step.Turned cause beside))
 
 -- how far a run at `at` has come after a turn, with n steps fired before: on behind the bytes used, with one more fired, or stopped
 abbrev pub progressOf : ℕ → ℕ → ℕ → Turn → Progress

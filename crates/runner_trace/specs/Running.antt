@@ -5,7 +5,7 @@ use mathlib.Core.Bool.{Bool, true, false}
 use lib.Dec.{leb}
 use lib.ListN.{length, drop}
 use Rattle.text.specs.Bytes.{Text, bytes}
-use Rattle.text.specs.Lines.{Outcome, got, bad, readHead}
+use Rattle.text.specs.Lines.{Outcome, got, bad, spotOf, readHead}
 use Rattle.eos.specs.Model as eos
 use Rattle.eos.specs.Causes.{Refusal}
 use Rattle.model.specs.Held.{modelOf}
@@ -26,7 +26,7 @@ abbrev pub stopPair : Stop → Refusal
 stopPair AtEnd = pair 0 0
 stopPair TooLong = pair 1 0
 stopPair NotHeld = pair 14 0
-stopPair (Faulty why line) = pair why line
+stopPair (Faulty e) = pair (e .why) (e .line)
 stopPair (Turned cause beside) = pair cause beside
 
 -- how a step that was not fired stops a run
@@ -34,7 +34,7 @@ abbrev pub stoppedBy : StepAnswer → Stop
 stoppedBy (step.Fired n) = AtEnd
 stoppedBy step.TooLong = TooLong
 stoppedBy step.NotHeld = NotHeld
-stoppedBy (step.Faulty why line) = Faulty why line
+stoppedBy (step.Faulty e) = Faulty e
 stoppedBy (step.Turned cause beside) = Turned cause beside
 
 abbrev pub ran : ℕ → Stop → Marking → Ran
@@ -54,13 +54,13 @@ runFrom zero m k s n = ran n AtEnd k
 runFrom (suc fuel) m k s n =
     onward (λ used μ. runFrom fuel m (holdMarking μ) (drop used s) (n + 1)) n k s (tried (modelOf m) (sizesFor m) (tokensOf (sizesFor m) k) s)
 
--- the header `run=1`, then steps; a bad header is 2 beside line 1
-unfoldable pub headed : Model → Marking → Text → Outcome ℕ → Ran
+-- the header `run=1`, then steps; a refused header is named by its line
+unfoldable pub headed : Model → Marking → Text → Outcome (Unit {0}) → Ran
 headed m k s (got v next) = runFrom (length s) m k (drop next s) 0
-headed m k s (bad e) = ran 0 (Faulty 2 1) k
+headed m k s (bad e) = ran 0 (Faulty (spotOf s e)) k
 
 unfoldable pub runWhereHeld : Bool → Model → Marking → Text → Ran
-runWhereHeld true m k s = headed m k s (readHead (bytes "run=") s 0)
+runWhereHeld true m k s = headed m k s (readHead (bytes "run=1\n") s 0)
 runWhereHeld false m k s = ran 0 NotHeld k
 
 -- 1, 14, the header, then steps. Refused before the first step: nothing fired, the marking as it was

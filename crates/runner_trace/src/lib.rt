@@ -7,7 +7,7 @@ ghost use Rattle.model.specs.Held.{SizedModel};
 ghost use Rattle.model_packed.specs.Packed.{modelIn};
 ghost use Rattle.marking.specs.Sizes.{sizesIn};
 ghost use Rattle.reader.specs.Answers.{longest, heldBoth};
-ghost use Rattle.runner_trace.specs.Parts.{turnOf, TurnFits, progressOf, Ready, turnAt, reached};
+ghost use Rattle.runner_trace.specs.Parts.{stopIn, turnOf, TurnFits, progressOf, Ready, turnAt, reached};
 ghost use Rattle.runner_trace.specs.Running.{ran, runFrom, running};
 use marking::Marking;
 use marking_test::sizes;
@@ -16,17 +16,19 @@ use model_packed::pack;
 use reader::test_marking;
 use runner::StepAnswer;
 use runner::lent::step_on;
-use text::Line;
+use text::Ended;
+use text::Spot;
 use text_lines::head_line;
 use text_reader::Reader;
 use text_reader::left;
+use text_scan::spot_of;
 
 // What stopped a run over a trace.
 pub enum Stop {
     AtEnd,
     TooLong,
     NotHeld,
-    Faulty { why: u8, line: usize },
+    Faulty { spot: Spot },
     Turned { cause: u8, beside: usize },
 }
 
@@ -64,8 +66,8 @@ fn turn_of(answer: StepAnswer) -> Turn
         StepAnswer::NotHeld => Turn::Off {
             stop: Stop::NotHeld,
         },
-        StepAnswer::Faulty { why, line } => Turn::Off {
-            stop: Stop::Faulty { why, line },
+        StepAnswer::Faulty { spot } => Turn::Off {
+            stop: Stop::Faulty { spot },
         },
         StepAnswer::Turned { cause, beside } => Turn::Off {
             stop: Stop::Turned { cause, beside },
@@ -196,6 +198,18 @@ pub fn run_refused(stop: Stop, k: Marking) -> Ran
     }
 }
 
+// What stops a run at its header, by how that ended: a fault is named by its line.
+fn stop_of(s: &[u8], ended: Ended) -> Stop
+    ensures { λ r. ⌜ r ≡ stopIn (now (s .entry)) ended ⌝ }
+{
+    let Ended::Stopped { fault } = ended else {
+        return Stop::AtEnd;
+    };
+    Stop::Faulty {
+        spot: spot_of(s, fault),
+    }
+}
+
 // The run over the trace that stands at `at`: the header, then steps, tried on a marking of a model.
 fn run_at(m: Model, k: Marking, s: &[u8], at: usize) -> Ran
     ensures { λ r. ⌜ r ≡ running m k (drop at (now (s .entry))) ⌝ }
@@ -207,9 +221,9 @@ fn run_at(m: Model, k: Marking, s: &[u8], at: usize) -> Ran
     if !test_marking(m, k) {
         return run_refused(Stop::NotHeld, k);
     }
-    let head = head_line(rest, 0, b"run=");
-    let Line::Value { value: _, next } = head else {
-        return run_refused(Stop::Faulty { why: 2, line: 1 }, k);
+    let head = head_line(rest, 0, b"run=1\n");
+    let Ended::Past { next } = head else {
+        return run_refused(stop_of(rest, head), k);
     };
     let mut plan = [0u8; 34996];
     pack(m, &mut plan);

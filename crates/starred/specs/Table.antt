@@ -53,7 +53,7 @@ unfoldable pub onceRead : ReadAnswer → Result → Result
 onceRead Accepted o = o
 onceRead TooLong o = unread (readPair TooLong)
 onceRead NotHeld o = unread (readPair NotHeld)
-onceRead (Faulty why line) o = unread (readPair (Faulty why line))
+onceRead (Faulty d) o = unread (readPair (Faulty d))
 
 unfoldable pub checked : WeightCheck → Result
 checked c = ofWeights (weightPair (c .answer)) (c .sum) (c .cover)

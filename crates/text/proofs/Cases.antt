@@ -26,7 +26,7 @@ model =
     ++ bytes "start=2\ntoken=1:1,0\ntoken=1:0,0\n"
 
 -- each line of a model is read where the line before it ends, and the last ends with the text
-pub model-reads : (readHead (bytes "eos=") model 0 ≡ got 1 6)
+pub model-reads : (readHead (bytes "eos=1\n") model 0 ≡ got tt 6)
     × (readNumber (bytes "nets=") (inRange 0 8) model 6 ≡ got 1 13)
     × (readNumber (bytes "places=") (inRange 1 32) model 13 ≡ got 2 22)
     × (readList (bytes "type=") 2 (inRange 0 1) model 22 ≡ got (1 ∷ 1 ∷ []) 31)
@@ -55,7 +55,7 @@ abbrev weights : Text
 weights = bytes "inv=1\nouter=1,1\ninner=1,1\n"
 
 -- the same of its weights
-pub weights-read : (readHead (bytes "inv=") weights 0 ≡ got 1 6)
+pub weights-read : (readHead (bytes "inv=1\n") weights 0 ≡ got tt 6)
     × (readWeights (bytes "outer=") 2 (modest 1000) weights 6 ≡ got (pos 1 ∷ pos 1 ∷ []) 16)
     × (readWeights (bytes "inner=") 2 (modest 1000) weights 16 ≡ got (pos 1 ∷ pos 1 ∷ []) 26)
     × (length weights ≡ 26)
@@ -80,10 +80,13 @@ pub number-edges : (nets (bytes "nets=8\n") ≡ got 8 7)
     × (nets (bytes "nets=00\n") ≡ bad (fault 2 0))
     × (nets (bytes "Nets=1\n") ≡ bad (fault 2 0))
     × (readNumber (bytes "places=") (inRange 1 32) (bytes "nets=1\nplaces=0\n") 7 ≡ bad (fault 3 7))
-    × (readHead (bytes "inv=") (bytes "inv=2\n") 0 ≡ bad (fault 2 0))
-    × (readHead (bytes "inv=") (bytes "inv=123456789012345678901234567890\n") 0 ≡ bad (fault 2 0))
+    × (readHead (bytes "inv=1\n") (bytes "inv=2\n") 0 ≡ bad (fault 2 0))
+    × (readHead (bytes "inv=1\n") (bytes "inv=123456789012345678901234567890\n") 0 ≡ bad (fault 2 0))
+    × (readHead (bytes "inv=1\n") (bytes "inv=01\n") 0 ≡ bad (fault 2 0))
+    × (readHead (bytes "inv=1\n") (bytes "inv=11\n") 0 ≡ bad (fault 2 0))
+    × (readHead (bytes "inv=1\n") (bytes "inv=1") 0 ≡ bad (fault 2 0))
 unfolding readHead readNumber then need judged behind starts item ended number numberOf digits
-number-edges = (refl, refl, refl, refl, refl, refl, refl, refl, refl, refl, refl, refl, refl, refl, refl, refl)
+number-edges = (refl, refl, refl, refl, refl, refl, refl, refl, refl, refl, refl, refl, refl, refl, refl, refl, refl, refl, refl)
 
 abbrev pre : Text → Outcome (List ℕ)
 pre s = readList (bytes "pre=") 2 (inRange 0 255) s 0

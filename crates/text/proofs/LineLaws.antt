@@ -1,18 +1,18 @@
 -- Laws of keys, ranges, lines and line numbers.
 use Prim.Native.Nat.{ℕ, _+_, _≤_, _<_}
-use mathlib.Core.Path.{_≡_, refl, sym, _∙_}
+use mathlib.Core.Path.{_≡_, sym, _∙_}
 use mathlib.Core.List.{List, []}
 use mathlib.Core.Bool.{Bool, true, false, and-false}
 use native.Mathlib.Omega.{arith}
-use lib.Dec.{eqb, leb}
-use borrow.Author.Tests.{eqb-true, eqb-false, leb-true, leb-false, le-leb, lt-leb}
+use lib.Dec.{leb}
+use borrow.Author.Tests.{leb-true, leb-false, le-leb, lt-leb}
 use lib.ListN.{length, drop}
 use Rattle.text.specs.Bytes.{Text, lf, starts}
 use Rattle.text.proofs.Basics.{by-test, and-true}
 use Rattle.text.specs.Number.{Read, missing, found, number, item}
-use Rattle.text.specs.Lines.{Outcome, got, bad, fault, then, need, judged, every, inRange, behind, readNumber, readHead}
-use Rattle.text.specs.Answers.{lineOf}
-use Rattle.text.specs.declared.Fault.{Fault}
+use Rattle.text.specs.Lines.{Outcome, got, bad, fault, need, judged, every, inRange, behind, readNumber, readHead}
+use Rattle.text.specs.Answers.{lineOf, endedOf}
+use Rattle.text.specs.declared.Ended.the-variants.{Past, Stopped}
 use Rattle.text.specs.declared.Line.{Line}
 use Rattle.text.specs.declared.Line.the-variants.{Value, Refused}
 use Rattle.text.proofs.NumberLaws.{Exact, Capped}
@@ -113,41 +113,11 @@ module _ (key s : Text) (at lo hi : ℕ) where
 
 -- ---- the first line
 
-one : (v : ℕ) → inRange 1 1 v ≡ eqb v 1
-one v = by-test (eqb v 1) (λ h. is h (eqb-true v 1 h)) (λ h. other h (eqb-false v 1 h))
-  where
-    is : eqb v 1 ≡ true → v ≡ 1 → inRange 1 1 v ≡ eqb v 1
-    is h e = rw (le-leb 1 v (omega arith), le-leb v 1 (omega arith), h)
+module _ (line s : Text) (at : ℕ) where
+  pub head-stands : starts line (drop at s) ≡ true → Past (at + length line) ≡ endedOf (readHead line s at)
+  unfolding readHead need endedOf
+  head-stands h = rw h
 
-    other : eqb v 1 ≡ false → (v ≡ 1 → ⊥) → inRange 1 1 v ≡ eqb v 1
-    other h n =
-        by-test (leb 1 v)
-        (λ a. by-test (leb v 1) (λ b. absurd (n (omega (arith, leb-true 1 v a, leb-true v 1 b)))) (λ b. rw (a, b, h)))
-        (λ a. rw (a, h))
-
-head-value-of : (at : ℕ) (x : Read ℕ) (v next : ℕ) → Value v next ≡ lineOf (judged (inRange 1 1) at x)
-    → then (judged (λ n. true) at x) (λ n next. need (eqb n 1) 2 at (got n next)) ≡ got v next
-unfolding judged need then lineOf
-head-value-of at missing v next e = let z : _≡_ {A = ℕ} 0 1 = cc in absurd (omega arith)
-head-value-of at (found w t) v next e =
-    by-test (eqb w 1)
-    (λ h. let f : Value v next ≡ Value w t = rw (one w, h) at e in rw h (cc))
-    (λ h. let f : Value v next ≡ Refused (fault 3 at) = rw (one w, h) at e in let z : _≡_ {A = ℕ} 0 1 = cc in absurd (omega arith))
-
-head-refused-of : (at : ℕ) (x : Read ℕ) (f : Fault) → Refused f ≡ lineOf (judged (inRange 1 1) at x)
-    → then (judged (λ n. true) at x) (λ n next. need (eqb n 1) 2 at (got n next)) ≡ bad (fault 2 at)
-unfolding judged need then lineOf
-head-refused-of at missing f e = refl
-head-refused-of at (found w t) f e =
-    by-test (eqb w 1)
-    (λ h. let g : Refused f ≡ Value w t = rw (one w, h) at e in let z : _≡_ {A = ℕ} 0 1 = cc in absurd (omega arith))
-    (λ h. rw h)
-
-module _ (key s : Text) (at : ℕ) where
-  pub head-value : (v next : ℕ) → Value v next ≡ lineOf (readNumber key (inRange 1 1) s at) → Value v next ≡ lineOf (readHead key s at)
-  unfolding readNumber readHead lineOf
-  head-value v next e = rw (head-value-of at (behind key (item number lf s) s at) v next e)
-
-  pub head-refused : (f : Fault) → Refused f ≡ lineOf (readNumber key (inRange 1 1) s at) → Refused (fault 2 at) ≡ lineOf (readHead key s at)
-  unfolding readNumber readHead lineOf
-  head-refused f e = rw (head-refused-of at (behind key (item number lf s) s at) f e)
+  pub head-other : starts line (drop at s) ≡ false → Stopped (fault 2 at) ≡ endedOf (readHead line s at)
+  unfolding readHead need endedOf
+  head-other h = rw h

@@ -14,12 +14,12 @@ use Rattle.text.specs.Bytes.{Text, lf, starts}
 use Rattle.text.proofs.Basics.{by-test}
 use Rattle.text.specs.Number.{Read, missing, found, isDigit, number, signed, ended, item}
 use Rattle.text.specs.Lists.{stopOf, prepended, items, listEnd}
-use Rattle.text.specs.Lines.{judged, every, behind, readNumber, readList, readWeights, readHead}
+use Rattle.text.specs.Lines.{got, need, judged, every, behind, readNumber, readList, readWeights, readHead}
 use Rattle.text.specs.Printed.{decimal, signedText, itemsText, endText, numberText, listText, weightsText}
 use Rattle.text.proofs.ReadLaws.{missing≢found, found-is}
 use Rattle.text.proofs.Standing.{Stands, Reaches, stands-left, stands-right, ends-join, reach-join, nothing-reaches, byte-stands, first-byte, front-stands}
 use Rattle.text.proofs.Spelled.{Spelled, number-spelled, signed-spelled}
-use Rattle.text.proofs.Exactly.{Accepts, accepts-as, Finds, Exactly, judged-exactly, needed-exactly}
+use Rattle.text.proofs.Exactly.{Accepts, accepts-as, Finds, Exactly, got-is, need-got, judged-exactly}
 
 -- ---- a value and the byte that ends it
 module _ {A : Type 0} (stop : ℕ) (s : Text) where
@@ -223,7 +223,14 @@ unfolding readWeights weightsText
 weights-exactly = row-exactly signed signedText signed-spelled
 
 -- the first line of a file
-pub head-exactly : (key s : Text) → Exactly s (readHead key s) (numberText key) (λ n. eqb n 1)
-unfolding readHead
-head-exactly key s =
-    needed-exactly s (readNumber key (λ n. true) s) (numberText key) (λ n. true) (number-exactly key (λ n. true) s) (λ n. eqb n 1) 2
+pub head-exactly : (line s : Text) → Exactly s (readHead line s) (λ _. line) (λ _. true)
+unfolding readHead need
+head-exactly line s = record {
+  back = λ at a next e.
+      let p = need-got (starts line (drop at s)) 2 at (got tt (at + length line)) a next e in
+      record {
+        reaches = record { stands = front-stands s at line _ (starts-front line (drop at s) (p .0)); next-is = sym (got-is (p .1) .1) };
+        fine-is = refl;
+      };
+  forth = λ at a st h. let k : starts line (drop at s) ≡ true = rw st (starts-key line _) in rw k;
+}

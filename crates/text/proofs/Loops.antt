@@ -32,6 +32,10 @@ module _ {A : Type 0} (o : Outcome A) (e : Ended) where
       go (got a t) r = let y : Past t ≡ Stopped d = unfold endedOf in r in let z : _≡_ {A = ℕ} 0 1 = cc in absurd (omega arith)
       go (bad c) r = let z : Stopped c ≡ Stopped d = unfold endedOf in r in cc
 
+-- a line that says nothing but that it stands
+pub head-got : (o : Outcome (Unit {0})) (next : ℕ) → Past next ≡ endedOf o → o ≡ got tt next
+head-got o next e = got-of o (Past next) next e refl .is
+
 -- the same of the line of one number
 pub line-got : (o : Outcome ℕ) (v next : ℕ) → Value v next ≡ lineOf o → o ≡ got v next
 unfolding lineOf

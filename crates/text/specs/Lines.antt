@@ -2,22 +2,27 @@
 use Prim.Native.Nat.{ℕ, zero, suc, _+_}
 use mathlib.Core.List.{List, [], _∷_}
 use mathlib.Core.Bool.{Bool, true, false, _&&_}
-use lib.Dec.{leb, eqb}
+use lib.Dec.{leb}
 use lib.IntN.{ℤ, natAbs}
 use lib.ListN.{length, drop}
-use Rattle.text.specs.Bytes.{Text, lf, starts}
+use Rattle.text.specs.Bytes.{Text, lf, starts, lineAt}
 use Rattle.text.specs.Number.{Read, missing, found, number, signed, item}
 use Rattle.text.specs.Lists.{listEnd}
 use Rattle.text.specs.declared.Fault.{Fault}
+use Rattle.text.specs.declared.Spot.{Spot}
 
 -- what a reading answers: a value and the position after it, or ONE fault, which is handed on and never taken apart
 pub data Outcome (A : Type 0) : Type 0 where
   got : A → ℕ → Outcome A
   bad : Fault → Outcome A
 
--- the number of the cause in 01's table, and where the line at fault begins
+-- the number of the cause in 01's table, and where the line at fault begins; its first byte stands for the byte at fault
 abbrev pub fault : ℕ → ℕ → Fault
-fault why at = record { why = why; at = at }
+fault why at = record { why = why; at = at; byte = at }
+
+-- a fault as an answer names it: by the number of its line
+abbrev pub spotOf : Text → Fault → Spot
+spotOf s e = record { why = e .why; line = lineAt s (e .at) }
 
 module _ {A B : Type 0} where
   -- one reading after another; the first fault ends both
@@ -68,6 +73,6 @@ readWeights key n range s at = judged (every range) at (behind key (listEnd sign
 abbrev pub modest : ℕ → ℤ → Bool
 modest most w = leb (natAbs w) most
 
--- the first line of a file, whose number is 1. 01: "In eos, inv and run any other number is 2"
-unfoldable pub readHead : Text → Text → ℕ → Outcome ℕ
-readHead key s at = then (readNumber key (λ n. true) s at) λ n next. need (eqb n 1) 2 at (got n next)
+-- the first line of a file, which is the same in every file of its kind. 01: "In eos, inv and run any other number is 2"
+unfoldable pub readHead : Text → Text → ℕ → Outcome (Unit {0})
+readHead line s at = need (starts line (drop at s)) 2 at (got tt (at + length line))

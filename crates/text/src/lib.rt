@@ -13,10 +13,18 @@ pub enum Signed {
     Unsaid,
 }
 
-// A fault: the number of its cause, and the position at which the line at fault begins.
+// A fault: the number of its cause, the position at which the line at fault begins, and that of the byte at fault, for which the line's
+// first stands.
 pub struct Fault {
     pub why: u8,
     pub at: usize,
+    pub byte: usize,
+}
+
+// A fault as an answer names it: the number of its cause, and the number of its line, from 1.
+pub struct Spot {
+    pub why: u8,
+    pub line: usize,
 }
 
 // What the line of one number says, and the position after the line.

@@ -1,11 +1,11 @@
-// Lines `key=number`. A key has its '=' at its end.
+// Lines `key=number`, and the first line of a file. A key has its '=' at its end.
 ghost use mathlib.Core.Path.{_≡_};
 ghost use Rattle.text.specs.Lines.{inRange, readNumber, readHead};
-ghost use Rattle.text.specs.Answers.{lineOf, endedIn};
+ghost use Rattle.text.specs.Answers.{lineOf, endedIn, endedOf};
 use text::Decimal;
 use text::Ended;
-use text::Fault;
 use text::Line;
+use text_scan::fault_at;
 use text_scan::item;
 use text_scan::starts;
 
@@ -15,22 +15,22 @@ pub fn number_line(s: &[u8], at: usize, key: &[u8], lo: u16, hi: u16) -> Line
 {
     if !starts(s, at, key) {
         return Line::Refused {
-            fault: Fault { why: 2, at },
+            fault: fault_at(2, at),
         };
     }
     let Decimal::Found { value, end } = item(s, at + key.len(), 10) else {
         return Line::Refused {
-            fault: Fault { why: 2, at },
+            fault: fault_at(2, at),
         };
     };
     if value < lo as u32 {
         return Line::Refused {
-            fault: Fault { why: 3, at },
+            fault: fault_at(3, at),
         };
     }
     if (hi as u32) < value {
         return Line::Refused {
-            fault: Fault { why: 3, at },
+            fault: fault_at(3, at),
         };
     }
     Line::Value {
@@ -49,14 +49,16 @@ pub fn ended_of(line: Line) -> Ended
     }
 }
 
-// The first line of a file, whose number is 1; any other number is a fault of the syntax.
-pub fn head_line(s: &[u8], at: usize, key: &[u8]) -> Line
-    ensures { λ r. ⌜ r ≡ lineOf (readHead (now (key .entry)) (now (s .entry)) at) ⌝ }
+// The first line of a file, which is `line` with its LF; any other is a fault of the syntax.
+pub fn head_line(s: &[u8], at: usize, line: &[u8]) -> Ended
+    ensures { λ r. ⌜ r ≡ endedOf (readHead (now (line .entry)) (now (s .entry)) at) ⌝ }
 {
-    let Line::Value { value, next } = number_line(s, at, key, 1, 1) else {
-        return Line::Refused {
-            fault: Fault { why: 2, at },
+    if !starts(s, at, line) {
+        return Ended::Stopped {
+            fault: fault_at(2, at),
         };
-    };
-    Line::Value { value, next }
+    }
+    Ended::Past {
+        next: at + line.len(),
+    }
 }

@@ -9,10 +9,10 @@ ghost use Rattle.text.specs.Lists.{items, listEnd};
 ghost use Rattle.text.specs.Lines.{judged, every, modest, fault, bad, behind, readList, readWeights};
 ghost use Rattle.text.specs.Answers.{rowOf, weightRowOf};
 use text::Ended;
-use text::Fault;
 use text::Row;
 use text::Signed;
 use text::WeightRow;
+use text_scan::fault_at;
 use text_scan::starts;
 use text_scan::stop_of;
 use text_scan::value_item;
@@ -23,7 +23,7 @@ fn no_values(why: u8, at: usize) -> WeightRow
 {
     WeightRow {
         ended: Ended::Stopped {
-            fault: Fault { why, at },
+            fault: fault_at(why, at),
         },
         above: [0u16; 32],
         below: [0u16; 32],

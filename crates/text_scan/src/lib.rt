@@ -1,4 +1,5 @@
-// The bytes of a text: what stands at a position, and in which line; decimal numbers of any number of digits, with and without a sign.
+// The bytes of a text: what stands at a position, and in which line; a fault, made and named; decimal numbers of any number of digits, with
+// and without a sign.
 ghost use mathlib.Core.Path.{_≡_};
 ghost use lib.ListN.{drop, getD, length};
 ghost use Rattle.text.specs.Bytes.{starts, lineAt};
@@ -6,8 +7,11 @@ ghost use Prim.Native.Nat.{_+_, _-_, _*_, _≤_, _<_, min};
 ghost use Rattle.text.specs.Number.{isDigit, digits, number, negated, plainly, signedIf, item};
 ghost use Rattle.text.specs.Capped.{capped, cappedSigned};
 ghost use Rattle.text.specs.Lists.{stopOf};
+ghost use Rattle.text.specs.Lines.{fault, spotOf};
 use text::Decimal;
+use text::Fault;
 use text::Signed;
+use text::Spot;
 
 // The byte at `at`, 0 past the end.
 pub fn byte_at(s: &[u8], at: usize) -> u8
@@ -55,6 +59,23 @@ pub fn line_at(s: &[u8], at: usize) -> usize
         i += 1;
     }
     n
+}
+
+// The fault of a line that begins at `at`.
+pub fn fault_at(why: u8, at: usize) -> Fault
+    ensures { λ r. ⌜ r ≡ fault why at ⌝ }
+{
+    Fault { why, at, byte: at }
+}
+
+// A fault of a text, named by its line.
+pub fn spot_of(s: &[u8], fault: Fault) -> Spot
+    ensures { λ r. ⌜ r ≡ spotOf (now (s .entry)) fault ⌝ }
+{
+    Spot {
+        why: fault.why,
+        line: line_at(s, fault.at),
+    }
 }
 
 fn digit(b: u8) -> bool

@@ -10,10 +10,10 @@ ghost use Rattle.text.specs.Token.{countsAt, readToken};
 ghost use Rattle.text.specs.Answers.{tokenRowOf};
 use text::Decimal;
 use text::Ended;
-use text::Fault;
 use text::TokenRow;
 use text_lists::list_end;
 use text_scan::byte_at;
+use text_scan::fault_at;
 use text_scan::item;
 use text_scan::number;
 use text_scan::starts;
@@ -53,7 +53,7 @@ fn no_token(why: u8, at: usize) -> TokenRow
 {
     TokenRow {
         ended: Ended::Stopped {
-            fault: Fault { why, at },
+            fault: fault_at(why, at),
         },
         place: 0,
         counts: [0u16; 32],

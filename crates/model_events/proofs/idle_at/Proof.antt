@@ -2,7 +2,7 @@
 use borrow.Author.Needs.{needs}
 use Rattle.model_events.proofs.idle_at.Statement.{statement}
 use Rattle.model_events.proofs.idle_at.Tie as tie
-use mathlib.Core.Path.{_≡_, sym, _∙_}
+use mathlib.Core.Path.{_≡_, ap, sym, _∙_}
 use native.Mathlib.Omega.{arith}
 use denote.Ref.{now}
 use Rattle.text.specs.Bytes.{bytes}
@@ -10,6 +10,7 @@ use Rattle.text.specs.Lines.{inRange, readNumber}
 use Rattle.text.specs.Answers.{lineOf}
 use Rattle.text.specs.declared.Line.the-variants.{Value}
 use Rattle.model_text.specs.Answers.{asFrame}
+use Rattle.model_text.specs.declared.Acting.the-variants.{Refused}
 use Rattle.model_text.specs.declared.Frame.{Frame}
 use Rattle.model_text.proofs.LineAnswers.{value-in}
 use Rattle.model_text.proofs.ActLaws.{idle-refused, idle-black, idle-read}
@@ -49,8 +50,14 @@ array-read-if1 c =
     let p = value-in _ 1 (frame t .places) _ _ _ _ (first t) in
     omega (arith, p .0, p .1, start t .pre .places)
 
+fault-at-requires : tie.Need-fault-at-requires
+fault-at-requires c κs = search needs
+
 returns : tie.Need-returns
-returns c = idle-black (asFrame (frame (c .before .before))) _ _ _ _ (first (c .before .before)) (c .if1 .taken)
+returns c =
+    let t = c .before in
+    let l = t .before .before in
+    ap Refused (c .fault-at .ensures) ∙ idle-black (asFrame (frame l)) _ _ _ _ (first l) (t .if1 .taken)
 
 cast-t18 : tie.Need-cast-t18
 cast-t18 c =
@@ -77,6 +84,7 @@ idle-at-spec =
     cast-if1
     sub-if1
     array-read-if1
+    fault-at-requires
     returns
     cast-t18
     enum-known-a-2

@@ -2,8 +2,12 @@
 use borrow.Author.Needs.{needs}
 use Rattle.model_events.proofs.sync_at.Statement.{statement}
 use Rattle.model_events.proofs.sync_at.Tie as tie
+use mathlib.Core.Path.{ap, _∙_}
 use borrow.Author.Tests.{not-true, not-false}
+use lib.ListN.{replicate}
+use Rattle.text.specs.declared.Ended.the-variants.{Stopped}
 use Rattle.model_text.specs.Answers.{asFrame}
+use Rattle.model_text.specs.declared.Counts.{Counts}
 use Rattle.model_text.proofs.ActLaws.{sync-refused, no-part, sync-read}
 
 slice-aggregate-list-line : tie.Need-slice-aggregate-list-line
@@ -36,15 +40,20 @@ narrow-requires c κs = search needs
 takes-part-requires : tie.Need-takes-part-requires
 takes-part-requires c κs = search needs
 
+fault-at-requires : tie.Need-fault-at-requires
+fault-at-requires c κs = search needs
+
 returns-2 : tie.Need-returns-2
 returns-2 c =
-    let t = c .before in
+    let u = c .before in
+    let t = u .before in
     let n = t .before in
     let e = n .before .before .before in
     let r = e .before .before in
     let s = r .before .before .before .before in
-    no-part (asFrame (s .args .f)) _ _ (s .args .n) _ _ (r .list-line .ensures) (s .pre .0 .steps (s .args .n)) _ (e .e .given .1)
-    _ (n .narrow .ensures) _ (t .takes-part .ensures) (not-true _ (c .if1 .taken))
+    ap {B = Counts} (λ d. record { ended = Stopped d; counts = replicate 32 0 }) (c .fault-at .ensures)
+    ∙ no-part (asFrame (s .args .f)) _ _ (s .args .n) _ _ (r .list-line .ensures) (s .pre .0 .steps (s .args .n)) _ (e .e .given .1)
+    _ (n .narrow .ensures) _ (t .takes-part .ensures) (not-true _ (u .if1 .taken))
 
 returns-3 : tie.Need-returns-3
 returns-3 c =
@@ -69,5 +78,6 @@ sync-at-spec =
     returns
     narrow-requires
     takes-part-requires
+    fault-at-requires
     returns-2
     returns-3)

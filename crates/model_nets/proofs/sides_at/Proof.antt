@@ -2,8 +2,11 @@
 use borrow.Author.Needs.{needs}
 use Rattle.model_nets.proofs.sides_at.Statement.{statement}
 use Rattle.model_nets.proofs.sides_at.Tie as tie
-use mathlib.Core.Path.{_∙_}
+use mathlib.Core.Path.{ap, _∙_}
 use borrow.Author.Tests.{not-true, not-false}
+use Rattle.text.specs.Lines.{bad}
+use Rattle.text.specs.declared.Fault.{Fault}
+use Rattle.model_text.specs.Answers.{sidesOf}
 use Rattle.model_text.proofs.TransitionLines.{pre-refused, post-refused, types-lost, types-kept}
 
 slice-aggregate-list-line : tie.Need-slice-aggregate-list-line
@@ -51,21 +54,25 @@ narrow-requires-2 c κs = search needs
 monotonous-requires : tie.Need-monotonous-requires
 monotonous-requires c κs = search needs
 
+fault-at-requires : tie.Need-fault-at-requires
+fault-at-requires c κs = search needs
+
 no-sides-requires : tie.Need-no-sides-requires
 no-sides-requires c κs = search needs
 
 returns-3 : tie.Need-returns-3
 returns-3 c =
-    let m = c .before .before in
+    let t = c .before .before in
+    let m = t .before in
     let n₂ = m .before in
     let n = n₂ .before in
     let f = n .before .before .before .before in
     let r₂ = f .before .before in
     let e = r₂ .before .before .before in
     let r = e .before .before in
-    c .no-sides .ensures
+    c .no-sides .ensures ∙ ap (λ (d : Fault). sidesOf (bad d)) (c .before .fault-at .ensures)
     ∙ types-lost _ _ _ _ _ (r .before .before .before .pre) _ (r .list-line .ensures) _ (e .e .given .1) _ (r₂ .list-line2 .ensures) _ (f .f .given .1)
-    _ _ (n .narrow .ensures) (n₂ .narrow2 .ensures) _ (m .monotonous .ensures) (not-true _ (c .before .if1 .taken))
+    _ _ (n .narrow .ensures) (n₂ .narrow2 .ensures) _ (m .monotonous .ensures) (not-true _ (t .if1 .taken))
 
 returns-4 : tie.Need-returns-4
 returns-4 c =
@@ -96,6 +103,7 @@ sides-at-spec =
     narrow-requires
     narrow-requires-2
     monotonous-requires
+    fault-at-requires
     no-sides-requires
     returns-3
     returns-4)

@@ -16,13 +16,13 @@ enum-told c = search needs
 returns : tie.Need-returns
 returns c = ap (answerOf _) (sym (c .enum-told .given .1))
 
-line-at-requires : tie.Need-line-at-requires
-line-at-requires c κs = search needs
+spot-of-requires : tie.Need-spot-of-requires
+spot-of-requires c κs = search needs
 
 returns-2 : tie.Need-returns-2
 returns-2 c =
     let e = c .before .before in
-    ap (Faulty (e .ended .given .0 .0 .why)) (c .line-at .ensures) ∙ ap (answerOf (now (e .before .before .before .args .s))) (sym (e .ended .given .1))
+    ap Faulty (c .spot-of .ensures) ∙ ap (answerOf (now (e .before .before .before .args .s))) (sym (e .ended .given .1))
 
 pub answer-of-spec : {M : Type 1} → statement M
-answer-of-spec = tie.close (tie.spec enum-known-ended enum-told returns line-at-requires returns-2)
+answer-of-spec = tie.close (tie.spec enum-known-ended enum-told returns spot-of-requires returns-2)

@@ -2,6 +2,9 @@
 use borrow.Author.Needs.{needs}
 use Rattle.reader.proofs.tokens_to_end.Statement.{statement}
 use Rattle.reader.proofs.tokens_to_end.Tie as tie
+use mathlib.Core.Path.{ap, _∙_}
+use Rattle.text.specs.declared.Ended.the-variants.{Stopped}
+use Rattle.marking.specs.declared.Block.{Block}
 use Rattle.reader.proofs.ReadingLaws.{end-stopped, end-behind, end-reached}
 
 slice-aggregate-block-at : tie.Need-slice-aggregate-block-at
@@ -24,11 +27,16 @@ returns c =
 empty-requires : tie.Need-empty-requires
 empty-requires c κs = search needs
 
+fault-at-requires : tie.Need-fault-at-requires
+fault-at-requires c κs = search needs
+
 returns-2 : tie.Need-returns-2
 returns-2 c =
-    let k = c .before .before in
+    let n = c .before in
+    let k = n .before .before in
     let b = k .before .before .before in
-    end-behind _ (b .block-at .result) (b .block-at .ensures) _ _ _ (k .before .ended .given .1) (c .before .if1 .taken) (c .empty .ensures)
+    ap {B = Block} (λ d. record { ended = Stopped d; marking = n .empty .result }) (c .fault-at .ensures)
+    ∙ end-behind _ (b .block-at .result) (b .block-at .ensures) _ _ _ (k .before .ended .given .1) (n .before .if1 .taken) (n .empty .ensures)
 
 returns-3 : tie.Need-returns-3
 returns-3 c =
@@ -46,5 +54,6 @@ tokens-to-end-spec =
     enum-told
     returns
     empty-requires
+    fault-at-requires
     returns-2
     returns-3)

@@ -7,7 +7,8 @@ use mathlib.Core.Bool.{true}
 use lib.ListN.{length, drop}
 use borrow.Author.Tests.{not-true, not-false}
 use denote.Ref.{now}
-use Rattle.text.proofs.Loops.{line-got, line-bad}
+use Rattle.text.specs.declared.Ended.{Ended}
+use Rattle.text.proofs.Loops.{head-got, bad-of}
 use Rattle.model.specs.Held.{SizedModel}
 use Rattle.model.specs.declared.Model.{Model}
 use Rattle.model.proofs.HeldTests.{held-is}
@@ -17,7 +18,9 @@ use Rattle.model_packed.proofs.PackedLaws.{packed-again}
 use Rattle.marking.specs.Sizes.{sizesIn}
 use Rattle.reader.specs.Answers.{heldBoth}
 use Rattle.reader.proofs.ReadingLaws.{both-model}
-use Rattle.runner_trace.specs.Running.{runFrom, running}
+use Rattle.runner_trace.specs.declared.Stop.{Stop}
+use Rattle.runner_trace.specs.Parts.{stopIn}
+use Rattle.runner_trace.specs.Running.{ran, runFrom, running}
 use Rattle.runner_trace.proofs.TraceLaws.{trace-long, trace-unheld, trace-unheaded, trace-headed}
 
 abbrev start : tie.After-left → tie.Start
@@ -68,16 +71,22 @@ enum-known-head c = search needs
 enum-told : tie.Need-enum-told
 enum-told c = search needs
 
+stop-of-requires : tie.Need-stop-of-requires
+stop-of-requires c κs = search needs
+
 run-refused-requires-3 : tie.Need-run-refused-requires-3
 run-refused-requires-3 c κs = search needs
 
 returns-3 : tie.Need-returns-3
 returns-3 c =
-    let t = c .before in
+    let t = c .before .before in
     let h = t .before .before in
     let p = h .before .before in
-    c .run-refused3 .ensures
-    ∙ trace-unheaded _ _ _ (p .before .before .if1 .left) (passed p) _ (line-bad _ _ (sym (t .enum-told .given .1) ∙ h .head-line .ensures))
+    let k = start (rest p) .args .k in
+    let bad = t .enum-told .given .1 in
+    c .run-refused3 .ensures ∙ ap (λ (x : Stop). ran 0 x k) (c .before .stop-of .ensures)
+    ∙ ap (λ (x : Ended). ran 0 (stopIn (now (rest p .left .result)) x) k) bad
+    ∙ trace-unheaded _ _ _ (p .before .before .if1 .left) (passed p) _ (bad-of _ _ _ (h .head-line .ensures) bad)
     ∙ on-rest (rest p)
 
 -- the model that was packed is read there
@@ -119,9 +128,9 @@ returns-4 c =
     let h = d .before .before in
     let p = h .before .before in
     let l = rest p in
-    let next = d .head .given .0 .1 .0 in
+    let next = d .head .given .0 .0 in
     c .run-steps .ensures ∙ ap (λ (x : Model). runFrom (length (now (l .left .result))) x (start l .args .k) (drop next (now (l .left .result))) 0) (again f)
-    ∙ trace-headed _ _ _ (p .before .before .if1 .left) (passed p) _ _ (line-got _ _ _ (sym (d .head .given .1) ∙ h .head-line .ensures))
+    ∙ trace-headed _ _ _ (p .before .before .if1 .left) (passed p) _ (head-got _ _ (sym (d .head .given .1) ∙ h .head-line .ensures))
     ∙ on-rest l
 
 pub run-at-spec : {M : Type 1} → statement M
@@ -138,6 +147,7 @@ run-at-spec =
     head-line-requires
     enum-known-head
     enum-told
+    stop-of-requires
     run-refused-requires-3
     returns-3
     pack-requires

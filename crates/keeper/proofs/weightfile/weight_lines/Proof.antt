@@ -9,9 +9,10 @@ use lib.ListN.{length}
 use denote.Ref.{now}
 use Rattle.text.specs.Bytes.{bytes}
 use Rattle.text.specs.Lines.{readHead}
-use Rattle.text.specs.Answers.{lineOf}
-use Rattle.text.specs.declared.Line.the-variants.{Value}
+use Rattle.text.specs.Answers.{endedOf}
+use Rattle.text.specs.declared.Fault.{Fault}
 use Rattle.text.specs.declared.Ended.{Ended}
+use Rattle.text.specs.declared.Ended.the-variants.{Past, Stopped}
 use Rattle.model.proofs.HeldTests.{held-is, most-nets, most-places}
 use Rattle.keeper.specs.Held.{noWeights}
 use Rattle.keeper.specs.declared.WeightLines.{WeightLines}
@@ -36,8 +37,8 @@ few : (c : tie.Start) → c .args .m .places ≤ 32
 few c = most-places _ (held-is _ (c .pre))
 
 -- the first line, accepted
-first : (c : tie.After-known-told) → Value (c .before .head .given .0 .0) (c .before .head .given .0 .1 .0)
-    ≡ lineOf (readHead (bytes "inv=") (now (start c .args .s)) (start c .args .at))
+first : (c : tie.After-known-told) → Past (c .before .head .given .0 .0)
+    ≡ endedOf (readHead (bytes "inv=1\n") (now (start c .args .s)) (start c .args .at))
 first c = sym (c .before .head .given .1) ∙ c .before .before .before .head-line .ensures
 
 slice-aggregate-head-line : tie.Need-slice-aggregate-head-line
@@ -52,18 +53,15 @@ enum-known-head c = search needs
 enum-told : tie.Need-enum-told
 enum-told c = search needs
 
-ended-of-requires : tie.Need-ended-of-requires
-ended-of-requires c κs = search needs
-
 no-lines-requires : tie.Need-no-lines-requires
 no-lines-requires c κs = search needs
 
 returns : tie.Need-returns
 returns c =
-    let o = c .before .before in
+    let o = c .before in
     let l = o .before .before in
     let a = l .before .before .before in
-    c .no-lines .ensures ∙ ap none (c .before .ended-of .ensures)
+    c .no-lines .ensures
     ∙ head-weights-refused (a .args .m) (long a) (few a) (now (a .args .s)) (a .args .at) _ _ (o .enum-told .given .1) (l .head-line .ensures)
 
 slice-aggregate-weight-line : tie.Need-slice-aggregate-weight-line
@@ -88,7 +86,7 @@ returns-2 c =
     let p = l .before .before in
     let a = start p in
     c .no-lines2 .ensures
-    ∙ outer-weights-refused (a .args .m) (long a) (few a) (now (a .args .s)) (a .args .at) _ _ (first p) _ (l .weight-line .ensures) _ (o .enum-told2 .given .1)
+    ∙ outer-weights-refused (a .args .m) (long a) (few a) (now (a .args .s)) (a .args .at) _ (first p) _ (l .weight-line .ensures) _ (o .enum-told2 .given .1)
 
 outer-row-requires : tie.Need-outer-row-requires
 outer-row-requires c κs = search needs
@@ -116,23 +114,26 @@ returns-3 c =
     let p = up q in
     let a = start p in
     c .no-lines3 .ensures
-    ∙ inner-weights-refused (a .args .m) (long a) (few a) (now (a .args .s)) (a .args .at) _ _ (first p) _ (l .weight-line .ensures) _ (q .before .e .given .1) _
+    ∙ inner-weights-refused (a .args .m) (long a) (few a) (now (a .args .s)) (a .args .at) _ (first p) _ (l .weight-line .ensures) _ (q .before .e .given .1) _
     (i .before .before .outer-row .ensures) _ (i .inner-lines .ensures) _ (o .enum-told3 .given .1)
+
+fault-at-requires : tie.Need-fault-at-requires
+fault-at-requires c κs = search needs
 
 no-lines-requires-4 : tie.Need-no-lines-requires-4
 no-lines-requires-4 c κs = search needs
 
 returns-4 : tie.Need-returns-4
 returns-4 c =
-    let t = c .before in
+    let t = c .before .before in
     let k = t .before in
     let i = k .before .before .before in
     let q = upper k in
     let l = q .before .before .before in
     let p = up q in
     let a = start p in
-    c .no-lines4 .ensures
-    ∙ more-weights-refused (a .args .m) (long a) (few a) (now (a .args .s)) (a .args .at) _ _ (first p) _ (l .weight-line .ensures) _ (q .before .e .given .1) _
+    c .no-lines4 .ensures ∙ ap (λ (d : Fault). none (Stopped d)) (c .before .fault-at .ensures)
+    ∙ more-weights-refused (a .args .m) (long a) (few a) (now (a .args .s)) (a .args .at) _ (first p) _ (l .weight-line .ensures) _ (q .before .e .given .1) _
     (i .before .before .outer-row .ensures) _ (i .inner-lines .ensures) _ (k .before .f .given .1) (t .if1 .taken)
 
 returns-5 : tie.Need-returns-5
@@ -143,7 +144,7 @@ returns-5 c =
     let l = q .before .before .before in
     let p = up q in
     let a = start p in
-    file-read (a .args .m) (long a) (few a) (now (a .args .s)) (a .args .at) _ _ (first p) _ (l .weight-line .ensures) _ (q .before .e .given .1) _
+    file-read (a .args .m) (long a) (few a) (now (a .args .s)) (a .args .at) _ (first p) _ (l .weight-line .ensures) _ (q .before .e .given .1) _
     (i .before .before .outer-row .ensures) _ (i .inner-lines .ensures) _ (k .before .f .given .1) (c .if1 .left)
 
 pub weight-lines-spec : {M : Type 1} → statement M
@@ -154,7 +155,6 @@ weight-lines-spec =
     head-line-requires
     enum-known-head
     enum-told
-    ended-of-requires
     no-lines-requires
     returns
     slice-aggregate-weight-line
@@ -169,6 +169,7 @@ weight-lines-spec =
     enum-told-3
     no-lines-requires-3
     returns-3
+    fault-at-requires
     no-lines-requires-4
     returns-4
     returns-5)

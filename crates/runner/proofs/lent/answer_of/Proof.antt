@@ -13,8 +13,8 @@ enum-known-ended c = search needs
 enum-known-ended-2 : tie.Need-enum-known-ended-2
 enum-known-ended-2 c = search needs
 
-line-at-requires : tie.Need-line-at-requires
-line-at-requires c κs = search needs
+spot-of-requires : tie.Need-spot-of-requires
+spot-of-requires c κs = search needs
 
 returns : tie.Need-returns
 returns c = ap (answered (now (c .before .before .before .before .args .s))) (sym (c .before .ended .given .1))
@@ -22,7 +22,7 @@ returns c = ap (answered (now (c .before .before .before .before .args .s))) (sy
 returns-2 : tie.Need-returns-2
 returns-2 c =
     let e = c .before .before in
-    ap (Faulty (e .ended2 .given .0 .0 .why)) (c .line-at .ensures) ∙ ap (answered (now (e .before .before .before .args .s))) (sym (e .ended2 .given .1))
+    ap Faulty (c .spot-of .ensures) ∙ ap (answered (now (e .before .before .before .args .s))) (sym (e .ended2 .given .1))
 
 pub answer-of-spec : {M : Type 1} → statement M
-answer-of-spec = tie.close (tie.spec enum-known-ended enum-known-ended-2 line-at-requires returns returns-2)
+answer-of-spec = tie.close (tie.spec enum-known-ended enum-known-ended-2 spot-of-requires returns returns-2)
