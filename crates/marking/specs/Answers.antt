@@ -1,4 +1,4 @@
--- What the code of this crate answers for what a definition gives.
+-- What the reader of net-tokens answers for what a definition gives.
 use Rattle.text.specs.Lines.{Outcome}
 use Rattle.text.specs.Answers.{endedOf, keptOr}
 use Rattle.eos.specs.Model as eos

@@ -1,4 +1,4 @@
--- What the code of this crate answers for what a definition gives: how the reading ended, beside what it read as it is held.
+-- What the readers of a model's lines answer for what a definition gives: how the reading ended, beside what it read as it is held.
 use Prim.Native.Nat.{ℕ, _%_, _≤_}
 use mathlib.Core.List.{List, map}
 use lib.ListN.{length, replicate}

@@ -5,7 +5,7 @@ use model::ObjectNet;
 use text::Ended;
 use text::Fault;
 
-// What the readers of this crate answer: how the reading ended, beside what was read; a refusal holds nothing.
+// What the readers of a model's lines answer: how the reading ended, beside what was read; a refusal holds nothing.
 pub struct Sides {
     pub ended: Ended,
     pub pre: [u8; 32],

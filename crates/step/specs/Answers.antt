@@ -1,4 +1,4 @@
--- What the code of this crate answers for what a definition gives: how the reading ended, and the rows of the net-tokens in the order of
+-- What the reader of a step's lines answers for what a definition gives: how the reading ended, and the rows of the net-tokens in the order of
 -- their lines.
 use mathlib.Core.List.{List, [], map}
 use lib.ListN.{length}

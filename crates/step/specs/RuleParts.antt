@@ -1,4 +1,4 @@
--- What the parts of this crate's code answer.
+-- What the parts of the code answer that adds up what an event asks and gives.
 use Prim.Native.Nat.{ℕ, zero, suc, _+_, _*_, pred, _≤_, _<_}
 use mathlib.Core.Path.{_≡_}
 use mathlib.Core.Bool.{true, false}

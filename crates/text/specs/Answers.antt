@@ -1,4 +1,4 @@
--- What the code of this crate answers for what a definition gives. A row has room for 32 values: it keeps the first 32, and unused
+-- What the readers of lines answer for what a definition gives. A row has room for 32 values: it keeps the first 32, and unused
 -- room is 0.
 use Prim.Native.Nat.{ℕ}
 use mathlib.Core.List.{List, map}

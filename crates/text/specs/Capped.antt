@@ -1,4 +1,4 @@
--- What the code of this crate answers for what a definition gives.
+-- What the code answers for the number that a definition gives.
 use Prim.Native.Nat.{ℕ, suc, min}
 use lib.IntN.{ℤ, pos, negsuc}
 use Rattle.text.specs.Number.{Read, missing, found}
