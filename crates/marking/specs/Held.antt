@@ -8,6 +8,7 @@ use lib.ListN.{length, take, drop, getD, replicate}
 use Rattle.text.specs.Lines.{inRange, every}
 use Rattle.text.specs.Answers.{padded}
 use Rattle.eos.specs.Model as eos
+use Rattle.model.specs.Limits.{roomLimit, countLimit, rowsRoom}
 use Rattle.marking.specs.Rows.{Row, rowsIn, laid, ascending}
 use Rattle.marking.specs.declared.Marking.{Marking}
 
@@ -37,7 +38,7 @@ holdMarking μ = record { len = length μ; rows = laid (map tokenRow μ) }
 
 -- no net-token
 abbrev pub noMarking : Marking
-noMarking = record { len = 0; rows = replicate 8448 0 }
+noMarking = record { len = 0; rows = replicate rowsRoom 0 }
 
 -- what a held marking stands for
 abbrev pub tokenOf : Sizes → Row → eos.NetToken
@@ -53,10 +54,10 @@ rightRow z r = inRange 1 (z .places) (getD r 0 0) && every (λ v. eqb v 0) (drop
 -- 01's cause 14, of a marking: at most 256 net-tokens, in canonical order, unused room 0, each right
 unfoldable pub heldMarking : Sizes → Marking → Bool
 heldMarking z k =
-    leb (k .len) 256
+    leb (k .len) roomLimit
     && (ascending (rowsIn (k .len) (k .rows)) && (every (λ v. eqb v 0) (drop (k .len * 33) (k .rows)) && every (rightRow z) (rowsIn (k .len) (k .rows))))
 
 -- what every held marking is in code: an array of 8,448 numbers of 16 bits
 pub record SizedMarking (k : Marking) : Type 0 where
-  pub long : length (k .rows) ≡ 8448
-  pub small : every (λ v. leb v 65535) (k .rows) ≡ true
+  pub long : length (k .rows) ≡ rowsRoom
+  pub small : every (λ v. leb v countLimit) (k .rows) ≡ true

@@ -1,4 +1,4 @@
--- Rows of 33 numbers, a net-token's place and its 32 counts, one after the other in a flat list with room for 256 of them.
+-- Rows of 33 numbers, a net-token's place and its 32 counts, one after the other in a flat list with room for them.
 use Prim.Native.Nat.{ℕ, zero, suc, _-_, _*_, _≤_}
 use mathlib.Core.Path.{_≡_}
 use mathlib.Core.Bool.{Bool, true, false, cond, _&&_}
@@ -7,6 +7,7 @@ use lib.Dec.{leb}
 use lib.ListN.{length, take, drop, replicate}
 use Rattle.eos.specs.Vector.{eqV, lexV}
 use Rattle.eos.specs.Multiset as M
+use Rattle.model.specs.Limits.{roomLimit, rowsRoom}
 
 abbrev pub Row : Type 0
 Row = List ℕ
@@ -21,9 +22,9 @@ abbrev pub concat : List Row → List ℕ
 concat [] = []
 concat (r ∷ rs) = r ++ concat rs
 
--- rows laid out in the room for 256 of them: unused room is 0
+-- rows laid out in the room for them: unused room is 0
 abbrev pub laid : List Row → List ℕ
-laid rs = concat rs ++ replicate (8448 - length rs * 33) 0
+laid rs = concat rs ++ replicate (rowsRoom - length rs * 33) 0
 
 -- how many rows stand before the place of a row
 abbrev pub placeFor : Row → List Row → ℕ
@@ -38,8 +39,8 @@ ascending (r ∷ s ∷ rs) = lexV r s && ascending (s ∷ rs)
 
 -- n rows, in ascending order and laid out
 pub record Kept (n : ℕ) (l : List ℕ) : Type 0 where
-  pub few : n ≤ 256
-  pub long : length l ≡ 8448
+  pub few : n ≤ roomLimit
+  pub long : length l ≡ rowsRoom
   pub sorted : M.Sorted lexV (rowsIn n l)
   pub is : l ≡ laid (rowsIn n l)
 

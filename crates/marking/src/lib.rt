@@ -14,17 +14,20 @@ pub struct NetToken {
 #[repr(C)]
 pub struct Marking {
     pub len: usize,
-    pub rows: [u16; 8448],
+    pub rows: [u16; Marking::ROWS],
 }
 
 impl Marking {
+    // The numbers of 256 rows of 33.
+    pub const ROWS: usize = 8448;
+
     // No net-token.
     pub fn empty() -> Marking
         ensures { λ r. ⌜ r ≡ noMarking ⌝ }
     {
         Marking {
             len: 0,
-            rows: [0u16; 8448],
+            rows: [0u16; Marking::ROWS],
         }
     }
 }

@@ -5,7 +5,9 @@ ghost use lib.ListN.{length, drop, replicate};
 ghost use lib.Seq.{paste};
 ghost use Rattle.eos.specs.Vector.{lexV};
 ghost use Rattle.eos.specs.Multiset as M;
+ghost use Rattle.model.specs.Limits.{roomLimit};
 ghost use Rattle.marking.specs.Rows.{rowsIn, laid, Kept, takeOut};
+use marking::Marking;
 use marking_rows::like;
 use marking_rows::place_for;
 
@@ -64,8 +66,8 @@ fn remove_row(rows: &mut [u16], at: usize, last: usize)
 }
 
 // `row` put in at its place among the `n` rows.
-pub fn insert(rows: &mut [u16; 8448], n: usize, row: [u16; 33])
-    requires { ⌜ (n < 256) × Kept n (now rows) ⌝ }
+pub fn insert(rows: &mut [u16; Marking::ROWS], n: usize, row: [u16; 33])
+    requires { ⌜ (n < roomLimit) × Kept n (now rows) ⌝ }
     ensures { λ _. ⌜ now (rows .exit) ≡ laid (M.insert lexV row (rowsIn n (now (rows .entry)))) ⌝ }
 {
     let p = place_for(rows, n, row);
@@ -73,7 +75,7 @@ pub fn insert(rows: &mut [u16; 8448], n: usize, row: [u16; 33])
 }
 
 // One row like `row` taken out of the `n` rows; where there is none, nothing changes.
-pub fn take_out(rows: &mut [u16; 8448], n: usize, row: [u16; 33]) -> bool
+pub fn take_out(rows: &mut [u16; Marking::ROWS], n: usize, row: [u16; 33]) -> bool
     requires { ⌜ Kept n (now rows) ⌝ }
     ensures { λ r. ⌜ record { found = r; rows = now (rows .exit) } ≡ takeOut row n (now (rows .entry)) ⌝ }
 {

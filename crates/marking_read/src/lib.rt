@@ -3,6 +3,7 @@ ghost use mathlib.Core.Path.{_≡_};
 ghost use mathlib.Core.List.{_∷_};
 ghost use Prim.Native.Nat.{_≤_};
 ghost use Rattle.text.specs.Lines.{many};
+ghost use Rattle.model.specs.Limits.{lineLimit, countLimit};
 ghost use Rattle.marking.specs.Held.{sizesAt, Roomy};
 ghost use Rattle.marking.specs.Reading.{limits, readNetToken, readBlock};
 ghost use Rattle.marking.specs.Answers.{blockOf};
@@ -33,10 +34,10 @@ pub fn token_row(t: NetToken) -> [u16; 33]
 
 // The lines of n net-tokens; `sizes` says for each place how many counts its net-tokens have.
 fn tokens_at(s: &[u8], from: usize, places: u16, sizes: [u8; 32], n: usize) -> Block
-    requires { ⌜ (n ≤ 256) × Roomy (sizesAt places sizes) ⌝ }
-    ensures { λ r. ⌜ r ≡ blockOf (many (readNetToken (limits 256 65535) (sizesAt places sizes) (now (s .entry))) n from) ⌝ }
+    requires { ⌜ (n ≤ lineLimit) × Roomy (sizesAt places sizes) ⌝ }
+    ensures { λ r. ⌜ r ≡ blockOf (many (readNetToken (limits lineLimit countLimit) (sizesAt places sizes) (now (s .entry))) n from) ⌝ }
 {
-    let mut rows = [0u16; 8448];
+    let mut rows = [0u16; Marking::ROWS];
     let mut at = from;
     let mut i = 0;
     while i < n {
@@ -64,9 +65,9 @@ fn tokens_at(s: &[u8], from: usize, places: u16, sizes: [u8; 32], n: usize) -> B
 // The line of key and a number, and that many lines of net-tokens, in any order.
 pub fn block_at(s: &[u8], at: usize, key: &[u8], places: u16, sizes: [u8; 32]) -> Block
     requires { ⌜ Roomy (sizesAt places sizes) ⌝ }
-    ensures { λ r. ⌜ r ≡ blockOf (readBlock (now (key .entry)) (limits 256 65535) (sizesAt places sizes) (now (s .entry)) at) ⌝ }
+    ensures { λ r. ⌜ r ≡ blockOf (readBlock (now (key .entry)) (limits lineLimit countLimit) (sizesAt places sizes) (now (s .entry)) at) ⌝ }
 {
-    let line = number_line(s, at, key, 0, Model::TOKENS);
+    let line = number_line(s, at, key, 0, Model::LINES);
     let Line::Value { value, next } = line else {
         let marking = Marking::empty();
         return Block {

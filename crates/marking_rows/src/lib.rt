@@ -5,6 +5,7 @@ ghost use lib.Dec.{eqb};
 ghost use lib.ListN.{length, take, drop};
 ghost use Rattle.eos.specs.Vector.{eqV, lexV};
 ghost use Rattle.eos.specs.Multiset as M;
+ghost use Rattle.model.specs.Limits.{roomLimit, rowsRoom};
 ghost use Rattle.marking.specs.Rows.{rowsIn, placeFor, ascending, Kept};
 
 // Whether the row `a` is at most the row `b` in lexicographic order.
@@ -115,7 +116,7 @@ pub fn count(rows: &[u16], n: usize, row: [u16; 33]) -> usize
 
 // Whether the first `n` rows are in ascending order.
 pub fn in_order(rows: &[u16], n: usize) -> bool
-    requires { ⌜ (n ≤ 256) × (length (now rows) ≡ 8448) ⌝ }
+    requires { ⌜ (n ≤ roomLimit) × (length (now rows) ≡ rowsRoom) ⌝ }
     ensures { λ r. ⌜ r ≡ ascending (rowsIn n (now (rows .entry))) ⌝ }
 {
     let mut i: usize = 0;

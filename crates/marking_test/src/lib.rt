@@ -3,6 +3,7 @@ ghost use mathlib.Core.Path.{_≡_};
 ghost use Prim.Native.Nat.{_+_, _*_, _≤_};
 ghost use lib.ListN.{length, take, drop, getD};
 ghost use Rattle.text.specs.Lines.{every};
+ghost use Rattle.model.specs.Limits.{roomLimit};
 ghost use Rattle.marking.specs.Rows.{rowsIn};
 ghost use Rattle.marking.specs.Held.{sizesAt, rightRow, heldMarking};
 ghost use mathlib.Core.Bool.{true};
@@ -44,7 +45,7 @@ fn right_row(rows: &[u16], at: usize, places: u16, sizes: [u8; 32]) -> bool
 
 // Whether each of the first n rows is right.
 fn right_rows(rows: &[u16], n: usize, places: u16, sizes: [u8; 32]) -> bool
-    requires { ⌜ (n ≤ 256) × (n * 33 ≤ length (now rows)) ⌝ }
+    requires { ⌜ (n ≤ roomLimit) × (n * 33 ≤ length (now rows)) ⌝ }
     ensures { λ r. ⌜ r ≡ every (rightRow (sizesAt places sizes)) (rowsIn n (now (rows .entry))) ⌝ }
 {
     let mut i = 0;
@@ -62,7 +63,7 @@ pub fn is_held(k: Marking, places: u16, sizes: [u8; 32]) -> bool
     ensures { λ r. ⌜ r ≡ heldMarking (sizesAt places sizes) k ⌝ }
 {
     let n = k.len;
-    if (Model::TOKENS as usize) < n {
+    if (Model::ROOM as usize) < n {
         return false;
     }
     let rows = k.rows;

@@ -6,6 +6,7 @@ ghost use lib.ListN.{length, take, drop, getD};
 ghost use lib.Seq.{sets};
 ghost use Rattle.text.specs.Printed.{decimal, endText, texts};
 ghost use Rattle.text.specs.Writing.{lay};
+ghost use Rattle.model.specs.Limits.{roomLimit};
 ghost use Rattle.marking.specs.Rows.{rowsIn};
 ghost use Rattle.marking.specs.Held.{sizesAt, Roomy, tokensOf, heldMarking};
 ghost use Rattle.marking.specs.Printed.{rowText, blockText};
@@ -57,7 +58,7 @@ fn row_length(rows: &[u16], at: usize, sizes: [u8; 32]) -> usize
 
 // How many bytes the lines of the first n rows have.
 fn rows_length(rows: &[u16], n: usize, sizes: [u8; 32]) -> usize
-    requires { ⌜ (n ≤ 256) × (n * 33 ≤ length (now rows)) × ((i : ℕ) → i < n → 1 ≤ getD (now rows) (i * 33) 0) × Roomy (sizesAt 32 sizes) ⌝ }
+    requires { ⌜ (n ≤ roomLimit) × (n * 33 ≤ length (now rows)) × ((i : ℕ) → i < n → 1 ≤ getD (now rows) (i * 33) 0) × Roomy (sizesAt 32 sizes) ⌝ }
     ensures { λ r. ⌜ (r ≡ length (texts (rowText sizes) (rowsIn n (now (rows .entry))))) × (r ≤ n * 204) ⌝ }
 {
     let mut bytes = 0;

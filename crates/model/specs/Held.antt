@@ -7,6 +7,7 @@ use lib.Seq.{sets}
 use Rattle.text.specs.Repeat.{fill}
 use Rattle.text.specs.Answers.{padded}
 use Rattle.eos.specs.Model as eos
+use Rattle.model.specs.Limits.{syncRoom}
 use Rattle.model.specs.declared.ObjectNet.{ObjectNet}
 use Rattle.model.specs.declared.Event.{Event}
 use Rattle.model.specs.declared.Model.{Model}
@@ -48,14 +49,14 @@ indexOf (eos.move k) = suc k
 indexOf (eos.idle p) = suc p
 
 unfoldable pub holdEvent : eos.Event → Event
-holdEvent e = record { kind = kindOf (e .act); index = indexOf (e .act); sync = tabled row 256 (e .sync) }
+holdEvent e = record { kind = kindOf (e .act); index = indexOf (e .act); sync = tabled row syncRoom (e .sync) }
 
 -- room that is not used
 abbrev pub noNet : ObjectNet
 noNet = record { places = 0; transitions = 0; pre = replicate 1024 0; post = replicate 1024 0 }
 
 abbrev pub noEvent : Event
-noEvent = record { kind = 0; index = 0; sync = replicate 256 0 }
+noEvent = record { kind = 0; index = 0; sync = replicate syncRoom 0 }
 
 -- things at their index in an array
 abbrev pub putAt : {A B : Type 0} → (A → B) → ℕ → A → List B → List B
@@ -111,7 +112,7 @@ pub record SizedModel (m : Model) : Type 0 where
   pub objects : length (m .objects) ≡ 8
   pub nets : (i : ℕ) → i < 8 → SizedNet (getD (m .objects) i noNet)
   pub events : length (m .events) ≡ 64
-  pub sync : (i : ℕ) → i < 64 → Bytes 256 (getD (m .events) i noEvent .sync)
+  pub sync : (i : ℕ) → i < 64 → Bytes syncRoom (getD (m .events) i noEvent .sync)
 
 -- ---- what a held model stands for
 

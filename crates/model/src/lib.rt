@@ -31,17 +31,20 @@ impl ObjectNet {
 pub struct Event {
     pub kind: u8,
     pub index: u8,
-    pub sync: [u8; 256],
+    pub sync: [u8; Event::SYNC],
 }
 
 impl Event {
+    // The counts of 32 transitions for each of 8 nets.
+    pub const SYNC: usize = 256;
+
     pub fn empty() -> Event
         ensures { λ r. ⌜ r ≡ noEvent ⌝ }
     {
         Event {
             kind: 0,
             index: 0,
-            sync: [0u8; 256],
+            sync: [0u8; Event::SYNC],
         }
     }
 }
@@ -76,12 +79,20 @@ impl Model {
 
     pub const ARC: u16 = 255;
 
-    pub const TOKENS: u16 = 256;
+    // The token lines of a block, the net-tokens of a held marking, and those that covering weights leave room for.
+    pub const LINES: u16 = 256;
+
+    pub const ROOM: u16 = 256;
+
+    pub const COVER: u16 = 256;
 
     pub const COUNT: u16 = 65535;
 
     // The bytes of the longest text that is read.
     pub const LONGEST: usize = 1048576;
+
+    // The inner places: 32 of each of 8 nets.
+    pub const INSIDE: usize = 256;
 
     // The empty model: no places.
     pub fn empty() -> Model

@@ -114,7 +114,7 @@ fn syncs_at(s: &[u8], from: usize, f: Frame, own: u8) -> Syncs
     ensures { λ r. ⌜ r ≡ syncsOf (manyAt (readSync (asFrame f) own (now (s .entry))) 0 (f .nets) from) ⌝ }
 {
     let nets = f.nets;
-    let mut sync = [0u8; 256];
+    let mut sync = [0u8; Event::SYNC];
     let mut at = from;
     let mut i = 0;
     while i < nets {
@@ -123,7 +123,7 @@ fn syncs_at(s: &[u8], from: usize, f: Frame, own: u8) -> Syncs
         let Ended::Past { next } = e else {
             return Syncs {
                 ended: e,
-                sync: [0u8; 256],
+                sync: [0u8; Event::SYNC],
             };
         };
         let counts = r.counts;

@@ -3,8 +3,10 @@ use Prim.Native.Nat.{ℕ, _+_, _*_}
 use mathlib.Core.List.{List, [], _∷_, _++_}
 use Prim.Native.Nat.{min}
 use lib.ListN.{take, drop}
+use Rattle.model.specs.Limits.{syncRoom}
 use Rattle.model.specs.Rules.{nth}
 use Rattle.model.specs.Held.{listed}
+use Rattle.model_packed.specs.Layout.{typesAt, preAt, postAt, netAt, netPre, netPost, eventAt, eventSync}
 use Rattle.model.specs.declared.ObjectNet.{ObjectNet}
 use Rattle.model.specs.declared.Event.{Event}
 use Rattle.model.specs.declared.Model.{Model}
@@ -36,10 +38,10 @@ packedBytes m =
 
 -- an object net, from its first number on
 abbrev pub netFrom : List ℕ → ObjectNet
-netFrom l = record { places = nth l 0; transitions = nth l 1; pre = take 1024 (drop 2 l); post = take 1024 (drop 1026 l) }
+netFrom l = record { places = nth l 0; transitions = nth l 1; pre = take 1024 (drop netPre l); post = take 1024 (drop netPost l) }
 
 abbrev pub eventFrom : List ℕ → Event
-eventFrom l = record { kind = nth l 0; index = nth l 1; sync = take 256 (drop 2 l) }
+eventFrom l = record { kind = nth l 0; index = nth l 1; sync = take syncRoom (drop eventSync l) }
 
 -- the model that is packed
 unfoldable pub modelIn : List ℕ → Model
@@ -48,9 +50,9 @@ modelIn l = record {
   places = nth l 1;
   moves = nth l 2;
   listed = nth l 3;
-  types = take 32 (drop 4 l);
-  pre = take 1024 (drop 36 l);
-  post = take 1024 (drop 1060 l);
-  objects = listed (λ k. netFrom (drop (2084 + k * 2050) l)) 0 8;
-  events = listed (λ k. eventFrom (drop (18484 + k * 258) l)) 0 64;
+  types = take 32 (drop typesAt l);
+  pre = take 1024 (drop preAt l);
+  post = take 1024 (drop postAt l);
+  objects = listed (λ k. netFrom (drop (netAt k) l)) 0 8;
+  events = listed (λ k. eventFrom (drop (eventAt k) l)) 0 64;
 }

@@ -4,6 +4,7 @@ ghost use Prim.Native.Nat.{_+_, _≤_, min};
 ghost use lib.ListN.{length};
 ghost use lib.Seq.{sets};
 ghost use Rattle.model_packed.specs.Packed.{netBytes, eventBytes, concatMap, packedBytes};
+ghost use Rattle.model_packed.specs.Layout.{netsAt, netLong, eventsAt, eventLong, packedLong};
 use model::Event;
 use model::Model;
 use model::ObjectNet;
@@ -28,8 +29,13 @@ pub const OBJECT_POST: usize = 1026;
 
 pub const EVENTS: usize = 18484;
 
-// The bytes of an event.
+// The bytes of an event, and where its counts stand in them.
 pub const EVENT: usize = 258;
+
+pub const EVENT_SYNC: usize = 2;
+
+// The bytes of a packed model.
+pub const PACKED: usize = 34996;
 
 // A number as a byte: 255 for all that are greater.
 fn byte(n: usize) -> u8
@@ -42,9 +48,9 @@ fn byte(n: usize) -> u8
 }
 
 // The numbers of a part laid from `at` on.
-fn lay(packed: &mut [u8; 34996], at: usize, part: &[u8])
-    requires { ⌜ (length (now packed) ≡ 34996) × (at + length (now part) ≤ 34996) ⌝ }
-    ensures { λ _. ⌜ (length (now (packed .exit)) ≡ 34996) × (now (packed .exit) ≡ sets (now (packed .entry)) at (now (part .entry))) ⌝ }
+fn lay(packed: &mut [u8; PACKED], at: usize, part: &[u8])
+    requires { ⌜ (length (now packed) ≡ packedLong) × (at + length (now part) ≤ packedLong) ⌝ }
+    ensures { λ _. ⌜ (length (now (packed .exit)) ≡ packedLong) × (now (packed .exit) ≡ sets (now (packed .entry)) at (now (part .entry))) ⌝ }
 {
     let mut i = 0;
     while i < part.len() {
@@ -54,9 +60,9 @@ fn lay(packed: &mut [u8; 34996], at: usize, part: &[u8])
 }
 
 // An object net laid from `at` on.
-fn lay_net(packed: &mut [u8; 34996], at: usize, net: ObjectNet)
-    requires { ⌜ (length (now packed) ≡ 34996) × (at + 2050 ≤ 34996) ⌝ }
-    ensures { λ _. ⌜ (length (now (packed .exit)) ≡ 34996) × (length (netBytes net) ≡ 2050) × (now (packed .exit) ≡ sets (now (packed .entry)) at (netBytes net)) ⌝ }
+fn lay_net(packed: &mut [u8; PACKED], at: usize, net: ObjectNet)
+    requires { ⌜ (length (now packed) ≡ packedLong) × (at + netLong ≤ packedLong) ⌝ }
+    ensures { λ _. ⌜ (length (now (packed .exit)) ≡ packedLong) × (length (netBytes net) ≡ netLong) × (now (packed .exit) ≡ sets (now (packed .entry)) at (netBytes net)) ⌝ }
 {
     packed[at] = byte(net.places);
     packed[at + 1] = byte(net.transitions);
@@ -65,9 +71,9 @@ fn lay_net(packed: &mut [u8; 34996], at: usize, net: ObjectNet)
 }
 
 // The object nets laid one after the other.
-fn lay_nets(packed: &mut [u8; 34996], objects: [ObjectNet; 8])
-    requires { ⌜ length (now packed) ≡ 34996 ⌝ }
-    ensures { λ _. ⌜ (length (now (packed .exit)) ≡ 34996) × (now (packed .exit) ≡ sets (now (packed .entry)) 2084 (concatMap netBytes objects)) ⌝ }
+fn lay_nets(packed: &mut [u8; PACKED], objects: [ObjectNet; 8])
+    requires { ⌜ length (now packed) ≡ packedLong ⌝ }
+    ensures { λ _. ⌜ (length (now (packed .exit)) ≡ packedLong) × (now (packed .exit) ≡ sets (now (packed .entry)) netsAt (concatMap netBytes objects)) ⌝ }
 {
     let mut n = 0;
     while n < 8 {
@@ -78,19 +84,19 @@ fn lay_nets(packed: &mut [u8; 34996], objects: [ObjectNet; 8])
 }
 
 // An event laid from `at` on.
-fn lay_event(packed: &mut [u8; 34996], at: usize, event: Event)
-    requires { ⌜ (length (now packed) ≡ 34996) × (at + 258 ≤ 34996) ⌝ }
-    ensures { λ _. ⌜ (length (now (packed .exit)) ≡ 34996) × (length (eventBytes event) ≡ 258) × (now (packed .exit) ≡ sets (now (packed .entry)) at (eventBytes event)) ⌝ }
+fn lay_event(packed: &mut [u8; PACKED], at: usize, event: Event)
+    requires { ⌜ (length (now packed) ≡ packedLong) × (at + eventLong ≤ packedLong) ⌝ }
+    ensures { λ _. ⌜ (length (now (packed .exit)) ≡ packedLong) × (length (eventBytes event) ≡ eventLong) × (now (packed .exit) ≡ sets (now (packed .entry)) at (eventBytes event)) ⌝ }
 {
     packed[at] = event.kind;
     packed[at + 1] = event.index;
-    lay(packed, at + 2, &event.sync);
+    lay(packed, at + EVENT_SYNC, &event.sync);
 }
 
 // The events laid one after the other.
-fn lay_events(packed: &mut [u8; 34996], events: [Event; 64])
-    requires { ⌜ length (now packed) ≡ 34996 ⌝ }
-    ensures { λ _. ⌜ (length (now (packed .exit)) ≡ 34996) × (now (packed .exit) ≡ sets (now (packed .entry)) 18484 (concatMap eventBytes events)) ⌝ }
+fn lay_events(packed: &mut [u8; PACKED], events: [Event; 64])
+    requires { ⌜ length (now packed) ≡ packedLong ⌝ }
+    ensures { λ _. ⌜ (length (now (packed .exit)) ≡ packedLong) × (now (packed .exit) ≡ sets (now (packed .entry)) eventsAt (concatMap eventBytes events)) ⌝ }
 {
     let mut e = 0;
     while e < 64 {
@@ -101,9 +107,9 @@ fn lay_events(packed: &mut [u8; 34996], events: [Event; 64])
 }
 
 // A model packed.
-pub fn pack(m: Model, packed: &mut [u8; 34996])
-    requires { ⌜ length (now packed) ≡ 34996 ⌝ }
-    ensures { λ _. ⌜ (length (now (packed .exit)) ≡ 34996) × (now (packed .exit) ≡ packedBytes m) ⌝ }
+pub fn pack(m: Model, packed: &mut [u8; PACKED])
+    requires { ⌜ length (now packed) ≡ packedLong ⌝ }
+    ensures { λ _. ⌜ (length (now (packed .exit)) ≡ packedLong) × (now (packed .exit) ≡ packedBytes m) ⌝ }
 {
     packed[0] = byte(m.nets);
     packed[1] = byte(m.places);

@@ -5,6 +5,7 @@ use lib.ListN.{length, replicate}
 use Rattle.text.specs.Lines.{Outcome, got, bad}
 use Rattle.text.specs.Answers.{endedOf, keptOr, padded}
 use Rattle.eos.specs.Model as eos
+use Rattle.model.specs.Limits.{syncRoom}
 use Rattle.model.specs.Held.{preOf, postOf, row, tabled, holdNet, noNet, holdNets, kindOf, indexOf, holdEvent, noEvent, holdEvents, holdModel, noModel}
 use Rattle.model.specs.Rules as rules
 use Rattle.model.specs.declared.ObjectNet.{ObjectNet}
@@ -56,7 +57,7 @@ unfoldable pub countsOf : Outcome (List ℕ) → Counts
 countsOf o = record { ended = endedOf o; counts = keptOr (replicate 32 0) padded o }
 
 unfoldable pub syncsOf : Outcome (List (List ℕ)) → Syncs
-syncsOf o = record { ended = endedOf o; sync = keptOr (replicate 256 0) (tabled row 256) o }
+syncsOf o = record { ended = endedOf o; sync = keptOr (replicate syncRoom 0) (tabled row syncRoom) o }
 
 unfoldable pub eventLinesOf : Outcome eos.Event → EventLines
 eventLinesOf o = record { ended = endedOf o; event = keptOr noEvent holdEvent o }

@@ -35,7 +35,7 @@ pub enum Acting {
 
 pub struct Syncs {
     pub ended: Ended,
-    pub sync: [u8; 256],
+    pub sync: [u8; Event::SYNC],
 }
 
 pub struct Counts {

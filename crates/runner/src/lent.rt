@@ -4,10 +4,12 @@ ghost use mathlib.Core.Bool.{true};
 ghost use Prim.Native.Nat.{_≤_};
 ghost use lib.ListN.{length};
 ghost use Rattle.eos.specs.Causes.{first};
+ghost use Rattle.model.specs.Limits.{rowsRoom};
 ghost use Rattle.marking.specs.Rows.{rowsIn, Kept};
 ghost use Rattle.step.specs.Verdict.{causesIn, verdictOf};
 ghost use Rattle.model.specs.Held.{SizedModel};
 ghost use Rattle.model_packed.specs.Packed.{modelIn};
+ghost use Rattle.model_packed.specs.Layout.{packedLong};
 ghost use Rattle.step.specs.Rule.{ruleIn};
 ghost use Rattle.step.specs.VerdictParts.{SidesLent, Placed};
 ghost use Rattle.marking.specs.Sizes.{sizesIn};
@@ -16,6 +18,7 @@ ghost use Rattle.runner.specs.Parts.{answered, ruled};
 ghost use Rattle.runner.specs.Answers.{heldStep};
 use super::StepAnswer;
 use super::StepEnd;
+use marking::Marking;
 use step::Verdict;
 use step_change::change;
 use step_read::read_step;
@@ -41,7 +44,7 @@ fn fire<'a>(
     plan: &[u8],
     pre: &'a [u64],
     post: &'a [u64],
-    rows: &mut [u16; 8448],
+    rows: &mut [u16; Marking::ROWS],
     len: usize,
     taken: &[u16],
     take: usize,
@@ -73,14 +76,14 @@ fn fire<'a>(
 pub fn step_on(
     plan: &[u8],
     sizes: [u8; 32],
-    rows: &mut [u16; 8448],
+    rows: &mut [u16; Marking::ROWS],
     len: usize,
     s: &[u8],
-    taken: &mut [u16; 8448],
-    given: &mut [u16; 8448],
+    taken: &mut [u16; Marking::ROWS],
+    given: &mut [u16; Marking::ROWS],
 ) -> StepEnd
-    requires { ⌜ (length (now plan) ≡ 34996) × SizedModel (modelIn (now plan)) × (heldBoth (modelIn (now plan)) (record { len = len; rows = now rows }) ≡ true)
-        × (sizes ≡ sizesIn (modelIn (now plan))) × (length (now s) ≤ longest) × (length (now rows) ≡ 8448) ⌝ }
+    requires { ⌜ (length (now plan) ≡ packedLong) × SizedModel (modelIn (now plan)) × (heldBoth (modelIn (now plan)) (record { len = len; rows = now rows }) ≡ true)
+        × (sizes ≡ sizesIn (modelIn (now plan))) × (length (now s) ≤ longest) × (length (now rows) ≡ rowsRoom) ⌝ }
     ensures { λ r. ⌜ record { answer = r .answer; marking = record { len = r .len; rows = now (rows .exit) } } ≡ heldStep (modelIn (now (plan .entry))) (record { len = len; rows = now (rows .entry) }) (now (s .entry)) ⌝ }
 {
     let lines = read_step(s, 0, plan[3] as u16, plan[1] as u16, sizes, taken, given);

@@ -8,6 +8,7 @@ use super::lent::step_on;
 use marking::Marking;
 use marking_test::sizes;
 use model::Model;
+use model_packed::PACKED;
 use model_packed::pack;
 use reader::test_marking;
 use text_reader::Reader;
@@ -31,9 +32,9 @@ fn step_at(m: Model, k: Marking, s: &[u8], at: usize) -> Stepped
         };
     }
     let mut rows = k.rows;
-    let mut taken = [0u16; 8448];
-    let mut given = [0u16; 8448];
-    let mut plan = [0u8; 34996];
+    let mut taken = [0u16; Marking::ROWS];
+    let mut given = [0u16; Marking::ROWS];
+    let mut plan = [0u8; PACKED];
     pack(m, &mut plan);
     let end = step_on(
         &plan,

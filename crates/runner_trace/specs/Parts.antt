@@ -9,9 +9,11 @@ use Rattle.text.specs.Bytes.{Text}
 use Rattle.text.specs.Lines.{spotOf}
 use Rattle.text.specs.declared.Ended.{Ended}
 use Rattle.text.specs.declared.Ended.the-variants.{Past, Stopped}
+use Rattle.model.specs.Limits.{rowsRoom}
 use Rattle.model.specs.Held.{SizedModel}
 use Rattle.model.specs.declared.Model.{Model}
 use Rattle.model_packed.specs.Packed.{modelIn}
+use Rattle.model_packed.specs.Layout.{packedLong}
 use Rattle.marking.specs.declared.Marking.{Marking}
 use Rattle.marking.specs.Sizes.{sizesIn}
 use Rattle.reader.specs.Answers.{longest, heldBoth}
@@ -75,10 +77,10 @@ turnAt m s at c =
 
 -- what a turn at `at` asks: a held marking of a held model that is packed, the model's sizes, and no more steps fired than bytes used
 pub record Ready (plan sizes : List ℕ) (s : Text) (at : ℕ) (c : Come) : Type 0 where
-  pub plan-long : length plan ≡ 34996
+  pub plan-long : length plan ≡ packedLong
   pub sized : SizedModel (modelIn plan)
   pub held : heldBoth (modelIn plan) (markingIn c) ≡ true
   pub sizes-are : sizes ≡ sizesIn (modelIn plan)
   pub within : length s ≤ longest
-  pub rows-long : length (c .rows) ≡ 8448
+  pub rows-long : length (c .rows) ≡ rowsRoom
   pub behind : c .far .fired ≤ at

@@ -5,6 +5,7 @@ ghost use Prim.Native.Nat.{_≤_};
 ghost use lib.ListN.{length, drop};
 ghost use Rattle.model.specs.Held.{SizedModel};
 ghost use Rattle.model_packed.specs.Packed.{modelIn};
+ghost use Rattle.model_packed.specs.Layout.{packedLong};
 ghost use Rattle.marking.specs.Sizes.{sizesIn};
 ghost use Rattle.reader.specs.Answers.{longest, heldBoth};
 ghost use Rattle.runner_trace.specs.Parts.{stopIn, turnOf, TurnFits, progressOf, Ready, turnAt, reached};
@@ -12,6 +13,7 @@ ghost use Rattle.runner_trace.specs.Running.{ran, runFrom, running};
 use marking::Marking;
 use marking_test::sizes;
 use model::Model;
+use model_packed::PACKED;
 use model_packed::pack;
 use reader::test_marking;
 use runner::StepAnswer;
@@ -102,9 +104,9 @@ fn progress_of(at: usize, fired: usize, len: usize, turn: Turn) -> Progress
 fn turn_at<'s>(
     plan: &[u8],
     sizes: [u8; 32],
-    rows: &'s mut [u16; 8448],
-    taken: &'s mut [u16; 8448],
-    given: &'s mut [u16; 8448],
+    rows: &'s mut [u16; Marking::ROWS],
+    taken: &'s mut [u16; Marking::ROWS],
+    given: &'s mut [u16; Marking::ROWS],
     s: &[u8],
     at: usize,
     p: Progress,
@@ -126,9 +128,9 @@ fn turn_at<'s>(
 fn turn_from<'s, 'a>(
     plan: &[u8],
     sizes: [u8; 32],
-    rows: &'s mut [u16; 8448],
-    taken: &'s mut [u16; 8448],
-    given: &'s mut [u16; 8448],
+    rows: &'s mut [u16; Marking::ROWS],
+    taken: &'s mut [u16; Marking::ROWS],
+    given: &'s mut [u16; Marking::ROWS],
     r: Reader<'a>,
     p: Progress,
 ) -> Progress
@@ -143,9 +145,9 @@ fn turn_from<'s, 'a>(
 fn steps_at(
     plan: &[u8],
     sizes: [u8; 32],
-    rows: &mut [u16; 8448],
-    taken: &mut [u16; 8448],
-    given: &mut [u16; 8448],
+    rows: &mut [u16; Marking::ROWS],
+    taken: &mut [u16; Marking::ROWS],
+    given: &mut [u16; Marking::ROWS],
     s: &[u8],
     from: Progress,
 ) -> Progress
@@ -164,13 +166,13 @@ fn steps_at(
 
 // The steps from `from` to the end of the text or the first stop, on a held marking of a held model that is packed.
 fn run_steps(plan: &[u8], sizes: [u8; 32], k: Marking, s: &[u8], from: usize) -> Ran
-    requires { ⌜ (length (now plan) ≡ 34996) × SizedModel (modelIn (now plan)) × (heldBoth (modelIn (now plan)) k ≡ true)
+    requires { ⌜ (length (now plan) ≡ packedLong) × SizedModel (modelIn (now plan)) × (heldBoth (modelIn (now plan)) k ≡ true)
         × (sizes ≡ sizesIn (modelIn (now plan))) × (length (now s) ≤ longest) ⌝ }
     ensures { λ r. ⌜ r ≡ runFrom (length (now (s .entry))) (modelIn (now (plan .entry))) k (drop from (now (s .entry))) 0 ⌝ }
 {
     let mut rows = k.rows;
-    let mut taken = [0u16; 8448];
-    let mut given = [0u16; 8448];
+    let mut taken = [0u16; Marking::ROWS];
+    let mut given = [0u16; Marking::ROWS];
     let p = Progress {
         on: true,
         at: from,
@@ -225,7 +227,7 @@ fn run_at(m: Model, k: Marking, s: &[u8], at: usize) -> Ran
     let Ended::Past { next } = head else {
         return run_refused(stop_of(rest, head), k);
     };
-    let mut plan = [0u8; 34996];
+    let mut plan = [0u8; PACKED];
     pack(m, &mut plan);
     run_steps(&plan, sizes(m), k, rest, next)
 }

@@ -6,8 +6,10 @@ use mathlib.Core.List.{List, _∷_}
 use lib.Dec.{eqb}
 use lib.ListN.{length, getD, set, replicate, take, drop}
 use Rattle.eos.specs.Vector.{_⊕_, times, zeros}
+use Rattle.model.specs.Limits.{syncRoom}
 use Rattle.model.specs.Rules.{nth}
 use Rattle.model.specs.Held.{row, rowIn, tabled, listed, noNet}
+use Rattle.model_packed.specs.Layout.{netAt, eventAt, eventSync, packedLong}
 use Rattle.model.specs.declared.ObjectNet.{ObjectNet}
 
 -- a move's row of the table, or one net-token on the place
@@ -31,21 +33,21 @@ netSum side objects sync n = arcSum side (getD objects n noNet) sync (n * 32)
 
 -- what is asked of the numbers there, for event e
 pub record PackedEvent (plan : List ℕ) (e : ℕ) : Type 0 where
-  pub long : length plan ≡ 34996
+  pub long : length plan ≡ packedLong
   pub nets : nth plan 0 ≤ 8
-  pub steps : (n : ℕ) → n < 8 → nth plan (2084 + n * 2050 + 1) ≤ 32
+  pub steps : (n : ℕ) → n < 8 → nth plan (netAt n + 1) ≤ 32
   pub event : e < 64
-  pub index-some : 1 ≤ nth plan (18484 + e * 258 + 1)
-  pub index-few : nth plan (18484 + e * 258 + 1) ≤ 32
+  pub index-some : 1 ≤ nth plan (eventAt e + 1)
+  pub index-few : nth plan (eventAt e + 1) ≤ 32
 
 -- what event e sums up of net n, whose arcs begin at `arcs`
 abbrev pub netSumIn : List ℕ → ℕ → ℕ → ℕ → List ℕ
 netSumIn plan e arcs n =
-    sumRows (λ t. nth (take 256 (drop (18484 + e * 258 + 2) plan)) (n * 32 + t)) (rowIn 32 (take 1024 (drop (2084 + n * 2050 + arcs) plan))) 0
-    (nth plan (2084 + n * 2050 + 1)) (zeros 32)
+    sumRows (λ t. nth (take syncRoom (drop (eventAt e + eventSync) plan)) (n * 32 + t)) (rowIn 32 (take 1024 (drop (netAt n + arcs) plan))) 0
+    (nth plan (netAt n + 1)) (zeros 32)
 
 -- a side of event e, in nine rows; the moves' arcs begin at `moves`
 unfoldable pub sideIn : List ℕ → ℕ → ℕ → ℕ → List ℕ
 sideIn plan e moves arcs =
     tabled row 288
-    (outerIn (nth plan (18484 + e * 258)) (nth plan (18484 + e * 258 + 1)) (take 1024 (drop moves plan)) ∷ listed (netSumIn plan e arcs) 0 (nth plan 0))
+    (outerIn (nth plan (eventAt e)) (nth plan (eventAt e + 1)) (take 1024 (drop moves plan)) ∷ listed (netSumIn plan e arcs) 0 (nth plan 0))

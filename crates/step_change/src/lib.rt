@@ -5,14 +5,16 @@ ghost use Prim.Native.Nat.{_+_, _-_, _≤_};
 ghost use lib.ListN.{length, take};
 ghost use Rattle.eos.specs.Vector.{eqV, lexV};
 ghost use Rattle.eos.specs.Multiset as M;
+ghost use Rattle.model.specs.Limits.{roomLimit, rowsRoom};
 ghost use Rattle.marking.specs.Rows.{Kept, laid, rowsIn};
+use marking::Marking;
 use marking_edit::insert;
 use marking_edit::take_out;
 use marking_rows::row_at;
 
 // The taken rows out of the marking's `len` rows, which hold them.
-fn take_rows(rows: &mut [u16; 8448], len: usize, taken: &[u16], take: usize)
-    requires { ⌜ Kept len (now rows) × M.Within eqV (rowsIn take (now taken)) (rowsIn len (now rows)) × (length (now taken) ≡ 8448) ⌝ }
+fn take_rows(rows: &mut [u16; Marking::ROWS], len: usize, taken: &[u16], take: usize)
+    requires { ⌜ Kept len (now rows) × M.Within eqV (rowsIn take (now taken)) (rowsIn len (now rows)) × (length (now taken) ≡ rowsRoom) ⌝ }
     ensures { λ _. ⌜ Kept (len - take) (now (rows .exit)) × (rowsIn (len - take) (now (rows .exit)) ≡ M.less eqV (rowsIn len (now (rows .entry))) (rowsIn take (now (taken .entry)))) ⌝ }
 {
     let mut removed: usize = 0;
@@ -23,8 +25,8 @@ fn take_rows(rows: &mut [u16; 8448], len: usize, taken: &[u16], take: usize)
 }
 
 // The given rows into the marking's `len` rows, each at its place.
-fn give_rows(rows: &mut [u16; 8448], len: usize, given: &[u16], give: usize)
-    requires { ⌜ Kept len (now rows) × (length (now given) ≡ 8448) × (len + give ≤ 256) ⌝ }
+fn give_rows(rows: &mut [u16; Marking::ROWS], len: usize, given: &[u16], give: usize)
+    requires { ⌜ Kept len (now rows) × (length (now given) ≡ rowsRoom) × (len + give ≤ roomLimit) ⌝ }
     ensures { λ _. ⌜ now (rows .exit) ≡ laid (M.sort lexV (rowsIn len (now (rows .entry)) ++ rowsIn give (now (given .entry)))) ⌝ }
 {
     let mut inserted: usize = 0;
@@ -36,14 +38,14 @@ fn give_rows(rows: &mut [u16; 8448], len: usize, given: &[u16], give: usize)
 
 // The taken rows out of the marking's `len` rows, which hold them, and the given rows into it.
 pub fn change(
-    rows: &mut [u16; 8448],
+    rows: &mut [u16; Marking::ROWS],
     len: usize,
     taken: &[u16],
     take: usize,
     given: &[u16],
     give: usize,
 )
-    requires { ⌜ Kept len (now rows) × M.Within eqV (rowsIn take (now taken)) (rowsIn len (now rows)) × (length (now taken) ≡ 8448) × (length (now given) ≡ 8448) × (take ≤ 256) × (give ≤ 256) × (len - take + give ≤ 256) ⌝ }
+    requires { ⌜ Kept len (now rows) × M.Within eqV (rowsIn take (now taken)) (rowsIn len (now rows)) × (length (now taken) ≡ rowsRoom) × (length (now given) ≡ rowsRoom) × (take ≤ 256) × (give ≤ 256) × (len - take + give ≤ 256) ⌝ }
     ensures { λ _. ⌜ now (rows .exit) ≡ laid (M.sort lexV (M.less eqV (rowsIn len (now (rows .entry))) (rowsIn take (now (taken .entry))) ++ rowsIn give (now (given .entry)))) ⌝ }
 {
     take_rows(rows, len, taken, take);

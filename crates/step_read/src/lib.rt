@@ -3,11 +3,13 @@
 ghost use mathlib.Core.Path.{_≡_};
 ghost use Prim.Native.Nat.{_≤_};
 ghost use Rattle.text.specs.Lines.{many};
+ghost use Rattle.model.specs.Limits.{lineLimit, countLimit};
 ghost use Rattle.marking.specs.Rows.{rowsIn};
 ghost use Rattle.marking.specs.Held.{sizesAt, Roomy};
 ghost use Rattle.marking.specs.Reading.{limits, readNetToken, readBlock};
 ghost use Rattle.step.specs.Reading.{readStep};
 ghost use Rattle.step.specs.Answers.{noStep, tokenRows, stepRows};
+use marking::Marking;
 use marking::NetToken;
 use marking_edit::put_row;
 use marking_read::token_row;
@@ -27,10 +29,10 @@ fn rows_at(
     places: u16,
     sizes: [u8; 32],
     n: usize,
-    rows: &mut [u16; 8448],
+    rows: &mut [u16; Marking::ROWS],
 ) -> TokenLines
-    requires { ⌜ (n ≤ 256) × Roomy (sizesAt places sizes) ⌝ }
-    ensures { λ r. ⌜ record { lines = r; rows = rowsIn (r .count) (now (rows .exit)) } ≡ tokenRows (many (readNetToken (limits 256 65535) (sizesAt places sizes) (now (s .entry))) n from) ⌝ }
+    requires { ⌜ (n ≤ lineLimit) × Roomy (sizesAt places sizes) ⌝ }
+    ensures { λ r. ⌜ record { lines = r; rows = rowsIn (r .count) (now (rows .exit)) } ≡ tokenRows (many (readNetToken (limits lineLimit countLimit) (sizesAt places sizes) (now (s .entry))) n from) ⌝ }
 {
     let mut at = from;
     let mut i = 0;
@@ -62,12 +64,12 @@ fn tokens_after(
     key: &[u8],
     places: u16,
     sizes: [u8; 32],
-    rows: &mut [u16; 8448],
+    rows: &mut [u16; Marking::ROWS],
 ) -> TokenLines
     requires { ⌜ Roomy (sizesAt places sizes) ⌝ }
-    ensures { λ r. ⌜ record { lines = r; rows = rowsIn (r .count) (now (rows .exit)) } ≡ tokenRows (readBlock (now (key .entry)) (limits 256 65535) (sizesAt places sizes) (now (s .entry)) at) ⌝ }
+    ensures { λ r. ⌜ record { lines = r; rows = rowsIn (r .count) (now (rows .exit)) } ≡ tokenRows (readBlock (now (key .entry)) (limits lineLimit countLimit) (sizesAt places sizes) (now (s .entry)) at) ⌝ }
 {
-    let line = number_line(s, at, key, 0, Model::TOKENS);
+    let line = number_line(s, at, key, 0, Model::LINES);
     let Line::Value { value, next } = line else {
         return TokenLines {
             ended: ended_of(line),
@@ -97,11 +99,11 @@ pub fn read_step(
     events: u16,
     places: u16,
     sizes: [u8; 32],
-    taken: &mut [u16; 8448],
-    given: &mut [u16; 8448],
+    taken: &mut [u16; Marking::ROWS],
+    given: &mut [u16; Marking::ROWS],
 ) -> StepLines
     requires { ⌜ Roomy (sizesAt places sizes) ⌝ }
-    ensures { λ r. ⌜ record { lines = r; taken = rowsIn (r .take) (now (taken .exit)); given = rowsIn (r .give) (now (given .exit)) } ≡ stepRows (readStep (limits 256 65535) (sizesAt places sizes) events (now (s .entry)) at) ⌝ }
+    ensures { λ r. ⌜ record { lines = r; taken = rowsIn (r .take) (now (taken .exit)); given = rowsIn (r .give) (now (given .exit)) } ≡ stepRows (readStep (limits lineLimit countLimit) (sizesAt places sizes) events (now (s .entry)) at) ⌝ }
 {
     let line = number_line(s, at, b"fire=", 1, events);
     let Line::Value { value, next } = line else {

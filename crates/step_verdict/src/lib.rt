@@ -3,6 +3,7 @@ ghost use mathlib.Core.Path.{_≡_};
 ghost use Prim.Native.Nat.{_≤_};
 ghost use lib.ListN.{length};
 ghost use Rattle.eos.specs.Causes.{first};
+ghost use Rattle.model.specs.Limits.{roomLimit, rowsRoom};
 ghost use Rattle.marking.specs.Rows.{rowsIn, Kept};
 ghost use Rattle.step.specs.declared.Verdict.the-variants.{Turned};
 ghost use Rattle.step.specs.Verdict.{outerCauses, innerCauses, markingCauses, causesIn, verdictOf};
@@ -63,13 +64,13 @@ pub fn on_nets<'a>(
     ensures { λ r. ⌜ r ≡ verdictOf take (first (innerCauses (ruleIn (now (plan .entry)) (now (pre .entry)) (now (post .entry))) (rowsIn take (now (taken .entry))) (rowsIn give (now (given .entry))))) ⌝ }
 {
     let nets = plan[0] as usize;
-    let mut held = [0u64; 256];
+    let mut held = [0u64; Model::INSIDE];
     inner_of(taken, take, &plan[TYPES..PRE], &mut held);
     let short = short_net(nets, &pre[32..288], &held);
     if short != 0 {
         return turned(9, short);
     }
-    let mut made = [0u64; 256];
+    let mut made = [0u64; Model::INSIDE];
     inner_of(given, give, &plan[TYPES..PRE], &mut made);
     let unbalanced = unbalanced_net(nets, &made, &held, &pre[32..288], &post[32..288]);
     if unbalanced != 0 {
@@ -80,14 +81,14 @@ pub fn on_nets<'a>(
 
 // The tests on the marking (11 and 12): it has the net-tokens taken, and room for those given.
 pub fn on_marking(taken: &[u16], take: usize, give: usize, rows: &[u16], len: usize) -> Verdict
-    requires { ⌜ (take ≤ 256) × (length (now taken) ≡ 8448) × (give ≤ 256) × Kept len (now rows) ⌝ }
+    requires { ⌜ (take ≤ roomLimit) × (length (now taken) ≡ rowsRoom) × (give ≤ roomLimit) × Kept len (now rows) ⌝ }
     ensures { λ r. ⌜ r ≡ verdictOf take (first (markingCauses (rowsIn take (now (taken .entry))) give (rowsIn len (now (rows .entry))))) ⌝ }
 {
     let lacks = lacking(taken, take, rows, len);
     if lacks != 0 {
         return turned(11, lacks + 2);
     }
-    let most = Model::TOKENS as usize;
+    let most = Model::ROOM as usize;
     if most + take < len + give {
         return turned(12, take + 3);
     }

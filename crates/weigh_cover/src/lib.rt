@@ -5,6 +5,7 @@ ghost use Prim.Native.Nat.{_+_, _/_, _≤_, min};
 ghost use lib.Dec.{ltb, leb};
 ghost use lib.ListN.{length, take};
 ghost use Rattle.eos.specs.Firing.{allBelow};
+ghost use Rattle.model.specs.Limits.{countLimit};
 ghost use Rattle.marking.specs.Sizes.{SmallNets};
 ghost use Rattle.weigh.specs.Sums.{lowest, someAt, enoughAt, netCovered, covered};
 use model::Model;
@@ -47,7 +48,7 @@ fn least(w: &[u16], n: usize) -> u16
 
 // Whether a weight is at least 1, and the sum divided by it at most a count's limit.
 fn weight_covers(sum: u64, w: u16) -> bool
-    ensures { λ r. ⌜ r ≡ (ltb 0 w && leb (sum / w) 65535) ⌝ }
+    ensures { λ r. ⌜ r ≡ (ltb 0 w && leb (sum / w) countLimit) ⌝ }
 {
     if w == 0 {
         return false;
@@ -95,7 +96,7 @@ pub fn covers(places: usize, nets: usize, objects: [ObjectNet; 8], w: [u16; 288]
         return false;
     }
     let low = least(&w, places);
-    let most = Model::TOKENS as u64;
+    let most = Model::COVER as u64;
     if most < sum / low as u64 {
         return false;
     }

@@ -5,6 +5,7 @@ ghost use Prim.Native.Nat.{ℕ, _+_, _-_, _*_, _^_, _≤_, _<_};
 ghost use lib.Dec.{eqb};
 ghost use lib.ListN.{length, getD};
 ghost use Rattle.eos.specs.Causes.{failing, numbered};
+ghost use Rattle.model.specs.Limits.{syncRoom};
 ghost use Rattle.model.specs.Rules.{nth};
 ghost use Rattle.model.specs.Held.{noEvent};
 ghost use Rattle.weigh.specs.Sums.{total, product, GainRow, NetGains, TableGains, Small, eventGain, balanced, balancedAt, leastAfter, ActIn};
@@ -121,7 +122,7 @@ fn gain_counted(c: u8, gain: u64) -> u64
 
 // What the transitions of all nets gain, each as often as it is counted.
 fn counts_gain<'a>(sync: &'a [u8], n: usize, gain: &'a [u64]) -> u64
-    requires { ⌜ (n ≤ 256) × (length (now sync) ≡ 256) × (length (now gain) ≡ 288) × Small (now gain) ⌝ }
+    requires { ⌜ (n ≤ syncRoom) × (length (now sync) ≡ syncRoom) × (length (now gain) ≡ 288) × Small (now gain) ⌝ }
     ensures { λ r. ⌜ (r ≡ total n (λ k. nth (now (sync .entry)) k * nth (now (gain .entry)) (32 + k))) × (r ≤ 69818996736000) ⌝ }
 {
     let mut sum: u64 = 0;

@@ -2,6 +2,7 @@
 ghost use mathlib.Core.Path.{_≡_};
 ghost use Prim.Native.Nat.{ℕ, _+_, _*_, _≤_, _<_};
 ghost use lib.ListN.{length};
+ghost use Rattle.model.specs.Limits.{roomLimit, countLimit};
 ghost use Rattle.weigh.specs.Sums.{product, tokenWeight, markingWeight, PlaceIn, TypesIn};
 
 // A weight times a count.
@@ -26,7 +27,7 @@ fn counts_weight<'a>(w: &'a [u16], i: usize, v: &'a [u16], j: usize) -> u64
 }
 
 fn wide(w: u16) -> u64
-    ensures { λ r. ⌜ (r ≡ w) × (r ≤ 65535) ⌝ }
+    ensures { λ r. ⌜ (r ≡ w) × (r ≤ countLimit) ⌝ }
 {
     w as u64
 }
@@ -43,7 +44,7 @@ fn token_weight<'a>(w: &'a [u16], types: [u8; 32], rows: &'a [u16], at: usize) -
 
 // The weight of the first n net-tokens.
 pub fn marking_weight<'a>(w: &'a [u16], types: [u8; 32], rows: &'a [u16], n: usize) -> u64
-    requires { ⌜ (length (now w) ≡ 288) × (n ≤ 256) × (n * 33 ≤ length (now rows)) × TypesIn types ⌝ }
+    requires { ⌜ (length (now w) ≡ 288) × (n ≤ roomLimit) × (n * 33 ≤ length (now rows)) × TypesIn types ⌝ }
     requires { ⌜ ((i : ℕ) → i < n → PlaceIn (now rows) (i * 33)) ⌝ }
     ensures { λ r. ⌜ (r ≡ markingWeight (now (w .entry)) types (now (rows .entry)) n) × (r ≤ 35183315132160) ⌝ }
 {
