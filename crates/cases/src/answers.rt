@@ -62,7 +62,7 @@ pub fn written(m: Model, k: Marking, out: &mut [u8]) {
     put(b"\n");
 }
 
-// The marking in a buffer of as many bytes as the text says, 256 at most.
+// The marking in a buffer of as many bytes as the text says; this program has room for 256.
 pub fn write(m: Model, k: Marking, text: &[u8]) {
     let mut out = [46u8; 256];
     let n = io::count(number_at(text, 0) as isize, &out);

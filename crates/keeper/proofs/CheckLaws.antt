@@ -11,11 +11,12 @@ use Rattle.text.specs.declared.Fault.{Fault}
 use Rattle.text.specs.declared.Ended.the-variants.{Past, Stopped}
 use Rattle.text.proofs.Loops.{got-of, bad-of}
 use Rattle.eos.specs.Weights.{Weights}
+use Rattle.model.specs.Limits.{longest, coverLimit}
 use Rattle.model.specs.Held.{modelOf}
 use Rattle.model.specs.declared.Model.{Model}
 use Rattle.marking.specs.Held.{tokensOf}
 use Rattle.marking.specs.declared.Marking.{Marking}
-use Rattle.reader.specs.Answers.{longest, heldBoth}
+use Rattle.reader.specs.Answers.{heldBoth}
 use Rattle.marking.specs.Sizes.{sizesFor}
 use Rattle.keeper.specs.Reading.{readWeightsAt}
 use Rattle.keeper.specs.Held.{holdWeights}
@@ -46,7 +47,7 @@ module _ (m : Model) (k : Marking) (s : Text) (at : ℕ) where
       unfolding weightsFrom weightsOr weighed
       from-bad d e = rw (le-leb (length s) longest few, weightsFrom, held, e)
 
-      pub from-got : (w : Weights) (x : ℕ) → file ≡ got w x → weightsFrom m k s at ≡ judgedWeights (modelOf m) (tokensOf (sizesFor m) k) w
+      pub from-got : (w : Weights) (x : ℕ) → file ≡ got w x → weightsFrom m k s at ≡ judgedWeights coverLimit (modelOf m) (tokensOf (sizesFor m) k) w
       unfolding weightsFrom weightsOr weighed
       from-got w x e = rw (le-leb (length s) longest few, weightsFrom, held, e)
 
@@ -65,7 +66,7 @@ module _ (m : Model) (k : Marking) (s : Text) (at : ℕ) where
         from-stopped d e = sym (from-bad d (bad-of file (r .ended) d lines-ended e))
 
         pub from-past : (x : ℕ) → r .ended ≡ Past x → (c : WeightCheck)
-            → ((w : Weights) → Holds m w (r .weights) → c ≡ judgedWeights (modelOf m) (tokensOf (sizesFor m) k) w) → c ≡ weightsFrom m k s at
+            → ((w : Weights) → Holds m w (r .weights) → c ≡ judgedWeights coverLimit (modelOf m) (tokensOf (sizesFor m) k) w) → c ≡ weightsFrom m k s at
         from-past x e c h =
             let g = got-of file (r .ended) x lines-ended e in
             let w = g .value in

@@ -14,6 +14,7 @@ use Rattle.text.specs.Capped.{above}
 use Rattle.eos.specs.Firing.{allBelow}
 use Rattle.eos.specs.Multiset.{every}
 use Rattle.eos.specs.Weights.{Weights, positive, least, covers}
+use Rattle.model.specs.Limits.{countLimit}
 use Rattle.model.specs.Rules.{nth}
 use Rattle.model.specs.Held.{noNet, tabled}
 use Rattle.model.specs.declared.Model.{Model}
@@ -39,8 +40,8 @@ positive-above (pos zero) = refl
 positive-above (pos (suc n)) = sym (lt-ltb 0 (suc n) (omega arith))
 positive-above (negsuc n) = refl
 
-enough-above : (sum : ℕ) (v : ℤ) → (positive v && leb (sum / natAbs v) 65535) ≡ (ltb 0 (above v) && leb (sum / above v) 65535)
-enough-above sum (pos n) = ap (λ (t : Bool). t && leb (sum / n) 65535) (positive-above (pos n))
+enough-above : (sum : ℕ) (v : ℤ) → (positive v && leb (sum / natAbs v) countLimit) ≡ (ltb 0 (above v) && leb (sum / above v) countLimit)
+enough-above sum (pos n) = ap (λ (t : Bool). t && leb (sum / n) countLimit) (positive-above (pos n))
 enough-above sum (negsuc n) = refl
 
 least-above : (l : List ℤ) → every positive l ≡ true → least l ≡ lowest (map above l)
@@ -71,7 +72,7 @@ module _ (m : Model) (w : Weights) (kept : Kept m w) (sum : ℕ) where
       getD-take (m .places) table i 0 (omega arith) ∙ outer-at m w kept above i (omega (arith, few-places m w kept))
 
   abbrev enough : ℤ → Bool
-  enough v = positive v && leb (sum / natAbs v) 65535
+  enough v = positive v && leb (sum / natAbs v) countLimit
 
   net-enough : (n : ℕ) → n < m .nets → every enough (getD (w .inward) n []) ≡ netCovered sum table (m .objects) n
   net-enough n p =
@@ -81,7 +82,7 @@ module _ (m : Model) (w : Weights) (kept : Kept m w) (sum : ℕ) where
       (λ i q.
       let e : nth table (n * 32 + 32 + i) ≡ above (getD l i (pos 0)) =
       inner-at m w kept above n p i (omega (arith, net-small m w kept n)) ∙ List·getD-map above l i (pos 0) in
-      enough-above sum (getD l i (pos 0)) ∙ ap (λ (v : ℕ). ltb 0 v && leb (sum / v) 65535) (sym e))
+      enough-above sum (getD l i (pos 0)) ∙ ap (λ (v : ℕ). ltb 0 v && leb (sum / v) countLimit) (sym e))
 
   nets-enough : every (every enough) (w .inward) ≡ allBelow (m .nets) (netCovered sum table (m .objects))
   nets-enough =
@@ -89,16 +90,16 @@ module _ (m : Model) (w : Weights) (kept : Kept m w) (sum : ℕ) where
       ∙ below-same (m .nets) _ (netCovered sum table (m .objects)) net-enough
 
   -- weights cover exactly where the code's test says so
-  pub covers-is : covers 256 65535 w sum ≡ covered (m .places) (m .nets) (m .objects) table sum
+  pub covers-is : (most : ℕ) → covers most countLimit w sum ≡ covered most (m .places) (m .nets) (m .objects) table sum
   unfolding covers covered
-  covers-is =
+  covers-is most =
       let some = every positive (w .outward) in
       let inner = every (every positive) (w .inward) in
-      let small = every (every (λ v. leb (sum / natAbs v) 65535)) (w .inward) in
+      let small = every (every (λ v. leb (sum / natAbs v) countLimit)) (w .inward) in
       let both : (inner && small) ≡ allBelow (m .nets) (netCovered sum table (m .objects)) =
-      sym (each-and positive (λ v. leb (sum / natAbs v) 65535) (w .inward)) ∙ nets-enough in
+      sym (each-and positive (λ v. leb (sum / natAbs v) countLimit) (w .inward)) ∙ nets-enough in
       by-test some
       (λ h.
       let low : least (w .outward) ≡ lowest (take (m .places) table) = least-above (w .outward) h ∙ ap lowest (sym outer-row) in
-      rw (h, ← outer-some, h, low) (and-turn inner (leb (sum / lowest (take (m .places) table)) 256) small ∙ ap (λ (t : Bool). leb (sum / lowest (take (m .places) table)) 256 && t) both))
+      rw (h, ← outer-some, h, low) (and-turn inner (leb (sum / lowest (take (m .places) table)) most) small ∙ ap (λ (t : Bool). leb (sum / lowest (take (m .places) table)) most && t) both))
       (λ h. rw (h, ← outer-some, h))

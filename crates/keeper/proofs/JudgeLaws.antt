@@ -13,6 +13,7 @@ use Rattle.text.proofs.TestLaws.{within-is}
 use Rattle.eos.specs.Model as eos
 use Rattle.eos.specs.Causes.{first, unless, at, failing, numbered}
 use Rattle.eos.specs.Weights.{Weights, isZero, effect, allZero, weigh, unbalanced, weightRefusal, covers}
+use Rattle.model.specs.Limits.{roomLimit, countLimit}
 use Rattle.model.specs.Held.{noEvent, tabled, eventOf, modelOf}
 use Rattle.model.specs.Test.{heldModel}
 use Rattle.model.specs.declared.Model.{Model}
@@ -20,7 +21,7 @@ use Rattle.model.proofs.SlotLaws.{length-listed}
 use Rattle.model.proofs.HeldTests.{held-is, most-places}
 use Rattle.marking.specs.Held.{tokensOf, heldMarking}
 use Rattle.marking.specs.declared.Marking.{Marking}
-use Rattle.reader.specs.Answers.{heldBoth}
+use Rattle.reader.specs.Answers.{heldBoth, heldIn}
 use Rattle.marking.specs.Sizes.{sizesFor}
 use Rattle.keeper.specs.Held.{weightLists, holdWeights}
 use Rattle.keeper.specs.Answers.{sumOf, refusedWeights, passedWeights, turnedOr, judgedWeights}
@@ -40,14 +41,14 @@ use Rattle.keeper.proofs.CoverLaws.{covers-is}
 
 module _ (m : Model) (k : Marking) (held : heldBoth m k ≡ true) where
   pub model-held : heldModel m ≡ true
-  unfolding heldBoth
-  model-held = and-true (heldModel m) (heldMarking (sizesFor m) k) held .0
+  unfolding heldIn
+  model-held = and-true (heldModel m) (heldMarking roomLimit (sizesFor m) k) held .0
 
-  pub marking-held : heldMarking (sizesFor m) k ≡ true
-  unfolding heldBoth
-  marking-held = and-true (heldModel m) (heldMarking (sizesFor m) k) held .1
+  pub marking-held : heldMarking roomLimit (sizesFor m) k ≡ true
+  unfolding heldIn
+  marking-held = and-true (heldModel m) (heldMarking roomLimit (sizesFor m) k) held .1
 
-  pub tokens-few : k .len ≤ 256
+  pub tokens-few : k .len ≤ roomLimit
   tokens-few = few-tokens (sizesFor m) k marking-held
 
   pub places-in : (i : ℕ) → i < k .len → PlaceIn (k .rows) (i * 33)
@@ -69,7 +70,7 @@ sum-small up down sum e p q = rw e (omega arith)
 sum-of : (a b : ℕ) → record { above = a - b; below = b - a } ≡ sumOf (subℕ a b)
 sum-of a b = ap₂ {C = Sum} (λ (x y : ℕ). record { above = x; below = y }) (sym (sub-above a b)) (sym (sub-below a b))
 
-module _ (m : Model) (w : Weights) (kept : Kept m w) (k : Marking) (held : heldMarking (sizesFor m) k ≡ true) (h : HeldWeights) (is : h ≡ holdWeights w) where
+module _ (m : Model) (w : Weights) (kept : Kept m w) (k : Marking) (held : heldMarking roomLimit (sizesFor m) k ≡ true) (h : HeldWeights) (is : h ≡ holdWeights w) where
   above-is : h .above ≡ tabled (map above) 288 (weightLists w)
   unfolding holdWeights
   above-is = ap (λ (x : HeldWeights). x .above) is
@@ -82,23 +83,23 @@ module _ (m : Model) (w : Weights) (kept : Kept m w) (k : Marking) (held : heldM
   sum = weigh (modelOf m) w (tokensOf (sizesFor m) k)
 
   pub passed-is : (up down : ℕ) → up ≡ markingWeight (h .above) (m .types) (k .rows) (k .len) → down ≡ markingWeight (h .below) (m .types) (k .rows) (k .len)
-      → (s : Sum) → s ≡ record { above = up - down; below = down - up } → (cover : Bool)
-      → cover ≡ covered (m .places) (m .nets) (m .objects) (h .above) (s .above + s .below)
-      → record { answer = Passed; sum = s; cover = cover } ≡ passedWeights w sum
-  passed-is up down p q s e cover c =
+      → (s : Sum) → s ≡ record { above = up - down; below = down - up } → (most : ℕ) (cover : Bool)
+      → cover ≡ covered most (m .places) (m .nets) (m .objects) (h .above) (s .above + s .below)
+      → record { answer = Passed; sum = s; cover = cover } ≡ passedWeights most w sum
+  passed-is up down p q s e most cover c =
       let z : sum ≡ subℕ up down =
       weigh-is m w kept k held
       ∙ sym (ap₂ subℕ (p ∙ ap (λ (t : List ℕ). markingWeight t (m .types) (k .rows) (k .len)) above-is) (q ∙ ap (λ (t : List ℕ). markingWeight t (m .types) (k .rows) (k .len)) below-is)) in
       let s-is : s ≡ sumOf sum = e ∙ sum-of up down ∙ ap sumOf (sym z) in
       let size : s .above + s .below ≡ natAbs sum =
       ap (λ (x : Sum). x .above + x .below) e ∙ sym (sub-abs up down) ∙ ap natAbs (sym z) in
-      let c-is : cover ≡ covers 256 65535 w (natAbs sum) =
-      c ∙ ap₂ (covered (m .places) (m .nets) (m .objects)) above-is size ∙ sym (covers-is m w kept (natAbs sum)) in
+      let c-is : cover ≡ covers most countLimit w (natAbs sum) =
+      c ∙ ap₂ (covered most (m .places) (m .nets) (m .objects)) above-is size ∙ sym (covers-is m w kept (natAbs sum) most) in
       ap₂ {C = WeightCheck} (λ (x : Sum) (y : Bool). record { answer = Passed; sum = x; cover = y }) s-is c-is
 
 -- ---- the causes
 
-module _ (m : Model) (w : Weights) (μ : eos.Marking) where
+module _ (most : ℕ) (m : Model) (w : Weights) (μ : eos.Marking) where
   abbrev first-unbalanced : Option ℕ
   first-unbalanced = failing (m .listed) 0 (λ k. isZero (effect (modelOf m) w (eos.event (modelOf m) k)))
 
@@ -110,25 +111,25 @@ module _ (m : Model) (w : Weights) (μ : eos.Marking) where
   unfolding modelOf
   events-long = length-listed (λ i. eventOf (m .nets) (m .objects) (getD (m .events) i noEvent)) 0 (m .listed)
 
-  pub turned-zero : allZero w ≡ true → refusedWeights (Turned 6 (m .nets + 2)) ≡ judgedWeights (modelOf m) μ w
+  pub turned-zero : allZero w ≡ true → refusedWeights (Turned 6 (m .nets + 2)) ≡ judgedWeights most (modelOf m) μ w
   unfolding judgedWeights turnedOr weightRefusal first unless
   turned-zero h =
       let e : m .nets + 2 ≡ 2 + m .nets = omega arith in
       rw (h, nets-long m [], e)
 
   module _ (some-weight : allZero w ≡ false) where
-    pub turned-event : (r : ℕ) → r ≡ numbered first-unbalanced → (r ≡ 0 → ⊥) → refusedWeights (Turned 7 r) ≡ judgedWeights (modelOf m) μ w
+    pub turned-event : (r : ℕ) → r ≡ numbered first-unbalanced → (r ≡ 0 → ⊥) → refusedWeights (Turned 7 r) ≡ judgedWeights most (modelOf m) μ w
     unfolding judgedWeights turnedOr weightRefusal first unless at
     turned-event r e d = rw (some-weight, events-long) (go first-unbalanced e)
       where
-        go : (o : Option ℕ) → r ≡ numbered o → refusedWeights (Turned 7 r) ≡ turnedOr last (first (at unbalanced o ∷ [])) (passedWeights w (weigh (modelOf m) w μ))
+        go : (o : Option ℕ) → r ≡ numbered o → refusedWeights (Turned 7 r) ≡ turnedOr last (first (at unbalanced o ∷ [])) (passedWeights most w (weigh (modelOf m) w μ))
         go none p = absurd (d p)
         go (some i) p = rw p
 
-    pub none-turned : (r : ℕ) → r ≡ numbered first-unbalanced → r ≡ 0 → passedWeights w (weigh (modelOf m) w μ) ≡ judgedWeights (modelOf m) μ w
+    pub none-turned : (r : ℕ) → r ≡ numbered first-unbalanced → r ≡ 0 → passedWeights most w (weigh (modelOf m) w μ) ≡ judgedWeights most (modelOf m) μ w
     unfolding judgedWeights turnedOr weightRefusal first unless at
     none-turned r e d = rw (some-weight, events-long) (go first-unbalanced e)
       where
-        go : (o : Option ℕ) → r ≡ numbered o → passedWeights w (weigh (modelOf m) w μ) ≡ turnedOr last (first (at unbalanced o ∷ [])) (passedWeights w (weigh (modelOf m) w μ))
+        go : (o : Option ℕ) → r ≡ numbered o → passedWeights most w (weigh (modelOf m) w μ) ≡ turnedOr last (first (at unbalanced o ∷ [])) (passedWeights most w (weigh (modelOf m) w μ))
         go none p = refl
         go (some i) p = absurd (omega arith)

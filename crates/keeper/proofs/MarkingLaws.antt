@@ -16,13 +16,14 @@ use Rattle.eos.specs.Vector.{_⊕_, zeros, unit}
 use Rattle.eos.specs.Model as eos
 use Rattle.eos.specs.Firing.{outer, inner, insideOf}
 use Rattle.eos.specs.Weights.{Weights}
+use Rattle.model.specs.Limits.{roomLimit}
 use Rattle.model.specs.Rules.{nth}
 use Rattle.model.specs.Test.{empty}
 use Rattle.model.specs.declared.Model.{Model}
 use Rattle.model.proofs.PaddedRows.{empty-at}
 use Rattle.marking.specs.Rows.{rowsIn, ascending}
 use Rattle.marking.proofs.RowLaws.{length-rows, row-at}
-use Rattle.marking.specs.Held.{Sizes, rightRow, heldMarking}
+use Rattle.marking.specs.Held.{Sizes, rightRow, heldRows, heldMarking}
 use Rattle.marking.specs.declared.Marking.{Marking}
 use Rattle.keeper.proofs.SplitLaws.{dotsN, valueBy}
 use Rattle.keeper.proofs.DotLaws.{dotN-⊕, dotN-zeros, dotN-unit}
@@ -61,15 +62,15 @@ module _ (m : eos.Model) (w : Weights) (f : ℤ → ℕ) where
 -- ---- a held marking's rows
 
 -- what is held of the rows, by the test
-module _ (z : Sizes) (k : Marking) (held : heldMarking z k ≡ true) where
-  pub few-tokens : k .len ≤ 256
-  unfolding heldMarking
-  few-tokens = leb-true (k .len) 256 (and-true (leb (k .len) 256) _ held .0)
+module _ (z : Sizes) (k : Marking) (held : heldMarking roomLimit z k ≡ true) where
+  pub few-tokens : k .len ≤ roomLimit
+  unfolding heldRows
+  few-tokens = leb-true (k .len) roomLimit (and-true (leb (k .len) roomLimit) _ held .0)
 
   row-right : (i : ℕ) → i < k .len → rightRow z (take 33 (drop (i * 33) (k .rows))) ≡ true
-  unfolding heldMarking
+  unfolding heldRows
   row-right i h =
-      let a = and-true (leb (k .len) 256) _ held .1 in
+      let a = and-true (leb (k .len) roomLimit) _ held .1 in
       let b = and-true (ascending (rowsIn (k .len) (k .rows))) _ a .1 in
       let c = and-true (every (λ v. eqb v 0) (drop (k .len * 33) (k .rows))) _ b .1 in
       rw (row-at (k .len) (k .rows) i h) at (every-at (rightRow z) (rowsIn (k .len) (k .rows)) i [] c (omega (arith, length-rows (k .len) (k .rows))))

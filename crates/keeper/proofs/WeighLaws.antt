@@ -14,6 +14,7 @@ use Rattle.text.specs.Capped.{above, below}
 use Rattle.eos.specs.Model as eos
 use Rattle.eos.specs.Firing.{insideOf, outer, inner}
 use Rattle.eos.specs.Weights.{Weights, weigh}
+use Rattle.model.specs.Limits.{roomLimit}
 use Rattle.model.specs.Rules.{nth}
 use Rattle.model.specs.Held.{noNet, tabled, modelOf}
 use Rattle.model.specs.declared.Model.{Model}
@@ -31,7 +32,7 @@ use Rattle.keeper.proofs.DotLaws.{dotN-none, dotsN-total, dotN-row}
 use Rattle.keeper.proofs.HeldRows.{Kept, few-places, inner-long, net-long, net-small, outer-at, inner-at}
 use Rattle.keeper.proofs.MarkingLaws.{weightOf, weightBy, weight-none, weight-more, row-nth, row-place, place-in, count-none}
 
-module _ (m : Model) (w : Weights) (kept : Kept m w) (k : Marking) (held : heldMarking (sizesFor m) k ≡ true) where
+module _ (m : Model) (w : Weights) (kept : Kept m w) (k : Marking) (held : heldMarking roomLimit (sizesFor m) k ≡ true) where
   abbrev table : (ℤ → ℕ) → List ℕ
   table f = tabled (map f) 288 (weightLists w)
 

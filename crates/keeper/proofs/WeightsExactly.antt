@@ -20,11 +20,12 @@ use Rattle.eos.specs.Model as eos
 use Rattle.eos.specs.Multiset.{every}
 use Rattle.eos.specs.Weights.{Weights, weigh, WeightCause, weightRefusal, Passing, positive, least, covers}
 use Rattle.eos.proofs.CauseLaws.{no-cause-passes, passes-no-cause}
+use Rattle.model.specs.Limits.{longest, coverLimit, countLimit}
 use Rattle.model.specs.Held.{modelOf}
 use Rattle.model.specs.declared.Model.{Model}
 use Rattle.marking.specs.Held.{tokensOf}
 use Rattle.marking.specs.declared.Marking.{Marking}
-use Rattle.reader.specs.Answers.{longest, heldBoth}
+use Rattle.reader.specs.Answers.{heldBoth}
 use Rattle.marking.specs.Sizes.{sizesFor}
 use Rattle.keeper.specs.Reading.{readWeightFile}
 use Rattle.keeper.specs.Answers.{sumOf, refusedWeights, passedWeights, turnedOr, judgedWeights, weighed, weightsOr, weightChecking, weightsFrom}
@@ -42,12 +43,12 @@ some-above v h = ltb-true 0 (above v) (sym (positive-above v) ∙ h)
 above-some : (v : ℤ) → 1 ≤ above v → positive v ≡ true
 above-some v h = positive-above v ∙ lt-ltb 0 (above v) h
 
-pub covers-parts : (w : Weights) (sum : ℕ) → (covers 256 65535 w sum ≡ true) ↔ Covering w sum
+pub covers-parts : (most : ℕ) (w : Weights) (sum : ℕ) → (covers most countLimit w sum ≡ true) ↔ Covering most w sum
 unfolding covers
-covers-parts w sum =
-    let few : ℤ → Bool = λ v. leb (sum / natAbs v) 65535 in (
+covers-parts most w sum =
+    let few : ℤ → Bool = λ v. leb (sum / natAbs v) countLimit in (
       λ h.
-          let a = and-true (every positive (w .outward) && every (every positive) (w .inward) && leb (sum / least (w .outward)) 256) _ h in
+          let a = and-true (every positive (w .outward) && every (every positive) (w .inward) && leb (sum / least (w .outward)) most) _ h in
           let b = and-true (every positive (w .outward) && every (every positive) (w .inward)) _ (a .0) in
           let c = and-true (every positive (w .outward)) _ (b .0) in
           record {
@@ -55,9 +56,9 @@ covers-parts w sum =
             inner-some = λ n i q r.
                 some-above (getD (getD (w .inward) n []) i (pos 0))
                 (every-at positive (getD (w .inward) n []) i (pos 0) (every-at (every positive) (w .inward) n [] (c .1) q) r);
-            tokens = leb-true (sum / least (w .outward)) 256 (b .1);
+            tokens = leb-true (sum / least (w .outward)) most (b .1);
             counts = λ n i q r.
-                leb-true (sum / natAbs (getD (getD (w .inward) n []) i (pos 0))) 65535
+                leb-true (sum / natAbs (getD (getD (w .inward) n []) i (pos 0))) countLimit
                 (every-at few (getD (w .inward) n []) i (pos 0) (every-at (every few) (w .inward) n [] (a .1) q) r);
           },
       λ c.
@@ -67,9 +68,9 @@ covers-parts w sum =
           (every-of positive (w .outward) (pos 0) (λ p q. above-some (getD (w .outward) p (pos 0)) (c .outer-some p q)))
           (every-of (every positive) (w .inward) []
           (λ n q. every-of positive (getD (w .inward) n []) (pos 0) (λ i r. above-some (getD (getD (w .inward) n []) i (pos 0)) (c .inner-some n i q r)))))
-          (le-leb (sum / least (w .outward)) 256 (c .tokens)))
+          (le-leb (sum / least (w .outward)) most (c .tokens)))
           (every-of (every few) (w .inward) []
-          (λ n q. every-of few (getD (w .inward) n []) (pos 0) (λ i r. le-leb (sum / natAbs (getD (getD (w .inward) n []) i (pos 0))) 65535 (c .counts n i q r)))),
+          (λ n q. every-of few (getD (w .inward) n []) (pos 0) (λ i r. le-leb (sum / natAbs (getD (getD (w .inward) n []) i (pos 0))) countLimit (c .counts n i q r)))),
     )
 
 -- ---- refused weights
@@ -78,20 +79,20 @@ covers-parts w sum =
 abbrev pub Nothing : WeightCheck → Type 0
 Nothing c = (c .sum ≡ record { above = 0; below = 0 }) × (c .cover ≡ false)
 
-judged-nothing : (last : ℕ) (o : Option WeightCause) (w : Weights) (z : ℤ) → (turnedOr last o (passedWeights w z) .answer ≡ Passed → ⊥)
-    → Nothing (turnedOr last o (passedWeights w z))
+judged-nothing : (most last : ℕ) (o : Option WeightCause) (w : Weights) (z : ℤ) → (turnedOr last o (passedWeights most w z) .answer ≡ Passed → ⊥)
+    → Nothing (turnedOr last o (passedWeights most w z))
 unfolding turnedOr
-judged-nothing last none w z h = absurd (h refl)
-judged-nothing last (some why) w z h = (refl, refl)
+judged-nothing most last none w z h = absurd (h refl)
+judged-nothing most last (some why) w z h = (refl, refl)
 
-weighed-nothing : (m : eos.Model) (μ : eos.Marking) (s : Text) (o : Outcome Weights) → (weighed m μ s o .answer ≡ Passed → ⊥) → Nothing (weighed m μ s o)
+weighed-nothing : (most : ℕ) (m : eos.Model) (μ : eos.Marking) (s : Text) (o : Outcome Weights) → (weighed most m μ s o .answer ≡ Passed → ⊥) → Nothing (weighed most m μ s o)
 unfolding weighed judgedWeights
-weighed-nothing m μ s (got w x) h = judged-nothing (2 + length (m .nets)) (weightRefusal m w) w (weigh m w μ) h
-weighed-nothing m μ s (bad e) h = (refl, refl)
+weighed-nothing most m μ s (got w x) h = judged-nothing most (2 + length (m .nets)) (weightRefusal m w) w (weigh m w μ) h
+weighed-nothing most m μ s (bad e) h = (refl, refl)
 
 held-nothing : (t : Bool) (m : Model) (k : Marking) (s : Text) → (weightsOr t m k s 0 .answer ≡ Passed → ⊥) → Nothing (weightsOr t m k s 0)
 unfolding weightsOr
-held-nothing true m k s h = weighed-nothing (modelOf m) (tokensOf (sizesFor m) k) s (readWeightFile (modelOf m) s) h
+held-nothing true m k s h = weighed-nothing coverLimit (modelOf m) (tokensOf (sizesFor m) k) s (readWeightFile (modelOf m) s) h
 held-nothing false m k s h = (refl, refl)
 
 -- an answer other than `Passed` has sum 0 and cover 0, whatever is lent
@@ -106,10 +107,10 @@ refused-nothing m k s h =
 
 -- ---- weights that pass
 
-turned-passed : (last : ℕ) (o : Option WeightCause) (w : Weights) (z : ℤ) → turnedOr last o (passedWeights w z) .answer ≡ Passed → o ≡ none
+turned-passed : (most last : ℕ) (o : Option WeightCause) (w : Weights) (z : ℤ) → turnedOr last o (passedWeights most w z) .answer ≡ Passed → o ≡ none
 unfolding turnedOr
-turned-passed last none w z h = refl
-turned-passed last (some why) w z h = let y : _≡_ {A = ℕ} 0 1 = cc in absurd (omega arith)
+turned-passed most last none w z h = refl
+turned-passed most last (some why) w z h = let y : _≡_ {A = ℕ} 0 1 = cc in absurd (omega arith)
 
 module _ (m : Model) (k : Marking) (s : Text) (held : heldBoth m k ≡ true) (few : length s ≤ longest) where
   abbrev file : Outcome Weights
@@ -119,7 +120,7 @@ module _ (m : Model) (k : Marking) (s : Text) (held : heldBoth m k ≡ true) (fe
   sum w = weigh (modelOf m) w (tokensOf (sizesFor m) k)
 
   -- weights that pass are answered with their sum and cover
-  passes : (w : Weights) (x : ℕ) → file ≡ got w x → Passing (modelOf m) w → weightChecking m k s ≡ passedWeights w (sum w)
+  passes : (w : Weights) (x : ℕ) → file ≡ got w x → Passing (modelOf m) w → weightChecking m k s ≡ passedWeights coverLimit w (sum w)
   unfolding judgedWeights turnedOr
   passes w x e p = from-got m k s 0 few held w x e ∙ rw (passes-no-cause (modelOf m) w p)
 
@@ -130,7 +131,7 @@ module _ (m : Model) (k : Marking) (s : Text) (held : heldBoth m k ≡ true) (fe
   unfolding judgedWeights
   found (got w x) e h =
       let c = ap (λ (c : WeightCheck). c .answer) (from-got m k s 0 few held w x e) in
-      (w, x, e, no-cause-passes (modelOf m) w (turned-passed (2 + length (modelOf m .nets)) (weightRefusal (modelOf m) w) w (sum w) (sym c ∙ h)))
+      (w, x, e, no-cause-passes (modelOf m) w (turned-passed coverLimit (2 + length (modelOf m .nets)) (weightRefusal (modelOf m) w) w (sum w) (sym c ∙ h)))
   found (bad d) e h =
       let c : weightChecking m k s .answer ≡ _ = ap (λ (c : WeightCheck). c .answer) (from-bad m k s 0 few held d e) in
       let y : _≡_ {A = ℕ} 0 1 = cc in
@@ -145,9 +146,9 @@ module _ (m : Model) (k : Marking) (s : Text) (held : heldBoth m k ≡ true) (fe
     pub sum-exactly : weightChecking m k s .sum ≡ sumOf (sum w)
     sum-exactly = ap (λ (c : WeightCheck). c .sum) (passes w x e p)
 
-    cover-is : weightChecking m k s .cover ≡ covers 256 65535 w (natAbs (sum w))
+    cover-is : weightChecking m k s .cover ≡ covers coverLimit countLimit w (natAbs (sum w))
     cover-is = ap (λ (c : WeightCheck). c .cover) (passes w x e p)
 
     -- and cover says exactly whether the weights cover
-    pub cover-exactly : (weightChecking m k s .cover ≡ true) ↔ Covering w (natAbs (sum w))
-    cover-exactly = (λ h. covers-parts w (natAbs (sum w)) .0 (sym cover-is ∙ h), λ c. cover-is ∙ covers-parts w (natAbs (sum w)) .1 c)
+    pub cover-exactly : (weightChecking m k s .cover ≡ true) ↔ Covering coverLimit w (natAbs (sum w))
+    cover-exactly = (λ h. covers-parts coverLimit w (natAbs (sum w)) .0 (sym cover-is ∙ h), λ c. cover-is ∙ covers-parts coverLimit w (natAbs (sum w)) .1 c)

@@ -12,11 +12,12 @@ use Rattle.text.specs.declared.Fault.{Fault}
 use Rattle.eos.specs.Model as eos
 use Rattle.eos.specs.Causes.{Refusal}
 use Rattle.eos.specs.Weights.{Weights, weigh, WeightCause, weightless, unbalanced, weightRefusal, covers}
+use Rattle.model.specs.Limits.{longest, coverLimit, countLimit}
 use Rattle.model.specs.Held.{modelOf}
 use Rattle.model.specs.declared.Model.{Model}
 use Rattle.marking.specs.Held.{tokensOf}
 use Rattle.marking.specs.declared.Marking.{Marking}
-use Rattle.reader.specs.Answers.{pair, longest, heldBoth}
+use Rattle.reader.specs.Answers.{pair, heldBoth}
 use Rattle.marking.specs.Sizes.{sizesFor}
 use Rattle.keeper.specs.Reading.{readWeightsAt}
 use Rattle.keeper.specs.declared.WeightAnswer.{WeightAnswer}
@@ -40,9 +41,9 @@ sumOf z = record { above = above z; below = below z }
 abbrev pub refusedWeights : WeightAnswer → WeightCheck
 refusedWeights a = record { answer = a; sum = record { above = 0; below = 0 }; cover = false }
 
--- weights that pass: their weighted sum, and whether they cover
-abbrev pub passedWeights : Weights → ℤ → WeightCheck
-passedWeights w z = record { answer = Passed; sum = sumOf z; cover = covers 256 65535 w (natAbs z) }
+-- weights that pass: their weighted sum, and whether they cover for so many net-tokens
+abbrev pub passedWeights : ℕ → Weights → ℤ → WeightCheck
+passedWeights most w z = record { answer = Passed; sum = sumOf z; cover = covers most countLimit w (natAbs z) }
 
 -- 01's table: the number of a cause against weights, and what stands beside it; events are numbered from 1, `last` is the file's last line
 abbrev pub weightCausePair : ℕ → WeightCause → Refusal
@@ -54,20 +55,20 @@ turnedOr last none c = c
 turnedOr last (some why) c = let r = weightCausePair last why in refusedWeights (Turned (r .number) (r .beside))
 
 -- causes 6 and 7, else the weighted sum and whether the weights cover; the last line of the file is 2 + nets
-unfoldable pub judgedWeights : eos.Model → eos.Marking → Weights → WeightCheck
-judgedWeights m μ w = turnedOr (2 + length (m .nets)) (weightRefusal m w) (passedWeights w (weigh m w μ))
+unfoldable pub judgedWeights : ℕ → eos.Model → eos.Marking → Weights → WeightCheck
+judgedWeights most m μ w = turnedOr (2 + length (m .nets)) (weightRefusal m w) (passedWeights most w (weigh m w μ))
 
 -- a fault as its line
 abbrev pub faulty : Text → Fault → WeightAnswer
 faulty s e = Faulty (spotOf s e)
 
 -- the weights of the file are judged, or its line at fault is named
-unfoldable pub weighed : eos.Model → eos.Marking → Text → Outcome Weights → WeightCheck
-weighed m μ s (got w x) = judgedWeights m μ w
-weighed m μ s (bad e) = refusedWeights (faulty s e)
+unfoldable pub weighed : ℕ → eos.Model → eos.Marking → Text → Outcome Weights → WeightCheck
+weighed most m μ s (got w x) = judgedWeights most m μ w
+weighed most m μ s (bad e) = refusedWeights (faulty s e)
 
 unfoldable pub weightsOr : Bool → Model → Marking → Text → ℕ → WeightCheck
-weightsOr true m k s at = weighed (modelOf m) (tokensOf (sizesFor m) k) s (readWeightsAt (modelOf m) s at)
+weightsOr true m k s at = weighed coverLimit (modelOf m) (tokensOf (sizesFor m) k) s (readWeightsAt (modelOf m) s at)
 weightsOr false m k s at = refusedWeights NotHeld
 
 -- checking a weight file for a held model and a held marking, its lines beginning at a position: 1, 14, then its lines, then 6 and 7

@@ -112,10 +112,10 @@ fn difference(up: u64, down: u64) -> Sum
     }
 }
 
-// The check of weights that pass: the marking's weighted sum, and whether the weights cover.
-fn passed(m: Model, k: Marking, h: HeldWeights) -> WeightCheck
+// The check of weights that pass: the marking's weighted sum, and whether the weights cover for `most` net-tokens.
+fn passed(most: u64, m: Model, k: Marking, h: HeldWeights) -> WeightCheck
     requires { ⌜ heldBoth m k ≡ true ⌝ }
-    ensures { λ r. ⌜ ((w : Weights) → Holds m w h → r ≡ passedWeights w (weigh (modelOf m) w (tokensOf (sizesFor m) k))) ⌝ }
+    ensures { λ r. ⌜ ((w : Weights) → Holds m w h → r ≡ passedWeights most w (weigh (modelOf m) w (tokensOf (sizesFor m) k))) ⌝ }
 {
     let types = m.types;
     let len = k.len;
@@ -124,7 +124,14 @@ fn passed(m: Model, k: Marking, h: HeldWeights) -> WeightCheck
     let sum = difference(up, down);
     let objects = m.objects;
     let above = h.above;
-    let cover = covers(m.places, m.nets, objects, above, sum.above + sum.below);
+    let cover = covers(
+        most,
+        m.places,
+        m.nets,
+        objects,
+        above,
+        sum.above + sum.below,
+    );
     WeightCheck {
         answer: WeightAnswer::Passed,
         sum,
@@ -133,9 +140,9 @@ fn passed(m: Model, k: Marking, h: HeldWeights) -> WeightCheck
 }
 
 // The check of the weights of a file: 6, 7, or they pass.
-fn judged(m: Model, k: Marking, h: HeldWeights) -> WeightCheck
+fn judged(most: u64, m: Model, k: Marking, h: HeldWeights) -> WeightCheck
     requires { ⌜ heldBoth m k ≡ true ⌝ }
-    ensures { λ r. ⌜ ((w : Weights) → Holds m w h → r ≡ judgedWeights (modelOf m) (tokensOf (sizesFor m) k) w) ⌝ }
+    ensures { λ r. ⌜ ((w : Weights) → Holds m w h → r ≡ judgedWeights most (modelOf m) (tokensOf (sizesFor m) k) w) ⌝ }
 {
     if all_zero(h) {
         return weights_refused(WeightAnswer::Turned {
@@ -150,7 +157,7 @@ fn judged(m: Model, k: Marking, h: HeldWeights) -> WeightCheck
             beside: event,
         });
     }
-    passed(m, k, h)
+    passed(most, m, k, h)
 }
 
 // Reads the weight file of a held model from `at` on, judges the weights, and weighs a held marking.
@@ -167,7 +174,7 @@ fn weights_at(m: Model, k: Marking, s: &[u8], at: usize) -> WeightCheck
     let ended = read.ended;
     let weights = read.weights;
     let Ended::Stopped { fault } = ended else {
-        return judged(m, k, weights);
+        return judged(Model::COVER as u64, m, k, weights);
     };
     weights_refused(fault_answer(s, fault))
 }

@@ -13,13 +13,14 @@ use Rattle.text.specs.Lines.{Outcome, got, bad}
 use Rattle.eos.specs.Model as eos
 use Rattle.eos.specs.Causes.{Refusal}
 use Rattle.eos.specs.Weights.{Weights, weigh, WeightCause, weightless, unbalanced, weightRefusal}
+use Rattle.model.specs.Limits.{longest, coverLimit}
 use Rattle.model.specs.Held.{modelOf}
 use Rattle.model.specs.declared.Model.{Model}
 use Rattle.marking.specs.Held.{tokensOf}
 use Rattle.marking.specs.declared.Marking.{Marking}
 use Rattle.reader.specs.Reading.{Loaded, readModel}
 use Rattle.marking.specs.Sizes.{sizesFor}
-use Rattle.reader.specs.Answers.{readPair, longest, noReading, loaded, modelReading, heldBoth, modelFrom}
+use Rattle.reader.specs.Answers.{readPair, noReading, loaded, modelReading, heldBoth, modelFrom}
 use Rattle.reader.specs.declared.ReadAnswer.the-variants as read
 use Rattle.reader.specs.declared.ModelReading.{ModelReading}
 use Rattle.reader.proofs.HeldExactly.{accepted-held}
@@ -122,19 +123,19 @@ turned-accepted last c none p h = p
 turned-accepted last c (some weightless) p h = absurd (omega (arith, eqb-true 6 0 (and-true (eqb 6 0) (eqb last 0) h .0)))
 turned-accepted last c (some (unbalanced k)) p h = absurd (omega (arith, eqb-true 7 0 (and-true (eqb 7 0) (eqb (suc k) 0) h .0)))
 
-weighed-accepted : (m : eos.Model) (μ : eos.Marking) (s : Text) (o : Outcome Weights) → accepted (weightPair (weighed m μ s o .answer)) ≡ true
-    → weighed m μ s o .answer ≡ weight.Passed
+weighed-accepted : (most : ℕ) (m : eos.Model) (μ : eos.Marking) (s : Text) (o : Outcome Weights) → accepted (weightPair (weighed most m μ s o .answer)) ≡ true
+    → weighed most m μ s o .answer ≡ weight.Passed
 unfolding weighed judgedWeights
-weighed-accepted m μ s (got w x) h =
-    turned-accepted (2 + length (m .nets)) (passedWeights w (weigh m w μ)) (weightRefusal m w) refl h
-weighed-accepted m μ s (bad e) h = never (eqb (e .why) 0) (newlines (take (e .at) s)) h
+weighed-accepted most m μ s (got w x) h =
+    turned-accepted (2 + length (m .nets)) (passedWeights most w (weigh m w μ)) (weightRefusal m w) refl h
+weighed-accepted most m μ s (bad e) h = never (eqb (e .why) 0) (newlines (take (e .at) s)) h
 
 none-weights-refused : {A : Type 0} (n : ℕ) → (eqb (suc n) 0 && true) ≡ true → A
 none-weights-refused n h = absurd (omega (arith, eqb-true (suc n) 0 (and-true (eqb (suc n) 0) true h .0)))
 
 checked-accepted : (b : Bool) (m : Model) (k : Marking) (s : Text) → accepted (weightPair (weightsOr b m k s 0 .answer)) ≡ true → weightsOr b m k s 0 .answer ≡ weight.Passed
 unfolding weightsOr
-checked-accepted true m k s h = weighed-accepted (modelOf m) (tokensOf (sizesFor m) k) s (readWeightFile (modelOf m) s) h
+checked-accepted true m k s h = weighed-accepted coverLimit (modelOf m) (tokensOf (sizesFor m) k) s (readWeightFile (modelOf m) s) h
 checked-accepted false m k s h = none-weights-refused 13 h
 
 pub weights-passed : (m : Model) (k : Marking) (s : Text) → accepted (weightPair (weightsFile m k s .answer)) ≡ true → weightsFile m k s .answer ≡ weight.Passed

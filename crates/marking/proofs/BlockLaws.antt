@@ -27,6 +27,7 @@ use Rattle.eos.specs.Model as eos
 use Rattle.eos.proofs.OrderLaws.{insert-sorted}
 use Rattle.eos.proofs.VectorLaws.{lexOrder}
 use Rattle.eos.proofs.FiringLaws.{insertAll, after-in-order}
+use Rattle.model.specs.Limits.{lineLimit, countLimit}
 use Rattle.marking.specs.Rows.{rowsIn, laid, Kept}
 use Rattle.marking.proofs.KeptLaws.{rows-laid, kept-laid}
 use Rattle.marking.specs.Held.{Sizes, Roomy, tokenRow, holdMarking, noMarking}
@@ -174,21 +175,21 @@ module _ (lim : Limits) (z : Sizes) (s : Text) where
 from-zero : (hi : ℕ) → inRange 0 hi ≡ (λ v. leb v hi)
 from-zero hi = fun-ext (λ v. rw (leb·zero v))
 
-pub counted-few : (key s : Text) (at n next : ℕ) → readNumber key (inRange 0 256) s at ≡ got n next → n ≤ 256
-counted-few key s at n next e = within-is 0 256 n (number-exactly key (inRange 0 256) s .back at n next e .fine-is) .1
+pub counted-few : (key s : Text) (most at n next : ℕ) → readNumber key (inRange 0 most) s at ≡ got n next → n ≤ most
+counted-few key s most at n next e = within-is 0 most n (number-exactly key (inRange 0 most) s .back at n next e .fine-is) .1
 
-module _ (key : Text) (z : Sizes) (s : Text) (at : ℕ) where
-  pub counted : (o : Outcome ℕ) → o ≡ readNumber key (inRange 0 256) s at → o ≡ readNumber key (limits 256 65535 .tokens) s at
-  counted o e = e ∙ ap (λ (r : ℕ → Bool). readNumber key r s at) (from-zero 256)
+module _ (key : Text) (most : ℕ) (z : Sizes) (s : Text) (at : ℕ) where
+  pub counted : (o : Outcome ℕ) → o ≡ readNumber key (inRange 0 most) s at → o ≡ readNumber key (limits most countLimit .tokens) s at
+  counted o e = e ∙ ap (λ (r : ℕ → Bool). readNumber key r s at) (from-zero most)
 
   -- their number is refused
-  pub block-refused : (d : Fault) → readNumber key (inRange 0 256) s at ≡ bad d
-      → record { ended = Stopped d; marking = noMarking } ≡ blockOf (readBlock key (limits 256 65535) z s at)
+  pub block-refused : (d : Fault) → readNumber key (inRange 0 most) s at ≡ bad d
+      → record { ended = Stopped d; marking = noMarking } ≡ blockOf (readBlock key (limits most countLimit) z s at)
   unfolding readBlock then blockOf endedOf keptOr
   block-refused d e = rw (sym (counted (bad d) (sym e)))
 
-  -- their number is read, and they follow
-  pub block-counted : (n next : ℕ) → readNumber key (inRange 0 256) s at ≡ got n next
-      → blockOf (many (readNetToken (limits 256 65535) z s) n next) ≡ blockOf (readBlock key (limits 256 65535) z s at)
-  unfolding readBlock then
+  -- their number is read, and they follow; a line of a net-token does not depend on how many may follow
+  pub block-counted : (n next : ℕ) → readNumber key (inRange 0 most) s at ≡ got n next
+      → blockOf (many (readNetToken (limits lineLimit countLimit) z s) n next) ≡ blockOf (readBlock key (limits most countLimit) z s at)
+  unfolding readBlock readNetToken then
   block-counted n next e = rw (sym (counted (got n next) (sym e)))

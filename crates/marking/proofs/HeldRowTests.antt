@@ -12,8 +12,7 @@ use lib.Seq.{getD-take, getD-drop, drop-drop}
 use borrow.Author.Tests.{le-leb, lt-leb}
 use Rattle.text.specs.Lines.{every}
 use Rattle.marking.specs.Rows.{Row, rowsIn, ascending}
-use Rattle.marking.specs.Held.{Sizes, rightRow, heldMarking}
-use Rattle.marking.specs.declared.Marking.{Marking}
+use Rattle.marking.specs.Held.{Sizes, rightRow, heldRows}
 
 -- the first number of a row
 pub row-front : (rows : List ℕ) (at : ℕ) → getD (take 33 (drop at rows)) 0 0 ≡ getD rows at 0
@@ -66,21 +65,21 @@ module _ (f : Row → Bool) (rows : List ℕ) (n i : ℕ) where
 
 -- ---- the whole test, by the first of its parts that fails
 
-module _ (z : Sizes) (k : Marking) where
-  pub held-many : 256 < k .len → false ≡ heldMarking z k
-  unfolding heldMarking
-  held-many h = rw (lt-leb (k .len) 256 h)
+module _ (room : ℕ) (z : Sizes) (n : ℕ) (rows : List ℕ) where
+  pub held-many : room < n → false ≡ heldRows room z n rows
+  unfolding heldRows
+  held-many h = rw (lt-leb n room h)
 
-  module _ (few : k .len ≤ 256) where
-    pub held-disordered : ascending (rowsIn (k .len) (k .rows)) ≡ false → false ≡ heldMarking z k
-    unfolding heldMarking
-    held-disordered e = rw (le-leb (k .len) 256 few, e)
+  module _ (few : n ≤ room) where
+    pub held-disordered : ascending (rowsIn n rows) ≡ false → false ≡ heldRows room z n rows
+    unfolding heldRows
+    held-disordered e = rw (le-leb n room few, e)
 
-    module _ (order : ascending (rowsIn (k .len) (k .rows)) ≡ true) where
-      pub held-beyond : every (λ v. eqb v 0) (drop (k .len * 33) (k .rows)) ≡ false → false ≡ heldMarking z k
-      unfolding heldMarking
-      held-beyond e = rw (le-leb (k .len) 256 few, order, e)
+    module _ (order : ascending (rowsIn n rows) ≡ true) where
+      pub held-beyond : every (λ v. eqb v 0) (drop (n * 33) rows) ≡ false → false ≡ heldRows room z n rows
+      unfolding heldRows
+      held-beyond e = rw (le-leb n room few, order, e)
 
-      pub held-rest : every (λ v. eqb v 0) (drop (k .len * 33) (k .rows)) ≡ true → every (rightRow z) (rowsIn (k .len) (k .rows)) ≡ heldMarking z k
-      unfolding heldMarking
-      held-rest e = rw (le-leb (k .len) 256 few, order, e)
+      pub held-rest : every (λ v. eqb v 0) (drop (n * 33) rows) ≡ true → every (rightRow z) (rowsIn n rows) ≡ heldRows room z n rows
+      unfolding heldRows
+      held-rest e = rw (le-leb n room few, order, e)

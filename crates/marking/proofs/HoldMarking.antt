@@ -20,10 +20,11 @@ use Rattle.eos.specs.Multiset as M
 use Rattle.eos.specs.Model as eos
 use Rattle.eos.proofs.OrderLaws.{sort-fixed}
 use Rattle.eos.proofs.FiringLaws.{tokenOrder}
+use Rattle.model.specs.Limits.{roomLimit}
 use Rattle.marking.specs.Rows.{Row, rowsIn, laid, ascending}
 use Rattle.marking.proofs.RowLaws.{Wide, length-rows, kept-wide}
 use Rattle.marking.proofs.KeptLaws.{rows-laid, kept-laid, kept-test, test-kept}
-use Rattle.marking.specs.Held.{Sizes, tokenRow, holdMarking, tokenOf, tokensOf, rightRow, heldMarking, SizedMarking, Roomy}
+use Rattle.marking.specs.Held.{Sizes, tokenRow, holdMarking, tokenOf, tokensOf, rightRow, heldRows, heldMarking, SizedMarking, Roomy}
 use Rattle.marking.specs.Reading.{Limits, limits, rightNetToken, rightBlock}
 use Rattle.marking.specs.declared.Marking.{Marking}
 use Rattle.marking.proofs.RowOrder.{Fitting, All, none, more, row-order, rows-sorted, rows-wide}
@@ -180,8 +181,8 @@ pub record Held (z : Sizes) (μ : eos.Marking) : Type 0 where
   pub ordered : eos.canonical μ ≡ μ
 
 module _ (z : Sizes) (roomy : Roomy z) where
-  pub held-tokens : (k : Marking) → SizedMarking k → heldMarking z k ≡ true → Held z (tokensOf z k) × (k ≡ holdMarking (tokensOf z k))
-  unfolding heldMarking tokensOf holdMarking rightBlock
+  pub held-tokens : (k : Marking) → SizedMarking k → heldMarking roomLimit z k ≡ true → Held z (tokensOf z k) × (k ≡ holdMarking (tokensOf z k))
+  unfolding heldRows tokensOf holdMarking rightBlock
   held-tokens k sz h =
       let rs = rowsIn (k .len) (k .rows) in
       let a = and-true (leb (k .len) 256) _ h in
@@ -201,8 +202,8 @@ module _ (z : Sizes) (roomy : Roomy z) where
 
   -- whatever the range of their counts
   pub ordered-held : (lim : Limits) (μ : eos.Marking) → length μ ≤ 256 → eos.canonical μ ≡ μ → every (rightNetToken lim z) μ ≡ true
-      → heldMarking z (holdMarking μ) ≡ true
-  unfolding heldMarking holdMarking
+      → heldMarking roomLimit z (holdMarking μ) ≡ true
+  unfolding heldRows holdMarking
   ordered-held lim μ few ordered right =
       let n : length μ ≡ length (map tokenRow μ) = sym (length-map μ tokenRow) in
       let all = all-right lim z roomy μ right in
@@ -215,14 +216,14 @@ module _ (z : Sizes) (roomy : Roomy z) where
       (and-both (every (λ v. eqb v 0) (drop (length (map tokenRow μ) * 33) (laid (map tokenRow μ)))) _ (t .1)
       (rw (rows-laid (map tokenRow μ) (rows-wide μ)) (rows-right z roomy lim μ right)))))
 
-  pub hold-held : (μ : eos.Marking) → Held z μ → heldMarking z (holdMarking μ) ≡ true
+  pub hold-held : (μ : eos.Marking) → Held z μ → heldMarking roomLimit z (holdMarking μ) ≡ true
   unfolding rightBlock
   hold-held μ h =
       let p = and-true (leb (length μ) 256) _ (h .right) in
       ordered-held (limits 256 65535) μ (leb-true (length μ) 256 (p .0)) (h .ordered) (p .1)
 
   -- the held test passes exactly for what is held of such a marking
-  pub held-marking-exactly : (k : Marking) → SizedMarking k → (heldMarking z k ≡ true) ↔ ((μ : eos.Marking) × Held z μ × (k ≡ holdMarking μ))
+  pub held-marking-exactly : (k : Marking) → SizedMarking k → (heldMarking roomLimit z k ≡ true) ↔ ((μ : eos.Marking) × Held z μ × (k ≡ holdMarking μ))
   held-marking-exactly k sz = (
     λ h. let p = held-tokens k sz h in (tokensOf z k, p .0, p .1),
     λ h. rw (h .2) (hold-held (h .0) (h .1)),

@@ -21,9 +21,10 @@ use Rattle.text.proofs.Standing.{Stands}
 use Rattle.text.proofs.SetsLaws.{sets-append}
 use Rattle.text.proofs.LaidLaws.{Laid, number-line-length}
 use Rattle.eos.specs.Model as eos
+use Rattle.model.specs.Limits.{roomLimit}
 use Rattle.marking.specs.Rows.{Row, rowsIn, ascending}
 use Rattle.marking.proofs.RowLaws.{length-rows, row-at}
-use Rattle.marking.specs.Held.{Sizes, sizesAt, Roomy, holdMarking, tokenOf, tokensOf, rightRow, heldMarking, SizedMarking}
+use Rattle.marking.specs.Held.{Sizes, sizesAt, Roomy, holdMarking, tokenOf, tokensOf, rightRow, heldRows, heldMarking, SizedMarking}
 use Rattle.marking.specs.Reading.{limits, readBlock, rightNetToken, rightBlock}
 use Rattle.marking.specs.Printed.{netTokenText, blockText, markingText, rowText}
 use Rattle.marking.specs.Answers.{blockOf}
@@ -61,7 +62,7 @@ module _ (z : Sizes) (roomy : Roomy z) (places : z .places ≤ 65535) where
         lines,
       )
 
-  pub held-length : (k : Marking) → SizedMarking k → heldMarking z k ≡ true → length (markingText (tokensOf z k)) ≤ 60000
+  pub held-length : (k : Marking) → SizedMarking k → heldMarking roomLimit z k ≡ true → length (markingText (tokensOf z k)) ≤ 60000
   held-length k sz h = marking-length (tokensOf z k) (held-tokens z roomy k sz h .0 .right)
 
 -- ---- the text of the rows that hold it
@@ -82,13 +83,13 @@ module _ (places : ℕ) (sizes : List ℕ) where
   rows-text [] h = refl
   rows-text (r ∷ rs) h = let p = and-true (rightRow (sizesAt places sizes) r) _ h in rw (row-text r (p .0), rows-text rs (p .1))
 
-  module _ (k : Marking) (h : heldMarking (sizesAt places sizes) k ≡ true) where
+  module _ (k : Marking) (h : heldMarking roomLimit (sizesAt places sizes) k ≡ true) where
     pub held-few : k .len ≤ 256
-    unfolding heldMarking
+    unfolding heldRows
     held-few = leb-true (k .len) 256 (and-true (leb (k .len) 256) _ h .0)
 
     held-right : every (rightRow (sizesAt places sizes)) (rowsIn (k .len) (k .rows)) ≡ true
-    unfolding heldMarking
+    unfolding heldRows
     held-right =
         let a = and-true (leb (k .len) 256) _ h in
         let b = and-true (ascending (rowsIn (k .len) (k .rows))) _ (a .1) in
@@ -132,7 +133,7 @@ written-reads-back z μ h =
     let s = markingText μ in
     block-exactly (limits 256 65535) z s (bytes "start=") .forth 0 μ (stands-alone s) (h .right) ∙ rw (zero-add (length s))
 
-module _ (z : Sizes) (roomy : Roomy z) (k : Marking) (sz : SizedMarking k) (h : heldMarking z k ≡ true) where
+module _ (z : Sizes) (roomy : Roomy z) (k : Marking) (sz : SizedMarking k) (h : heldMarking roomLimit z k ≡ true) where
   -- a held marking is what is held of its net-tokens
   pub held-again : holdMarking (eos.canonical (tokensOf z k)) ≡ k
   held-again = let p = held-tokens z roomy k sz h in rw (p .0 .ordered) (sym (p .1))

@@ -8,7 +8,7 @@ use lib.ListN.{length, take, drop, getD, replicate}
 use Rattle.text.specs.Lines.{inRange, every}
 use Rattle.text.specs.Answers.{padded}
 use Rattle.eos.specs.Model as eos
-use Rattle.model.specs.Limits.{roomLimit, countLimit, rowsRoom}
+use Rattle.model.specs.Limits.{countLimit, rowsRoom}
 use Rattle.marking.specs.Rows.{Row, rowsIn, laid, ascending}
 use Rattle.marking.specs.declared.Marking.{Marking}
 
@@ -51,11 +51,14 @@ tokensOf z k = map (tokenOf z) (rowsIn (k .len) (k .rows))
 unfoldable pub rightRow : Sizes → Row → Bool
 rightRow z r = inRange 1 (z .places) (getD r 0 0) && every (λ v. eqb v 0) (drop (suc (z .size (getD r 0 0))) r)
 
--- 01's cause 14, of a marking: at most 256 net-tokens, in canonical order, unused room 0, each right
-unfoldable pub heldMarking : Sizes → Marking → Bool
-heldMarking z k =
-    leb (k .len) roomLimit
-    && (ascending (rowsIn (k .len) (k .rows)) && (every (λ v. eqb v 0) (drop (k .len * 33) (k .rows)) && every (rightRow z) (rowsIn (k .len) (k .rows))))
+-- 01's cause 14, of n net-tokens in lent rows: no more than there is room for, in canonical order, unused room 0, each right
+unfoldable pub heldRows : ℕ → Sizes → ℕ → List ℕ → Bool
+heldRows room z n rows =
+    leb n room && (ascending (rowsIn n rows) && (every (λ v. eqb v 0) (drop (n * 33) rows) && every (rightRow z) (rowsIn n rows)))
+
+-- the same of a held marking
+abbrev pub heldMarking : ℕ → Sizes → Marking → Bool
+heldMarking room z k = heldRows room z (k .len) (k .rows)
 
 -- what every held marking is in code: an array of 8,448 numbers of 16 bits
 pub record SizedMarking (k : Marking) : Type 0 where

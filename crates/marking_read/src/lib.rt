@@ -62,12 +62,12 @@ fn tokens_at(s: &[u8], from: usize, places: u16, sizes: [u8; 32], n: usize) -> B
     }
 }
 
-// The line of key and a number, and that many lines of net-tokens, in any order.
-pub fn block_at(s: &[u8], at: usize, key: &[u8], places: u16, sizes: [u8; 32]) -> Block
-    requires { ⌜ Roomy (sizesAt places sizes) ⌝ }
-    ensures { λ r. ⌜ r ≡ blockOf (readBlock (now (key .entry)) (limits lineLimit countLimit) (sizesAt places sizes) (now (s .entry)) at) ⌝ }
+// The line of key and a number up to `most`, and that many lines of net-tokens, in any order.
+pub fn block_at(s: &[u8], at: usize, key: &[u8], most: u16, places: u16, sizes: [u8; 32]) -> Block
+    requires { ⌜ (most ≤ lineLimit) × Roomy (sizesAt places sizes) ⌝ }
+    ensures { λ r. ⌜ r ≡ blockOf (readBlock (now (key .entry)) (limits most countLimit) (sizesAt places sizes) (now (s .entry)) at) ⌝ }
 {
-    let line = number_line(s, at, key, 0, Model::LINES);
+    let line = number_line(s, at, key, 0, most);
     let Line::Value { value, next } = line else {
         let marking = Marking::empty();
         return Block {

@@ -1,11 +1,10 @@
 // Rows of 33 numbers, a net-token's place and its 32 counts, kept in ascending order in a flat array: compared, found and counted.
 ghost use mathlib.Core.Path.{_≡_};
-ghost use Prim.Native.Nat.{_+_, _≤_};
+ghost use Prim.Native.Nat.{_+_, _*_, _≤_};
 ghost use lib.Dec.{eqb};
 ghost use lib.ListN.{length, take, drop};
 ghost use Rattle.eos.specs.Vector.{eqV, lexV};
 ghost use Rattle.eos.specs.Multiset as M;
-ghost use Rattle.model.specs.Limits.{roomLimit, rowsRoom};
 ghost use Rattle.marking.specs.Rows.{rowsIn, placeFor, ascending, Kept};
 
 // Whether the row `a` is at most the row `b` in lexicographic order.
@@ -116,7 +115,7 @@ pub fn count(rows: &[u16], n: usize, row: [u16; 33]) -> usize
 
 // Whether the first `n` rows are in ascending order.
 pub fn in_order(rows: &[u16], n: usize) -> bool
-    requires { ⌜ (n ≤ roomLimit) × (length (now rows) ≡ rowsRoom) ⌝ }
+    requires { ⌜ n * 33 ≤ length (now rows) ⌝ }
     ensures { λ r. ⌜ r ≡ ascending (rowsIn n (now (rows .entry))) ⌝ }
 {
     let mut i: usize = 0;

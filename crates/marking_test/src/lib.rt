@@ -5,7 +5,7 @@ ghost use lib.ListN.{length, take, drop, getD};
 ghost use Rattle.text.specs.Lines.{every};
 ghost use Rattle.model.specs.Limits.{roomLimit};
 ghost use Rattle.marking.specs.Rows.{rowsIn};
-ghost use Rattle.marking.specs.Held.{sizesAt, rightRow, heldMarking};
+ghost use Rattle.marking.specs.Held.{sizesAt, rightRow, heldRows, heldMarking};
 ghost use mathlib.Core.Bool.{true};
 ghost use Rattle.model.specs.Held.{listed};
 ghost use Rattle.model.specs.Test.{heldModel};
@@ -45,7 +45,7 @@ fn right_row(rows: &[u16], at: usize, places: u16, sizes: [u8; 32]) -> bool
 
 // Whether each of the first n rows is right.
 fn right_rows(rows: &[u16], n: usize, places: u16, sizes: [u8; 32]) -> bool
-    requires { ⌜ (n ≤ roomLimit) × (n * 33 ≤ length (now rows)) ⌝ }
+    requires { ⌜ n * 33 ≤ length (now rows) ⌝ }
     ensures { λ r. ⌜ r ≡ every (rightRow (sizesAt places sizes)) (rowsIn n (now (rows .entry))) ⌝ }
 {
     let mut i = 0;
@@ -58,22 +58,29 @@ fn right_rows(rows: &[u16], n: usize, places: u16, sizes: [u8; 32]) -> bool
     true
 }
 
-// Whether a held marking is one of a model with so many places and such sizes.
-pub fn is_held(k: Marking, places: u16, sizes: [u8; 32]) -> bool
-    ensures { λ r. ⌜ r ≡ heldMarking (sizesAt places sizes) k ⌝ }
+// Whether n lent rows, in room for so many, are a held marking of a model with so many places and such sizes.
+pub fn rows_held(rows: &[u16], n: usize, room: usize, places: u16, sizes: [u8; 32]) -> bool
+    requires { ⌜ room * 33 ≤ length (now rows) ⌝ }
+    ensures { λ r. ⌜ r ≡ heldRows room (sizesAt places sizes) n (now (rows .entry)) ⌝ }
 {
-    let n = k.len;
-    if (Model::ROOM as usize) < n {
+    if room < n {
         return false;
     }
+    if !in_order(rows, n) {
+        return false;
+    }
+    if !empty_from(rows, n * 33) {
+        return false;
+    }
+    right_rows(rows, n, places, sizes)
+}
+
+// The same of a held marking.
+pub fn is_held(k: Marking, places: u16, sizes: [u8; 32]) -> bool
+    ensures { λ r. ⌜ r ≡ heldMarking roomLimit (sizesAt places sizes) k ⌝ }
+{
     let rows = k.rows;
-    if !in_order(&rows, n) {
-        return false;
-    }
-    if !empty_from(&rows, n * 33) {
-        return false;
-    }
-    right_rows(&rows, n, places, sizes)
+    rows_held(&rows, k.len, Model::ROOM as usize, places, sizes)
 }
 
 // For each type, from that of black tokens on, how many counts a net-token has.

@@ -110,7 +110,7 @@ pub fn write(
     out: &mut [u8],
     at: usize,
 ) -> Wrote
-    requires { ⌜ (heldMarking (sizesAt places sizes) k ≡ true) × Roomy (sizesAt places sizes) × (length (now key) ≤ 32) × (at ≤ 1048576) ⌝ }
+    requires { ⌜ (heldMarking roomLimit (sizesAt places sizes) k ≡ true) × Roomy (sizesAt places sizes) × (length (now key) ≤ 32) × (at ≤ 1048576) ⌝ }
     ensures { λ r. ⌜ record { answer = r; bytes = now (out .exit) }
         ≡ lay (blockText (now (key .entry)) (tokensOf (sizesAt places sizes) k)) (now (out .entry)) at ⌝ }
 {

@@ -23,7 +23,7 @@ use text_lines::number_line;
 use text_lists::list_line;
 use text_scan::fault_at;
 
-// The bytes of a row.
+// The numbers of a row as bytes: a byte has 256 values.
 pub fn narrow(values: [u16; 32]) -> [u8; 32]
     ensures { λ r. ⌜ r ≡ map (λ v. v % 256) values ⌝ }
 {
@@ -186,7 +186,7 @@ pub fn nets_at(s: &[u8], from: usize, n: usize) -> Nets
     }
 }
 
-// The number of transitions of each net, as a byte.
+// The number of transitions of each net, as a byte (of 256 values).
 pub fn steps_of(objects: [ObjectNet; 8]) -> [u8; 8]
     ensures { λ r. ⌜ r ≡ stepsOf objects ⌝ }
 {

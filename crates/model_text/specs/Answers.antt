@@ -92,7 +92,7 @@ readingOf o = record { ended = endedOf o; model = keptOr noModel holdModel o }
 abbrev pub asFrame : Frame → rules.Frame
 asFrame f = record { places = f .places; moves = f .moves; nets = f .nets; type = rules.nth (f .types); steps = rules.nth (f .steps) }
 
--- the number of transitions of each net, as a byte
+-- the number of transitions of each net, as a byte (of 256 values)
 abbrev pub stepsOf : List ObjectNet → List ℕ
 stepsOf objects = map (λ n. n .transitions % 256) objects
 

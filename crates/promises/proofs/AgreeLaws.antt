@@ -17,6 +17,7 @@ use Rattle.eos.specs.Weights.{Fits}
 use Rattle.eos.specs.Run.{ruleFires, Answer, hasFired, Holdable, Agrees}
 use Rattle.eos.proofs.Basics.{is-true}
 use Rattle.eos.proofs.FiringLaws.{fires-yes, fires-all}
+use Rattle.model.specs.Limits.{longest, lineLimit, roomLimit, countLimit}
 use Rattle.model.specs.Rules.{rightModel}
 use Rattle.model.specs.Held.{holdModel}
 use Rattle.model.specs.Test.{heldModel}
@@ -29,7 +30,7 @@ use Rattle.marking.specs.declared.Marking.{Marking}
 use Rattle.marking.proofs.HoldMarking as hold
 use Rattle.reader.specs.Reading.{bounds}
 use Rattle.marking.specs.Sizes.{sizesFor}
-use Rattle.reader.specs.Answers.{longest, heldBoth}
+use Rattle.reader.specs.Answers.{heldBoth, heldIn}
 use Rattle.marking.proofs.SizeLaws.{held-roomy, sizes-same}
 use Rattle.step.specs.Reading.{readStep}
 use Rattle.runner.specs.Answers.{stepPair, stepping}
@@ -78,24 +79,24 @@ module _ (d : eos.Model) (right : rightModel d ≡ true) where
 
   -- ---- a marking that can be held
 
-  module _ (μ : eos.Marking) (h : Holdable 256 65535 d μ) where
+  module _ (μ : eos.Marking) (h : Holdable roomLimit countLimit d μ) where
     tokens-right : rightBlock bounds (sizesFor m) μ ≡ true
     tokens-right = rw (sizes-same d right) (fits-right d μ (h .made) (h .fits))
 
     holdable-held : heldBoth m (holdMarking μ) ≡ true
-    unfolding heldBoth
+    unfolding heldIn
     holdable-held =
         and-both (heldModel m) _ model-held (hold.hold-held (sizesFor m) roomy μ (record { right = tokens-right; ordered = h .ordered }))
 
     pub holdable-tokens : tokensOf (sizesFor m) (holdMarking μ) ≡ μ
     unfolding rightBlock
     holdable-tokens =
-        hold.tokens-hold (sizesFor m) μ (hold.all-right bounds (sizesFor m) roomy μ (and-true (leb (length μ) 256) _ tokens-right .1))
+        hold.tokens-hold (sizesFor m) μ (hold.all-right bounds (sizesFor m) roomy μ (and-true (leb (length μ) lineLimit) _ tokens-right .1))
 
     -- ---- a text that brings a step which fires
 
     module _ (s : Text) (t : Step) (e : brings d s ≡ some t) (f : T (fires d t μ))
-        (taken : Fits 256 65535 (t .taken)) (given : Fits 256 65535 (t .given)) (room : length (after t μ) ≤ 256) where
+        (taken : Fits roomLimit countLimit (t .taken)) (given : Fits roomLimit countLimit (t .given)) (room : length (after t μ) ≤ roomLimit) where
       abbrev next : ℕ
       next = brings-read d s t e .next
 
@@ -139,7 +140,7 @@ module _ (d : eos.Model) (right : rightModel d ≡ true) where
       stay = (not-fired (stepping m (holdMarking μ) s .answer) unfired, refused-leaves m (holdMarking μ) s unfired .0)
 
   -- the step call on the held model is an engine that agrees with the rule within the limits
-  pub agrees : Agrees 256 65535 d (brings d) holdMarking (call m)
+  pub agrees : Agrees roomLimit countLimit d (brings d) holdMarking (call m)
   agrees = record {
     fire = λ s t μ h e f taken given room. fire μ h s t e f taken given room;
     stay = λ s μ h e. stay μ h s e;

@@ -23,7 +23,6 @@ use Rattle.marking.specs.Held.{Sizes, sizesOf}
 use Rattle.marking.specs.Reading.{Limits, free, rightNetToken, rightBlock}
 use Rattle.marking.proofs.HoldMarking.{is-right}
 use Rattle.reader.specs.Reading.{bounds}
-use Rattle.reader.specs.Answers.{longest}
 use Rattle.step.specs.Reading.{readStep, rightStep}
 use Rattle.step.proofs.StepExactly.{step-exactly}
 use Rattle.step.proofs.ProjectionLaws.{fit}
@@ -32,6 +31,7 @@ use Rattle.runner.proofs.StandsLaws.{any-range}
 use Rattle.promises.specs.WholeRun.{stepIn, brings}
 use Rattle.step.specs.Printed.{stepText}
 use Rattle.text.proofs.Standing.{front-stands}
+use Rattle.model.specs.Limits.{longest, lineLimit, roomLimit, countLimit}
 
 -- ---- a step read for some limits, read for others
 
@@ -53,24 +53,24 @@ module _ (z : Sizes) (events : ℕ) (s : Text) (t : Step) (next : ℕ) where
       let p = and-true (ltb (t .event) events) _ (read-right bounds e) in
       let q = and-true (rightBlock bounds z (t .taken)) _ (p .1) in
       let part : (μ : eos.Marking) → rightBlock bounds z μ ≡ true → rightBlock free z μ ≡ true =
-      λ μ h. any-range bounds z μ (and-true (leb (length μ) 256) _ h .1) in
+      λ μ h. any-range bounds z μ (and-true (leb (length μ) lineLimit) _ h .1) in
       read-again bounds free e (and-both (ltb (t .event) events) _ (p .0) (and-both (rightBlock free z (t .taken)) _ (part (t .taken) (q .0)) (part (t .given) (q .1))))
 
 -- ---- net-tokens of the model within the limits
 
 module _ (m : eos.Model) where
-  right-small : (t : eos.NetToken) → T (eos.proper m t) → ((i : ℕ) → getD (t .inside) i 0 ≤ 65535) → rightNetToken bounds (sizesOf m) t ≡ true
+  right-small : (t : eos.NetToken) → T (eos.proper m t) → ((i : ℕ) → getD (t .inside) i 0 ≤ countLimit) → rightNetToken bounds (sizesOf m) t ≡ true
   right-small t p small =
       let f = fit m t p in
       let e : suc (t .place) - 1 ≡ t .place = omega arith in
       is-right bounds (sizesOf m) t (record {
         place = f .place;
         size = rw e (f .size);
-        counts = every-of (λ c. leb c 65535) (t .inside) 0 (λ i q. le-leb (getD (t .inside) i 0) 65535 (small i));
+        counts = every-of (λ c. leb c countLimit) (t .inside) 0 (λ i q. le-leb (getD (t .inside) i 0) countLimit (small i));
       })
 
   all-small : (μ : eos.Marking) → T (M.every (eos.proper m) μ)
-      → ((t : eos.NetToken) → 1 ≤ M.count eos.like t μ → (i : ℕ) → getD (t .inside) i 0 ≤ 65535) → every (rightNetToken bounds (sizesOf m)) μ ≡ true
+      → ((t : eos.NetToken) → 1 ≤ M.count eos.like t μ → (i : ℕ) → getD (t .inside) i 0 ≤ countLimit) → every (rightNetToken bounds (sizesOf m)) μ ≡ true
   all-small [] p small = refl
   all-small (t ∷ μ) p small =
       and-both (rightNetToken bounds (sizesOf m) t) _
@@ -78,9 +78,9 @@ module _ (m : eos.Model) where
       (all-small μ (and-r (eos.proper m t) _ p) (λ u c. small u (omega arith)))
 
   -- net-tokens of the model within the limits are right
-  pub fits-right : (μ : eos.Marking) → T (M.every (eos.proper m) μ) → Fits 256 65535 μ → rightBlock bounds (sizesOf m) μ ≡ true
+  pub fits-right : (μ : eos.Marking) → T (M.every (eos.proper m) μ) → Fits roomLimit countLimit μ → rightBlock bounds (sizesOf m) μ ≡ true
   unfolding rightBlock
-  fits-right μ p f = and-both (leb (length μ) 256) _ (le-leb (length μ) 256 (f .few)) (all-small μ p (f .small))
+  fits-right μ p f = and-both (leb (length μ) lineLimit) _ (le-leb (length μ) lineLimit (f .few)) (all-small μ p (f .small))
 
   -- ---- what a text brings
 
@@ -125,7 +125,7 @@ module _ (m : eos.Model) where
         }
 
     -- within the limits it is the step that the engine reads
-    pub brings-bounds : (e : brings m s ≡ some t) → Fits 256 65535 (t .taken) → Fits 256 65535 (t .given)
+    pub brings-bounds : (e : brings m s ≡ some t) → Fits roomLimit countLimit (t .taken) → Fits roomLimit countLimit (t .given)
         → readStep bounds (sizesOf m) (length (m .events)) s 0 ≡ got t (brings-read e .next)
     unfolding rightStep
     brings-bounds e f g =

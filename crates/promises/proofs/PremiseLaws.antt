@@ -18,6 +18,7 @@ use Rattle.eos.specs.Weights.{Weights, Shaped, weigh, Passing, covers}
 use Rattle.eos.proofs.Basics.{true-is}
 use Rattle.eos.proofs.WeightLaws.{weigh-canonical}
 use Rattle.eos.proofs.BoundLaws.{cover-out, cover-in, weigh-positive}
+use Rattle.model.specs.Limits.{longest, lineLimit, coverLimit, countLimit}
 use Rattle.model.specs.Rules.{rightModel}
 use Rattle.model.specs.Held.{holdModel, modelOf}
 use Rattle.model.specs.declared.Model.{Model}
@@ -29,7 +30,7 @@ use Rattle.marking.specs.declared.Marking.{Marking}
 use Rattle.marking.proofs.HoldMarking as hold
 use Rattle.reader.specs.Reading.{bounds, Loaded, rightLoaded}
 use Rattle.marking.specs.Sizes.{sizesFor}
-use Rattle.reader.specs.Answers.{longest, heldBoth}
+use Rattle.reader.specs.Answers.{heldBoth}
 use Rattle.marking.proofs.SizeLaws.{held-roomy, sizes-same}
 use Rattle.reader.proofs.HeldExactly.{canonical-held, right-parts}
 use Rattle.step.proofs.SoundLaws.{proper-read}
@@ -48,7 +49,7 @@ pub record Balances (d : eos.Model) (μ : eos.Marking) (file : Text) (sum : Sum)
   pub weighs : readWeightFile d file ≡ got weights (length file)
   pub shaped : Shaped d weights
   pub passing : Passing d weights
-  pub covering : covers 256 65535 weights (sum .above) ≡ true
+  pub covering : covers coverLimit countLimit weights (sum .above) ≡ true
   pub sum-is : weigh d weights μ ≡ pos (sum .above)
   pub whole : sum .below ≡ 0
 
@@ -92,9 +93,9 @@ module _ (m : Model) (k : Marking) (file : Text) (sum : Sum) (passed : weightChe
       let z = weigh d w (tokensOf (sizesFor m) k) in
       let printed = weights-were-printed d file w x e in
       let sh = right-shaped d w (printed .1) in
-      let cov = covers-parts w (natAbs z) .1 (cover-exactly m k file passed-held short w x e p .0 (ap (λ (c : WeightCheck). c .cover) passed)) in
+      let cov = covers-parts coverLimit w (natAbs z) .1 (cover-exactly m k file passed-held short w x e p .0 (ap (λ (c : WeightCheck). c .cover) passed)) in
       let n : z ≡ pos (natAbs z) =
-      weigh-positive d w (tokensOf (sizesFor m) k) (cover-out d w sh 256 65535 (natAbs z) (true-is cov)) (cover-in d w sh 256 65535 (natAbs z) (true-is cov)) in
+      weigh-positive d w (tokensOf (sizesFor m) k) (cover-out d w sh coverLimit countLimit (natAbs z) (true-is cov)) (cover-in d w sh coverLimit countLimit (natAbs z) (true-is cov)) in
       let s = sum-parts z sum n (sym (ap (λ (c : WeightCheck). c .sum) passed) ∙ sum-exactly m k file passed-held short w x e p) in
       record {
         weights = w;
@@ -123,7 +124,7 @@ module _ (l : Loaded) (right : rightLoaded l ≡ true) where
 
   pub start-made : T (M.every (eos.proper (l .model)) (l .start))
   unfolding rightBlock
-  start-made = proper-read bounds (l .model) (l .start) (and-true (leb (length (l .start)) 256) _ tokens-right .1)
+  start-made = proper-read bounds (l .model) (l .start) (and-true (leb (length (l .start)) lineLimit) _ tokens-right .1)
 
   start-tokens : tokensOf (sizesFor m) k ≡ eos.canonical (l .start)
   unfolding rightBlock
@@ -132,7 +133,7 @@ module _ (l : Loaded) (right : rightLoaded l ≡ true) where
       let h = canonical-held z (l .start) (rw (sizes-same (l .model) model-right) tokens-right) in
       let roomy = held-roomy m (holding.hold-held (l .model) model-right) in
       hold.tokens-hold z (eos.canonical (l .start))
-      (hold.all-right bounds z roomy (eos.canonical (l .start)) (and-true (leb (length (eos.canonical (l .start))) 256) _ (h .right) .1))
+      (hold.all-right bounds z roomy (eos.canonical (l .start)) (and-true (leb (length (eos.canonical (l .start))) lineLimit) _ (h .right) .1))
 
   -- weights that passed for them balance, and cover with the sum of the start
   pub start-balances : (file : Text) (sum : Sum) → weightChecking m k file ≡ record { answer = Passed; sum = sum; cover = true }

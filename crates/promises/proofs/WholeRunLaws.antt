@@ -14,6 +14,7 @@ use Rattle.eos.specs.Weights.{weigh}
 use Rattle.eos.specs.Run.{hasFired, callsHeld, callsRefused, Faithful}
 use Rattle.eos.proofs.Basics.{true-is}
 use Rattle.eos.proofs.RunLaws.{demand-3}
+use Rattle.model.specs.Limits.{roomLimit, coverLimit, countLimit}
 use Rattle.model.specs.Held.{holdModel, modelOf}
 use Rattle.model.specs.declared.Model.{Model}
 use Rattle.model.proofs.HoldModel.{modelOf-hold}
@@ -79,9 +80,9 @@ module _ (l : Loaded) (right : rightLoaded l ≡ true) (file : Text) (sum : Sum)
   abbrev k : Marking
   k = holdMarking (eos.canonical (l .start))
 
-  faithful : Faithful 256 65535 d (b .weights) (sum .above) (brings d) holdMarking (call m) (l .start) texts
+  faithful : Faithful roomLimit countLimit d (b .weights) (sum .above) (brings d) holdMarking (call m) (l .start) texts
   faithful =
-      demand-3 256 65535 d (b .weights) (sum .above) (brings d) holdMarking (call m) (b .shaped) (b .passing .balanced) (true-is (b .covering))
+      demand-3 roomLimit countLimit d (b .weights) (sum .above) (brings d) holdMarking (call m) (b .shaped) (b .passing .balanced) (true-is (b .covering))
       (brings-known d) (agrees d (model-right l right)) (l .start) (start-made l right) (b .sum-is) texts
 
   held-run : leftBy m k texts ≡ holdMarking (eos.canonical (ownRun l texts))
@@ -118,7 +119,7 @@ module _ (l : Loaded) (right : rightLoaded l ≡ true) (file : Text) (sum : Sum)
         weights = b .weights;
         says = says;
         weighs = b .weighs;
-        covering = covers-parts (b .weights) (sum .above) .0 (b .covering);
+        covering = covers-parts coverLimit (b .weights) (sum .above) .0 (b .covering);
         held = held-run;
         fired = fired-run;
         room = λ i h. (λ e. omega (arith, zero i h), λ e. omega (arith, zero i h));

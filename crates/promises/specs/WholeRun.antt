@@ -15,6 +15,7 @@ use Rattle.eos.specs.Model as eos
 use Rattle.eos.specs.Firing.{Step, outer, inner}
 use Rattle.eos.specs.Weights.{Weights, weigh}
 use Rattle.eos.specs.Run.{ruleRun, ruleFired}
+use Rattle.model.specs.Limits.{longest, coverLimit}
 use Rattle.model.specs.Held.{modelOf}
 use Rattle.model.specs.declared.Model.{Model}
 use Rattle.marking.specs.Held.{sizesOf, holdMarking, tokensOf}
@@ -22,7 +23,7 @@ use Rattle.marking.specs.Reading.{free}
 use Rattle.marking.specs.declared.Marking.{Marking}
 use Rattle.reader.specs.Reading.{Loaded, readModel}
 use Rattle.marking.specs.Sizes.{sizesFor}
-use Rattle.reader.specs.Answers.{longest, modelReading}
+use Rattle.reader.specs.Answers.{modelReading}
 use Rattle.reader.specs.declared.ReadAnswer.the-variants.{Accepted}
 use Rattle.step.specs.Reading.{readStep}
 use Rattle.runner.specs.Answers.{stepPair, stepping}
@@ -91,7 +92,7 @@ pub record WholeRun (text file : Text) (m : Model) (k : Marking) (sum : Sum) (te
   pub weights : Weights
   pub says : readModel text ≡ got plant (length text)
   pub weighs : readWeightFile (plant .model) file ≡ got weights (length file)
-  pub covering : Covering weights (sum .above)
+  pub covering : Covering coverLimit weights (sum .above)
   -- the held marking is the marking of the rule's own run, in the order of held markings and with unused room 0
   pub held : leftBy m k texts ≡ holdMarking (eos.canonical (ownRun plant texts))
   -- each call said fired exactly when its text brought the run a step that fired

@@ -19,6 +19,7 @@ use Rattle.eos.specs.Model as eos
 use Rattle.eos.proofs.MultisetLaws.{Monoid, sumOf, ℕ+}
 use Rattle.eos.proofs.OrderLaws.{sort-again, sum-sort}
 use Rattle.eos.proofs.FiringLaws.{tokenOrder}
+use Rattle.model.specs.Limits.{roomLimit, longest}
 use Rattle.model.specs.Rules.{rightModel}
 use Rattle.model.specs.Held.{holdModel}
 use Rattle.model.specs.Held as model
@@ -40,7 +41,7 @@ use Rattle.marking.proofs.WriteLaws.{marking-length}
 use Rattle.reader.specs.Reading.{bounds, Loaded, readLines, readModel, readMarking, rightLoaded, readModelAt}
 use Rattle.reader.specs.Printed.{modelText}
 use Rattle.marking.specs.Sizes.{sizesFor}
-use Rattle.reader.specs.Answers.{longest, loaded, modelReading, restored, markingOr, markingReading, heldBoth, modelFrom, markingFrom}
+use Rattle.reader.specs.Answers.{loaded, modelReading, restored, markingOr, markingReading, heldBoth, modelFrom, markingFrom, heldIn}
 use Rattle.reader.specs.declared.ReadAnswer.the-variants.{Accepted, TooLong, Faulty}
 use Rattle.reader.specs.declared.ModelReading.{ModelReading}
 use Rattle.reader.specs.declared.MarkingReading.{MarkingReading}
@@ -155,14 +156,14 @@ module _ (d : eos.Model) (right : rightModel d ≡ true) where
 
 -- what an accepted reading gives passes the tests
 pub accepted-held : (s : Text) (m : Model) (k : Marking) → Accepts s m k → heldBoth m k ≡ true
-unfolding heldBoth
+unfolding heldIn
 accepted-held s m k e =
     let p = accepted-printed s m k e in
     let r = right-parts (p .0) (p .2) in
     let d = p .0 .model in
     let z : sizesFor m ≡ sizesOf d = ap sizesFor (p .4) ∙ sizes-same d (r .0) in
     and-both (heldModel m) _ (rw (p .4) (hold-held d (r .0)))
-    (ap₂ heldMarking z (p .5)
+    (ap₂ (heldMarking roomLimit) z (p .5)
     ∙ hold.hold-held (sizesOf d) (roomy d (r .0)) (eos.canonical (p .0 .start)) (canonical-held (sizesOf d) (p .0 .start) (r .1)))
 
 module _ (m : Model) (sized : model.SizedModel m) where
@@ -185,14 +186,14 @@ module _ (m : Model) (sized : model.SizedModel m) where
   -- the tests of a model and a marking of it pass exactly for what some accepted reading gives
   pub held-exactly : (k : Marking) → marking.SizedMarking k
       → (heldBoth m k ≡ true) ↔ ((s : Text) × Accepts s m k)
-  unfolding heldBoth
+  unfolding heldIn
   held-exactly k small = (
     λ h.
         let a = and-true (heldModel m) _ h in
         let e = laws.held-exactly m sized .0 (a .0) in
         let d = e .0 in
         let z : sizesFor m ≡ sizesOf d = ap sizesFor (e .2) ∙ sizes-same d (e .1) in
-        let t : heldMarking (sizesOf d) k ≡ true = rw z at (a .1) in
+        let t : heldMarking roomLimit (sizesOf d) k ≡ true = rw z at (a .1) in
         let b = hold.held-tokens (sizesOf d) (roomy d (e .1)) k small t in
         let μ = tokensOf (sizesOf d) k in
         (modelText (record { model = d; start = μ }), accepts-as _ m (holdModel d) k (holdMarking μ) (e .2) (b .1) (said-accepted d (e .1) μ (b .0))),
@@ -204,7 +205,7 @@ module _ (m : Model) (sized : model.SizedModel m) where
 -- the text of a held marking of a held model is accepted, and the marking is given back
 pub written-reads-back : (m : Model) (k : Marking) → marking.SizedMarking k → heldBoth m k ≡ true
     → markingReading m (markingText (tokensOf (sizesFor m) k)) ≡ record { answer = Accepted; marking = k }
-unfolding heldBoth markingFrom markingOr restored
+unfolding heldIn markingFrom markingOr restored
 written-reads-back m k small h =
     let a = and-true (heldModel m) _ h in
     let z = sizesFor m in

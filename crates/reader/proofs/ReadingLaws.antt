@@ -14,6 +14,7 @@ use Rattle.text.specs.declared.Fault.{Fault}
 use Rattle.text.specs.declared.Ended.the-variants.{Past, Stopped}
 use Rattle.text.proofs.Loops.{Got, got-of, bad-of}
 use Rattle.eos.specs.Model as eos
+use Rattle.model.specs.Limits.{roomLimit, longest}
 use Rattle.model.specs.Rules.{rightModel}
 use Rattle.model.specs.Held.{holdModel}
 use Rattle.model.specs.Test.{heldModel}
@@ -30,7 +31,7 @@ use Rattle.marking.specs.declared.Marking.{Marking}
 use Rattle.marking.specs.declared.Block.{Block}
 use Rattle.reader.specs.Reading.{bounds, Loaded, readEnd, readMarkingAt, readLines, readModelAt}
 use Rattle.marking.specs.Sizes.{sizesIn, sizesFor}
-use Rattle.reader.specs.Answers.{longest, faulty, noReading, loaded, noTokens, restored, heldBoth, modelFrom, markingFrom, markingOr}
+use Rattle.reader.specs.Answers.{faulty, noReading, loaded, noTokens, restored, heldBoth, modelFrom, markingFrom, markingOr, heldIn}
 use Rattle.reader.specs.declared.ReadAnswer.the-variants.{Accepted, TooLong, NotHeld}
 use Rattle.reader.specs.declared.ModelReading.{ModelReading}
 use Rattle.reader.specs.declared.MarkingReading.{MarkingReading}
@@ -86,17 +87,17 @@ roomy-of m h z e = rw e (held-roomy m h)
 module _ (m : Model) (k : Marking) where
   -- the model is not held
   pub both-unheld : heldModel m ≡ false → false ≡ heldBoth m k
-  unfolding heldBoth
+  unfolding heldIn
   both-unheld h = rw h
 
   -- the model is held, and the marking is tested
-  pub both-held : heldModel m ≡ true → (z : List ℕ) → z ≡ sizesIn m → (t : Bool) → t ≡ heldMarking (sizesAt (m .places) z) k → t ≡ heldBoth m k
-  unfolding heldBoth
+  pub both-held : heldModel m ≡ true → (z : List ℕ) → z ≡ sizesIn m → (t : Bool) → t ≡ heldMarking roomLimit (sizesAt (m .places) z) k → t ≡ heldBoth m k
+  unfolding heldIn
   both-held h z e t f = f ∙ rw (h, e)
 
   -- of two that pass, the model does
   pub both-model : heldBoth m k ≡ true → heldModel m ≡ true
-  unfolding heldBoth
+  unfolding heldIn
   both-model h = and-true (heldModel m) _ h .0
 
 -- ---- a model

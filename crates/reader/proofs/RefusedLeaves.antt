@@ -13,6 +13,7 @@ use Rattle.text.proofs.Basics.{by-test, by-le}
 use Rattle.text.specs.Lines.{Outcome, got, bad}
 use Rattle.text.proofs.SetsLaws.{sets-past}
 use Rattle.eos.specs.Model as eos
+use Rattle.model.specs.Limits.{longest}
 use Rattle.model.specs.Held.{noModel}
 use Rattle.model.specs.Test.{heldModel}
 use Rattle.model.specs.declared.Model.{Model}
@@ -20,7 +21,7 @@ use Rattle.marking.specs.Held.{noMarking}
 use Rattle.marking.specs.declared.Marking.{Marking}
 use Rattle.reader.specs.Reading.{Loaded, readModel, readMarking}
 use Rattle.marking.specs.Sizes.{sizesFor}
-use Rattle.reader.specs.Answers.{longest, loaded, modelReading, restored, markingOr, markingReading, heldBoth, layWhole, markingWriting, modelFrom, markingFrom}
+use Rattle.reader.specs.Answers.{loaded, modelReading, restored, markingOr, markingReading, heldBoth, layWhole, markingWriting, modelFrom, markingFrom}
 use Rattle.reader.specs.declared.ReadAnswer.the-variants.{Accepted}
 use Rattle.reader.specs.declared.WriteAnswer.the-variants.{Written}
 use Rattle.reader.proofs.WriteAnswers.{whole-fits, whole-short}

@@ -12,13 +12,14 @@ use Rattle.text.specs.Writing.{Laying, lay}
 use Rattle.text.specs.declared.Wrote.{Wrote}
 use Rattle.text.proofs.Basics.{and-true}
 use Rattle.text.proofs.LaidLaws.{lay-whole, lay-short}
+use Rattle.model.specs.Limits.{roomLimit}
 use Rattle.model.specs.Test.{heldModel}
 use Rattle.model.specs.declared.Model.{Model}
 use Rattle.marking.specs.Held.{sizesAt, Roomy, tokensOf, heldMarking}
 use Rattle.marking.specs.Printed.{markingText}
 use Rattle.marking.specs.declared.Marking.{Marking}
 use Rattle.marking.specs.Sizes.{sizesIn}
-use Rattle.reader.specs.Answers.{heldBoth, writtenAs, Answered, layWhole, markingWriting}
+use Rattle.reader.specs.Answers.{heldBoth, writtenAs, Answered, layWhole, markingWriting, heldIn}
 use Rattle.reader.specs.declared.WriteAnswer.{WriteAnswer}
 use Rattle.reader.specs.declared.WriteAnswer.the-variants.{Written, Unheld, TooSmall}
 use Rattle.reader.proofs.ReadingLaws.{roomy-of}
@@ -47,8 +48,8 @@ module _ (text : Text) (out : List ℕ) where
 
 module _ (m : Model) (k : Marking) where
   -- what the writer of a marking asks
-  pub write-asks : heldBoth m k ≡ true → (z : List ℕ) → z ≡ sizesIn m → (heldMarking (sizesAt (m .places) z) k ≡ true) × Roomy (sizesAt (m .places) z)
-  unfolding heldBoth
+  pub write-asks : heldBoth m k ≡ true → (z : List ℕ) → z ≡ sizesIn m → (heldMarking roomLimit (sizesAt (m .places) z) k ≡ true) × Roomy (sizesAt (m .places) z)
+  unfolding heldIn
   write-asks h z e = let p = and-true (heldModel m) _ h in (rw e (p .1), roomy-of m (p .0) z e)
 
   module _ (out : List ℕ) where

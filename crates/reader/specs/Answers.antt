@@ -12,6 +12,7 @@ use Rattle.text.specs.declared.Wrote.{Wrote}
 use Rattle.text.specs.declared.Wrote.the-variants.{Whole, Short}
 use Rattle.eos.specs.Model as eos
 use Rattle.eos.specs.Causes.{Refusal}
+use Rattle.model.specs.Limits.{roomLimit, longest}
 use Rattle.model.specs.Held.{holdModel, noModel}
 use Rattle.model.specs.Test.{heldModel}
 use Rattle.model.specs.declared.Model.{Model}
@@ -44,10 +45,6 @@ writePair Unheld = pair 14 0
 writePair (TooSmall n) = pair 13 n
 
 -- ---- reading
-
--- the longest text that is read
-abbrev pub longest : ℕ
-longest = 1048576
 
 -- a fault as its line
 abbrev pub faulty : Text → Fault → ReadAnswer
@@ -87,10 +84,13 @@ markingFrom m s at = elim (leb (length s) longest) [ true ↦ markingOr (heldMod
 abbrev pub markingReading : Model → Text → MarkingReading
 markingReading m s = markingFrom m s 0
 
--- ---- the held test of a marking, for a model
+-- ---- the held test of a marking, with its room, for a model
 
-unfoldable pub heldBoth : Model → Marking → Bool
-heldBoth m k = heldModel m && heldMarking (sizesFor m) k
+unfoldable pub heldIn : ℕ → Model → Marking → Bool
+heldIn room m k = heldModel m && heldMarking room (sizesFor m) k
+
+abbrev pub heldBoth : Model → Marking → Bool
+heldBoth m k = heldIn roomLimit m k
 
 -- ---- writing
 

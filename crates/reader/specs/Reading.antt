@@ -6,14 +6,15 @@ use lib.ListN.{length}
 use Rattle.text.specs.Bytes.{Text, bytes}
 use Rattle.text.specs.Lines.{Outcome, got, then, need}
 use Rattle.eos.specs.Model as eos
+use Rattle.model.specs.Limits.{lineLimit, countLimit}
 use Rattle.model.specs.Rules.{rightModel}
 use Rattle.model_text.specs.Reading.{readPlant}
 use Rattle.marking.specs.Held.{Sizes, sizesOf}
 use Rattle.marking.specs.Reading.{Limits, limits, readBlock, rightBlock}
 
--- 01's limits on the number of net-tokens and on a count
+-- 01's limits on the token lines of a block and on a count
 abbrev pub bounds : Limits
-bounds = limits 256 65535
+bounds = limits lineLimit countLimit
 
 pub record Loaded : Type 0 where
   pub model : eos.Model

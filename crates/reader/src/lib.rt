@@ -65,7 +65,7 @@ fn tokens_to_end(s: &[u8], at: usize, places: u16, sizes: [u8; 32]) -> Block
     requires { ⌜ Roomy (sizesAt places sizes) ⌝ }
     ensures { λ r. ⌜ r ≡ blockOf (readMarkingAt (sizesAt places sizes) (now (s .entry)) at) ⌝ }
 {
-    let block = block_at(s, at, b"start=", places, sizes);
+    let block = block_at(s, at, b"start=", Model::LINES, places, sizes);
     let ended = block.ended;
     let Ended::Past { next } = ended else {
         return block;

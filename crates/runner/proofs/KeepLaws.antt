@@ -16,6 +16,7 @@ use Rattle.eos.specs.Causes.{Cause, refusal}
 use Rattle.eos.proofs.OrderLaws.{sort-again}
 use Rattle.eos.proofs.FiringLaws.{tokenOrder, fires-yes}
 use Rattle.eos.proofs.CauseLaws.{no-cause-fires}
+use Rattle.model.specs.Limits.{roomLimit}
 use Rattle.marking.proofs.RowLaws.{laid-long}
 use Rattle.model.specs.Held.{modelOf}
 use Rattle.model.specs.Test.{heldModel}
@@ -27,7 +28,7 @@ use Rattle.marking.proofs.RowOrder.{rows-wide}
 use Rattle.marking.proofs.HoldMarking.{ordered-held}
 use Rattle.reader.specs.Reading.{bounds}
 use Rattle.marking.specs.Sizes.{sizesFor}
-use Rattle.reader.specs.Answers.{heldBoth}
+use Rattle.reader.specs.Answers.{heldBoth, heldIn}
 use Rattle.reader.proofs.ReadingLaws.{both-model}
 use Rattle.marking.proofs.SizeLaws.{held-roomy}
 use Rattle.step.specs.Verdict.{hasRoom}
@@ -50,30 +51,30 @@ module _ (m : Model) (k : Marking) (kept : Keeps m k) where
   st = both-stands m k (kept .long) (kept .held)
 
   -- the marking after a step that meets no cause
-  after-keeps : (t : Step) → RightStep (sizesFor m) (m .listed) t → refusal hasRoom (modelOf m) t μ ≡ none → Keeps m (holdMarking (eos.canonical (after t μ)))
-  unfolding heldBoth holdMarking
+  after-keeps : (t : Step) → RightStep (sizesFor m) (m .listed) t → refusal (hasRoom roomLimit) (modelOf m) t μ ≡ none → Keeps m (holdMarking (eos.canonical (after t μ)))
+  unfolding heldIn holdMarking
   after-keeps t r e =
       let z = sizesFor m in
       let model = both-model m k (kept .held) in
       let ν = eos.canonical (after t μ) in
-      let f = no-cause-fires hasRoom (modelOf m) t μ e in
-      let few : length ν ≤ 256 = omega (arith, length-canonical (after t μ), leb→le (length (after t μ)) 256 (f .1)) in
+      let f = no-cause-fires (hasRoom roomLimit) (modelOf m) t μ e in
+      let few : length ν ≤ roomLimit = omega (arith, length-canonical (after t μ), leb→le (length (after t μ)) roomLimit (f .1)) in
       let right = after-every (rightNetToken free z) t μ (fires-yes (modelOf m) t μ (f .0) .1) (st .right) (any-range bounds z (t .given) (r .given)) in
       record {
         held = and-both (heldModel m) _ model (ordered-held z (held-roomy m model) free ν few (sort-again eos.before tokenOrder (after t μ)) right);
         long = laid-long (map tokenRow ν) (rows-wide ν) (omega (arith, length-map ν tokenRow));
       }
 
-  judged-keeps : (t : Step) (next : ℕ) → RightStep (sizesFor m) (m .listed) t → (o : Option Cause) → refusal hasRoom (modelOf m) t μ ≡ o
+  judged-keeps : (t : Step) (next : ℕ) → RightStep (sizesFor m) (m .listed) t → (o : Option Cause) → refusal (hasRoom roomLimit) (modelOf m) t μ ≡ o
       → Keeps m (stepped k (stepJudged μ t next o) .marking)
   unfolding stepJudged stepped
   judged-keeps t next r none e = after-keeps t r e
   judged-keeps t next r (some c) e = kept
 
-  read-keeps : (s : Text) (o : Outcome Step) → reading m k s ≡ o → Keeps m (stepped k (readThen (modelOf m) μ s o) .marking)
+  read-keeps : (s : Text) (o : Outcome Step) → reading m k s ≡ o → Keeps m (stepped k (readThen roomLimit (modelOf m) μ s o) .marking)
   unfolding readThen stepped
-  read-keeps s (got t next) e = judged-keeps t next (read-right (sizesFor m) (m .listed) s t next e) (refusal hasRoom (modelOf m) t μ) refl
+  read-keeps s (got t next) e = judged-keeps t next (read-right (sizesFor m) (m .listed) s t next e) (refusal (hasRoom roomLimit) (modelOf m) t μ) refl
   read-keeps s (bad d) e = kept
 
-  pub step-keeps : (s : Text) → Keeps m (heldStep m k s .marking)
-  step-keeps s = subst (λ (r : Stepped). Keeps m (r .marking)) (sym (held-reads m k s)) (read-keeps s (reading m k s) refl)
+  pub step-keeps : (s : Text) → Keeps m (heldStep roomLimit m k s .marking)
+  step-keeps s = subst (λ (r : Stepped). Keeps m (r .marking)) (sym (held-reads m k s roomLimit)) (read-keeps s (reading m k s) refl)

@@ -121,7 +121,7 @@ module _ (m : Model) (sized : SizedModel m) (held : heldModel m ≡ true) where
     pub rule-is-sound : (q : Rule) (e : ℕ) → q ≡ holdRule (modelOf m) e → e ≡ t .event → Sound q
     rule-is-sound q e h f = rw (h, f) (sound-rule (modelOf m) model-right (t .event) (step-of .known))
 
-    module _ (k : Marking) (st : Stands (sizesFor m) k) where
+    module _ (room : ℕ) (k : Marking) (st : Stands (sizesFor m) k) where
       abbrev μ : eos.Marking
       μ = tokensOf (sizesFor m) k
 
@@ -132,18 +132,18 @@ module _ (m : Model) (sized : SizedModel m) (held : heldModel m ≡ true) where
       given = map tokenRow (t .given)
 
       -- the verdict on the rows is that of the theory
-      cause-same : first (causesIn (holdRule (modelOf m) (t .event)) taken given (rowsIn (k .len) (k .rows))) ≡ refusal hasRoom (modelOf m) t μ
+      cause-same : first (causesIn room (holdRule (modelOf m) (t .event)) taken given (rowsIn (k .len) (k .rows))) ≡ refusal (hasRoom room) (modelOf m) t μ
       cause-same =
-          ap (λ (rs : List Row). first (causesIn (holdRule (modelOf m) (t .event)) taken given rs)) (st .rows-are)
-          ∙ causes-are (modelOf m) model-right t step-of μ (proper-of free μ (st .right))
+          ap (λ (rs : List Row). first (causesIn room (holdRule (modelOf m) (t .event)) taken given rs)) (st .rows-are)
+          ∙ causes-are (modelOf m) model-right t step-of room μ (proper-of free μ (st .right))
 
       -- and so are the rows after it
-      change-same : (next : ℕ) (o : Option Cause) → refusal hasRoom (modelOf m) t μ ≡ o
+      change-same : (next : ℕ) (o : Option Cause) → refusal (hasRoom room) (modelOf m) t μ ≡ o
           → ruled next k taken given (verdictOf (length (t .taken)) o) ≡ stepped k (stepJudged μ t next o)
       unfolding ruled verdictOf stepJudged stepped holdMarking
       change-same next none e =
           let roomy = held-roomy m held in
-          let w = fires-yes (modelOf m) t μ (no-cause-fires hasRoom (modelOf m) t μ e .0) .1 in
+          let w = fires-yes (modelOf m) t μ (no-cause-fires (hasRoom room) (modelOf m) t μ e .0) .1 in
           let n : k .len - length taken + length given ≡ length (eos.canonical (after t μ)) =
           omega (arith, after-long t μ w, stands-long (sizesFor m) k st, length-map (t .taken) tokenRow, length-map (t .given) tokenRow) in
           let rows : laid (M.sort lexV (M.less eqV (rowsIn (k .len) (k .rows)) taken ++ given)) ≡ laid (map tokenRow (eos.canonical (after t μ))) =
@@ -153,7 +153,7 @@ module _ (m : Model) (sized : SizedModel m) (held : heldModel m ≡ true) where
           λ i. record { answer = Fired next; marking = record { len = n i; rows = rows i } }
       change-same next (some c) e = refl
 
-      pub ruled-same : (next : ℕ) → ruled next k taken given (verdictOf (length (t .taken)) (first (causesIn (holdRule (modelOf m) (t .event)) taken given (rowsIn (k .len) (k .rows)))))
-          ≡ stepped k (stepJudged μ t next (refusal hasRoom (modelOf m) t μ))
+      pub ruled-same : (next : ℕ) → ruled next k taken given (verdictOf (length (t .taken)) (first (causesIn room (holdRule (modelOf m) (t .event)) taken given (rowsIn (k .len) (k .rows)))))
+          ≡ stepped k (stepJudged μ t next (refusal (hasRoom room) (modelOf m) t μ))
       ruled-same next =
-          ap (λ (o : Option Cause). ruled next k taken given (verdictOf (length (t .taken)) o)) cause-same ∙ change-same next (refusal hasRoom (modelOf m) t μ) refl
+          ap (λ (o : Option Cause). ruled next k taken given (verdictOf (length (t .taken)) o)) cause-same ∙ change-same next (refusal (hasRoom room) (modelOf m) t μ) refl

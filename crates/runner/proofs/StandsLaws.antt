@@ -17,10 +17,11 @@ use Rattle.eos.specs.Firing.{Step, after}
 use Rattle.eos.proofs.Basics.{true-is, is-true}
 use Rattle.eos.proofs.MultisetLaws.{every-append, every-part, less-part}
 use Rattle.eos.proofs.FiringLaws.{alike, count-canonical}
+use Rattle.model.specs.Limits.{roomLimit}
 use Rattle.marking.specs.Rows.{Row, rowsIn, ascending, Kept}
 use Rattle.marking.proofs.RowLaws.{length-rows, kept-wide}
 use Rattle.marking.proofs.KeptLaws.{kept-test}
-use Rattle.marking.specs.Held.{Sizes, Roomy, tokenRow, tokensOf, heldMarking}
+use Rattle.marking.specs.Held.{Sizes, Roomy, tokenRow, tokensOf, heldRows, heldMarking}
 use Rattle.marking.specs.Reading.{Limits, free, rightNetToken}
 use Rattle.marking.specs.declared.Marking.{Marking}
 use Rattle.marking.proofs.RowOrder.{All}
@@ -43,8 +44,8 @@ any-rows : (rs : List Row) → every (λ r. every (free .counts) (drop 1 r)) rs 
 any-rows [] = refl
 any-rows (r ∷ rs) = and-both (every (free .counts) (drop 1 r)) _ (any-counts (drop 1 r)) (any-rows rs)
 
-pub held-stands : (z : Sizes) → Roomy z → (k : Marking) → length (k .rows) ≡ 8448 → heldMarking z k ≡ true → Stands z k
-unfolding heldMarking tokensOf
+pub held-stands : (z : Sizes) → Roomy z → (k : Marking) → length (k .rows) ≡ 8448 → heldMarking roomLimit z k ≡ true → Stands z k
+unfolding heldRows tokensOf
 held-stands z roomy k long h =
     let rs = rowsIn (k .len) (k .rows) in
     let a = and-true (leb (k .len) 256) _ h in

@@ -9,13 +9,14 @@ use Rattle.text.specs.Lines.{Outcome, got, bad, spotOf}
 use Rattle.eos.specs.Model as eos
 use Rattle.eos.specs.Firing.{Step, after}
 use Rattle.eos.specs.Causes.{Refusal, Cause, refusal}
+use Rattle.model.specs.Limits.{roomLimit, longest}
 use Rattle.model.specs.Held.{modelOf}
 use Rattle.model.specs.declared.Model.{Model}
 use Rattle.marking.specs.Held.{Sizes, holdMarking, tokensOf}
 use Rattle.marking.specs.declared.Marking.{Marking}
 use Rattle.reader.specs.Reading.{bounds}
 use Rattle.marking.specs.Sizes.{sizesFor}
-use Rattle.reader.specs.Answers.{pair, longest, heldBoth}
+use Rattle.reader.specs.Answers.{pair, heldIn}
 use Rattle.step.specs.Reading.{readStep}
 use Rattle.step.specs.Verdict.{hasRoom, causePair}
 use Rattle.runner.specs.declared.StepAnswer.{StepAnswer}
@@ -49,12 +50,13 @@ stepJudged μ t next none = fires next (eos.canonical (after t μ))
 stepJudged μ t next (some c) = let r = causePair (length (t .taken)) c in stops (Turned (r .number) (r .beside))
 
 -- line by line 2 and 3, lines counted from the step's own `fire` line, which begins the text; then 8 to 12
-unfoldable pub readThen : eos.Model → eos.Marking → Text → Outcome Step → Tried
-readThen m μ s (got t next) = stepJudged μ t next (refusal hasRoom m t μ)
-readThen m μ s (bad e) = stops (Faulty (spotOf s e))
+unfoldable pub readThen : ℕ → eos.Model → eos.Marking → Text → Outcome Step → Tried
+readThen room m μ s (got t next) = stepJudged μ t next (refusal (hasRoom room) m t μ)
+readThen room m μ s (bad e) = stops (Faulty (spotOf s e))
 
-unfoldable pub tried : eos.Model → Sizes → eos.Marking → Text → Tried
-tried m z μ s = readThen m μ s (readStep bounds z (length (m .events)) s 0)
+-- a marking has its room
+unfoldable pub tried : ℕ → eos.Model → Sizes → eos.Marking → Text → Tried
+tried room m z μ s = readThen room m μ s (readStep bounds z (length (m .events)) s 0)
 
 -- a refusal leaves the marking as it was
 abbrev pub stays : StepAnswer → Marking → Stepped
@@ -65,13 +67,17 @@ stepped k (fires next μ) = record { answer = Fired next; marking = holdMarking 
 stepped k (stops a) = stays a k
 
 -- a step on a held marking of a held model, without the held test
-unfoldable pub heldStep : Model → Marking → Text → Stepped
-heldStep m k s = stepped k (tried (modelOf m) (sizesFor m) (tokensOf (sizesFor m) k) s)
+unfoldable pub heldStep : ℕ → Model → Marking → Text → Stepped
+heldStep room m k s = stepped k (tried room (modelOf m) (sizesFor m) (tokensOf (sizesFor m) k) s)
 
-unfoldable pub whereHeld : Bool → Model → Marking → Text → Stepped
-whereHeld true m k s = heldStep m k s
-whereHeld false m k s = stays NotHeld k
+unfoldable pub whereHeld : Bool → ℕ → Model → Marking → Text → Stepped
+whereHeld true room m k s = heldStep room m k s
+whereHeld false room m k s = stays NotHeld k
 
--- the step call: 1, 14, then as above
-unfoldable pub stepping : Model → Marking → Text → Stepped
-stepping m k s = elim (leb (length s) longest) [ true ↦ whereHeld (heldBoth m k) m k s | false ↦ stays TooLong k ]
+-- a step on a marking with its room: 1, 14, then as above
+unfoldable pub steppingIn : ℕ → Model → Marking → Text → Stepped
+steppingIn room m k s = elim (leb (length s) longest) [ true ↦ whereHeld (heldIn room m k) room m k s | false ↦ stays TooLong k ]
+
+-- the step call
+abbrev pub stepping : Model → Marking → Text → Stepped
+stepping m k s = steppingIn roomLimit m k s

@@ -37,6 +37,7 @@ fn step_at(m: Model, k: Marking, s: &[u8], at: usize) -> Stepped
     let mut plan = [0u8; PACKED];
     pack(m, &mut plan);
     let end = step_on(
+        Model::ROOM as usize,
         &plan,
         sizes(m),
         &mut rows,

@@ -7,9 +7,10 @@ use borrow.Author.Tests.{le-leb, lt-leb}
 use Rattle.text.specs.Bytes.{Text, bytes}
 use Rattle.text.specs.Lines.{got, bad, spotOf, readHead}
 use Rattle.text.specs.declared.Fault.{Fault}
+use Rattle.model.specs.Limits.{longest}
 use Rattle.model.specs.declared.Model.{Model}
 use Rattle.marking.specs.declared.Marking.{Marking}
-use Rattle.reader.specs.Answers.{longest, heldBoth}
+use Rattle.reader.specs.Answers.{heldBoth}
 use Rattle.runner_trace.specs.declared.Stop.the-variants.{TooLong, NotHeld, Faulty}
 use Rattle.runner_trace.specs.Running.{ran, runFrom, headed, runWhereHeld, running}
 

@@ -10,6 +10,7 @@ use Rattle.text.proofs.Basics.{by-test}
 use Rattle.text.specs.Lines.{Outcome, got, bad, readHead}
 use Rattle.text.specs.Printed.{numberText}
 use Rattle.eos.specs.Model as eos
+use Rattle.model.specs.Limits.{longest, roomLimit}
 use Rattle.model.specs.Held.{modelOf}
 use Rattle.model.specs.declared.Model.{Model}
 use Rattle.model.proofs.SlotLaws.{by-index}
@@ -17,7 +18,6 @@ use Rattle.marking.specs.Held.{holdMarking, tokensOf}
 use Rattle.marking.specs.declared.Marking.{Marking}
 use Rattle.reader.specs.Reading.{bounds}
 use Rattle.marking.specs.Sizes.{sizesFor}
-use Rattle.reader.specs.Answers.{longest}
 use Rattle.step.specs.Printed.{stepText}
 use Rattle.step.proofs.StepExactly.{step-exactly}
 use Rattle.runner.specs.declared.StepAnswer.{StepAnswer}
@@ -73,7 +73,7 @@ pub record Uses (s : Text) (used : ℕ) : Type 0 where
   pub some-byte : 1 ≤ used
   pub within : used ≤ length s
 
-pub fired-uses : (m : Model) (k : Marking) (s : Text) (used : ℕ) → heldStep m k s .answer ≡ Fired used → Uses s used
+pub fired-uses : (m : Model) (k : Marking) (s : Text) (used : ℕ) → heldStep roomLimit m k s .answer ≡ Fired used → Uses s used
 unfolding stepText numberText
 fired-uses m k s used h =
     let b = held-brings m k s used h in
@@ -110,8 +110,8 @@ module _ (fuel : ℕ) (m : Model) (k : Marking) (n : ℕ) where
 
   module _ (s : Text) (more : 0 < length s) where
     -- the step call on what is left fires: the run goes on behind its bytes, on the marking that it left
-    pub run-fires : (used : ℕ) → heldStep m k s .answer ≡ Fired used
-        → runFrom (suc fuel) m k s n ≡ runFrom fuel m (heldStep m k s .marking) (drop used s) (n + 1)
+    pub run-fires : (used : ℕ) → heldStep roomLimit m k s .answer ≡ Fired used
+        → runFrom (suc fuel) m k s n ≡ runFrom fuel m (heldStep roomLimit m k s .marking) (drop used s) (n + 1)
     unfolding runFrom
     run-fires used h =
         let b = held-brings m k s used h in
@@ -119,11 +119,11 @@ module _ (fuel : ℕ) (m : Model) (k : Marking) (n : ℕ) where
         ∙ ap (λ (r : Stepped). runFrom fuel m (r .marking) (drop used s) (n + 1)) (sym (brings-fires m k s used b))
 
     -- it is turned down: the run stops with its answer, on the marking that it left
-    pub run-stops : ((used : ℕ) → heldStep m k s .answer ≡ Fired used → ⊥)
-        → runFrom (suc fuel) m k s n ≡ ran n (stoppedBy (heldStep m k s .answer)) (heldStep m k s .marking)
+    pub run-stops : ((used : ℕ) → heldStep roomLimit m k s .answer ≡ Fired used → ⊥)
+        → runFrom (suc fuel) m k s n ≡ ran n (stoppedBy (heldStep roomLimit m k s .answer)) (heldStep roomLimit m k s .marking)
     unfolding runFrom heldStep
     run-stops h =
-        let t = tried (modelOf m) (sizesFor m) (tokensOf (sizesFor m) k) s in
+        let t = tried roomLimit (modelOf m) (sizesFor m) (tokensOf (sizesFor m) k) s in
         let p = tried-stops k t h in
         onward-stops (λ u μ. runFrom fuel m (holdMarking μ) (drop u s) (n + 1)) s t _ more (p .0)
         ∙ ap (ran n (stoppedBy (stepped k t .answer))) (sym (p .1))
@@ -133,10 +133,10 @@ from-keeps : (fuel : ℕ) (m : Model) (k : Marking) (s : Text) (n : ℕ) → Kee
 from-keeps zero m k s n h = unfold runFrom in h
 from-keeps (suc f) m k s n h =
     by-index (length s) 0
-    (λ p. by-turn (heldStep m k s .answer)
+    (λ p. by-turn (heldStep roomLimit m k s .answer)
     (λ used e.
     subst (λ (r : Ran). Keeps m (r .marking)) (sym (run-fires f m k n s p used e))
-    (from-keeps f m (heldStep m k s .marking) (drop used s) (n + 1) (step-keeps m k h s)))
+    (from-keeps f m (heldStep roomLimit m k s .marking) (drop used s) (n + 1) (step-keeps m k h s)))
     (λ e. subst (λ (r : Ran). Keeps m (r .marking)) (sym (run-stops f m k n s p e)) (step-keeps m k h s)))
     (λ p. subst (λ (r : Ran). Keeps m (r .marking)) (sym (run-end (suc f) m k n s (omega arith))) h)
 
@@ -158,11 +158,11 @@ run-fuel zero g m k s n a b = run-end zero m k n s (omega arith) ∙ sym (run-en
 run-fuel (suc f) zero m k s n a b = run-end (suc f) m k n s (omega arith) ∙ sym (run-end zero m k n s (omega arith))
 run-fuel (suc f) (suc g) m k s n a b =
     by-index (length s) 0
-    (λ h. by-turn (heldStep m k s .answer)
+    (λ h. by-turn (heldStep roomLimit m k s .answer)
     (λ used e.
     let u = fired-uses m k s used e in
     run-fires f m k n s h used e
-    ∙ run-fuel f g m (heldStep m k s .marking) (drop used s) (n + 1) (omega (arith, u .some-byte, length-drop used s)) (omega (arith, u .some-byte, length-drop used s))
+    ∙ run-fuel f g m (heldStep roomLimit m k s .marking) (drop used s) (n + 1) (omega (arith, u .some-byte, length-drop used s)) (omega (arith, u .some-byte, length-drop used s))
     ∙ sym (run-fires g m k n s h used e))
     (λ e. run-stops f m k n s h e ∙ sym (run-stops g m k n s h e)))
     (λ h. run-end (suc f) m k n s (omega arith) ∙ sym (run-end (suc g) m k n s (omega arith)))

@@ -9,10 +9,10 @@ use lib.ListN.{length, take, drop, length-drop}
 use lib.Seq.{take-all, drop-drop}
 use borrow.Author.Tests.{le-leb, lt-leb}
 use Rattle.text.specs.Bytes.{Text}
+use Rattle.model.specs.Limits.{longest, roomLimit}
 use Rattle.model.specs.declared.Model.{Model}
 use Rattle.model.proofs.SlotLaws.{by-index}
 use Rattle.marking.specs.declared.Marking.{Marking}
-use Rattle.reader.specs.Answers.{longest}
 use Rattle.runner.specs.declared.StepAnswer.the-variants.{Fired}
 use Rattle.runner.specs.declared.Stepped.{Stepped}
 use Rattle.runner.specs.Answers.{heldStep}
@@ -37,14 +37,14 @@ module _ (m : Model) (s : Text) (at : ℕ) (c : Come) where
   unfolding turnAt
   turn-ends h = rw (le-leb (length s) at h, turnAt)
 
-  module _ (more : at < length s) (r : Stepped) (is : r ≡ heldStep m (markingIn c) (drop at s)) where
+  module _ (more : at < length s) (r : Stepped) (is : r ≡ heldStep roomLimit m (markingIn c) (drop at s)) where
     -- a step is tried
     pub turn-steps : (t : Turn) → t ≡ turnOf (r .answer) → turned at (c .far .fired) (r .marking) t ≡ turnAt m s at c
     unfolding turnAt
     turn-steps t e = rw (lt-leb (length s) at more, turnAt, e, is)
 
     -- one that fires uses at least one byte, and no more than there are
-    pub turn-fires : (used : ℕ) → turnOf (r .answer) ≡ On used → heldStep m (markingIn c) (drop at s) .answer ≡ Fired used
+    pub turn-fires : (used : ℕ) → turnOf (r .answer) ≡ On used → heldStep roomLimit m (markingIn c) (drop at s) .answer ≡ Fired used
     turn-fires used e = ap (λ (r : Stepped). r .answer) (sym is) ∙ turn-on (r .answer) used e
 
     pub turn-uses : (used : ℕ) → turnOf (r .answer) ≡ On used → (1 ≤ used) × (at + used ≤ length s)
@@ -98,7 +98,7 @@ module _ (m : Model) (k : Marking) (s : Text) (from : ℕ) where
     going-done : length s ≤ at → reached (turned at fired (markingIn c) (Off AtEnd)) ≡ runFrom (length s) m k (drop from s) 0
     going-done h = sym (g .left ∙ run-end (length s - fired) m (markingIn c) fired (drop at s) (omega (arith, length-drop at s)))
 
-    module _ (more : at < length s) (r : Stepped) (is : r ≡ heldStep m (markingIn c) (drop at s)) where
+    module _ (more : at < length s) (r : Stepped) (is : r ≡ heldStep roomLimit m (markingIn c) (drop at s)) where
       some-left : 0 < length (drop at s)
       some-left = omega (arith, length-drop at s)
 
@@ -135,7 +135,7 @@ module _ (m : Model) (k : Marking) (s : Text) (from : ℕ) where
     turned-so =
         by-index (length s) at
         (λ more.
-        let r = heldStep m (markingIn c) (drop at s) in
+        let r = heldStep roomLimit m (markingIn c) (drop at s) in
         by-turned (turnOf (r .answer))
         (λ used e.
         let u = turn-uses m s at c more r refl used e in

@@ -9,14 +9,14 @@ use Rattle.text.specs.Bytes.{Text}
 use Rattle.text.specs.Lines.{spotOf}
 use Rattle.text.specs.declared.Ended.{Ended}
 use Rattle.text.specs.declared.Ended.the-variants.{Past, Stopped}
-use Rattle.model.specs.Limits.{rowsRoom}
+use Rattle.model.specs.Limits.{roomLimit, rowsRoom, longest}
 use Rattle.model.specs.Held.{SizedModel}
 use Rattle.model.specs.declared.Model.{Model}
 use Rattle.model_packed.specs.Packed.{modelIn}
 use Rattle.model_packed.specs.Layout.{packedLong}
 use Rattle.marking.specs.declared.Marking.{Marking}
 use Rattle.marking.specs.Sizes.{sizesIn}
-use Rattle.reader.specs.Answers.{longest, heldBoth}
+use Rattle.reader.specs.Answers.{heldBoth}
 use Rattle.runner.specs.declared.StepAnswer.{StepAnswer}
 use Rattle.runner.specs.declared.StepAnswer.the-variants as step
 use Rattle.runner.specs.declared.Stepped.{Stepped}
@@ -73,7 +73,7 @@ stepTurned at n r = turned at n (r .marking) (turnOf (r .answer))
 -- one turn of a run at `at`: at the end of the text it stops, else its next step is tried on what is left of the text
 unfoldable pub turnAt : Model → Text → ℕ → Come → Come
 turnAt m s at c =
-    elim (leb (length s) at) [ true ↦ turned at (c .far .fired) (markingIn c) (Off AtEnd) | false ↦ stepTurned at (c .far .fired) (heldStep m (markingIn c) (drop at s)) ]
+    elim (leb (length s) at) [ true ↦ turned at (c .far .fired) (markingIn c) (Off AtEnd) | false ↦ stepTurned at (c .far .fired) (heldStep roomLimit m (markingIn c) (drop at s)) ]
 
 -- what a turn at `at` asks: a held marking of a held model that is packed, the model's sizes, and no more steps fired than bytes used
 pub record Ready (plan sizes : List ℕ) (s : Text) (at : ℕ) (c : Come) : Type 0 where

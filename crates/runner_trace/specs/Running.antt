@@ -8,12 +8,13 @@ use Rattle.text.specs.Bytes.{Text, bytes}
 use Rattle.text.specs.Lines.{Outcome, got, bad, spotOf, readHead}
 use Rattle.eos.specs.Model as eos
 use Rattle.eos.specs.Causes.{Refusal}
+use Rattle.model.specs.Limits.{longest, roomLimit}
 use Rattle.model.specs.Held.{modelOf}
 use Rattle.model.specs.declared.Model.{Model}
 use Rattle.marking.specs.Held.{holdMarking, tokensOf}
 use Rattle.marking.specs.declared.Marking.{Marking}
 use Rattle.marking.specs.Sizes.{sizesFor}
-use Rattle.reader.specs.Answers.{pair, longest, heldBoth}
+use Rattle.reader.specs.Answers.{pair, heldBoth}
 use Rattle.runner.specs.declared.StepAnswer.{StepAnswer}
 use Rattle.runner.specs.declared.StepAnswer.the-variants as step
 use Rattle.runner_trace.specs.declared.Stop.{Stop}
@@ -52,7 +53,7 @@ onward rest n k (b ∷ s) (stops a) = ran n (stoppedBy a) k
 unfoldable pub runFrom : ℕ → Model → Marking → Text → ℕ → Ran
 runFrom zero m k s n = ran n AtEnd k
 runFrom (suc fuel) m k s n =
-    onward (λ used μ. runFrom fuel m (holdMarking μ) (drop used s) (n + 1)) n k s (tried (modelOf m) (sizesFor m) (tokensOf (sizesFor m) k) s)
+    onward (λ used μ. runFrom fuel m (holdMarking μ) (drop used s) (n + 1)) n k s (tried roomLimit (modelOf m) (sizesFor m) (tokensOf (sizesFor m) k) s)
 
 -- the header `run=1`, then steps; a refused header is named by its line
 unfoldable pub headed : Model → Marking → Text → Outcome (Unit {0}) → Ran

@@ -3,11 +3,12 @@ ghost use mathlib.Core.Path.{_≡_};
 ghost use mathlib.Core.Bool.{true};
 ghost use Prim.Native.Nat.{_≤_};
 ghost use lib.ListN.{length, drop};
+ghost use Rattle.model.specs.Limits.{longest};
 ghost use Rattle.model.specs.Held.{SizedModel};
 ghost use Rattle.model_packed.specs.Packed.{modelIn};
 ghost use Rattle.model_packed.specs.Layout.{packedLong};
 ghost use Rattle.marking.specs.Sizes.{sizesIn};
-ghost use Rattle.reader.specs.Answers.{longest, heldBoth};
+ghost use Rattle.reader.specs.Answers.{heldBoth};
 ghost use Rattle.runner_trace.specs.Parts.{stopIn, turnOf, TurnFits, progressOf, Ready, turnAt, reached};
 ghost use Rattle.runner_trace.specs.Running.{ran, runFrom, running};
 use marking::Marking;
@@ -119,7 +120,16 @@ fn turn_at<'s>(
         let end = Turn::Off { stop: Stop::AtEnd };
         return progress_of(at, p.fired, p.len, end);
     }
-    let end = step_on(plan, sizes, rows, p.len, &s[at..], taken, given);
+    let end = step_on(
+        Model::ROOM as usize,
+        plan,
+        sizes,
+        rows,
+        p.len,
+        &s[at..],
+        taken,
+        given,
+    );
     let answer = end.answer;
     progress_of(at, p.fired, end.len, turn_of(answer))
 }

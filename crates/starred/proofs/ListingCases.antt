@@ -17,13 +17,13 @@ use Rattle.model.specs.Rules.{touches, monotonous, keepsTypes, takesPart}
 use Rattle.model.specs.Held.{holdModel, holdNet, holdNets, holdEvent, holdEvents, tabled, modelOf, netOf, eventOf}
 use Rattle.model.specs.Test.{emptyPast, heldTypes, heldMoves, heldNet, heldNets, heldAct, heldEvent, emptyEvent, heldEvents, heldModel}
 use Rattle.model_text.specs.Reading.{readSides, readNet, readIdle, readMove, readAct, readSync, readEvent, readPlant}
-use Rattle.marking.specs.Held.{holdMarking, tokensOf, rightRow, heldMarking}
+use Rattle.marking.specs.Held.{holdMarking, tokensOf, rightRow, heldRows}
 use Rattle.marking.specs.Reading.{readNetToken, readBlock}
 use Rattle.marking.specs.Printed.{netTokenText, blockText}
 use Rattle.reader.specs.Reading.{readEnd, readLines, readModelAt}
 use Rattle.marking.specs.Sizes.{sizesIn}
-use Rattle.reader.specs.Answers.{heldBoth, loaded, modelFrom}
-use Rattle.step.specs.Reading.{readStep}
+use Rattle.reader.specs.Answers.{heldIn, loaded, modelFrom}
+use Rattle.step.specs.Reading.{readTaking, readStep}
 use Rattle.runner.specs.Answers.{stepJudged, readThen, tried}
 use Rattle.runner_trace.specs.Running.{onward, runFrom, headed, runWhereHeld, running}
 use Rattle.keeper.specs.Reading.{readInner, readWeightsAt}
@@ -49,9 +49,9 @@ pub listing-cases :
 unfolding listingText afterModel runText coverText sumText pairThen pairText traceFile weightsFile modelFile modelFrom loaded readModelAt readLines readEnd
     readPlant readEvent readSync readAct readMove readIdle readNet readSides keepsTypes
     weightsFrom weightsOr weighed judgedWeights turnedOr weightRefusal readWeightsAt readInner readWeights effect value weigh covers
-    running runWhereHeld headed runFrom onward heldBoth heldModel heldTypes heldMoves heldNets heldNet heldEvents heldEvent emptyEvent heldAct emptyPast monotonous
-    touches takesPart heldMarking rightRow holdModel holdNet holdNets holdEvent holdEvents tabled fill padded holdMarking modelOf netOf eventOf tokensOf sizesIn
-    tried readThen stepJudged readStep readBlock readNetToken readToken tokenAt countsAt readHead readNumber readList behind lines.judged many manyAt need then listEnd
+    running runWhereHeld headed runFrom onward heldIn heldModel heldTypes heldMoves heldNets heldNet heldEvents heldEvent emptyEvent heldAct emptyPast monotonous
+    touches takesPart heldRows rightRow holdModel holdNet holdNets holdEvent holdEvents tabled fill padded holdMarking modelOf netOf eventOf tokensOf sizesIn
+    tried readThen stepJudged readTaking readStep readBlock readNetToken readToken tokenAt countsAt readHead readNumber readList behind lines.judged many manyAt need then listEnd
     items item prepended ended stopOf number numberOf digits plainly negated signed starts newlines refusal causes first unless at outerTaken outerGiven innerTaken
     innerGiven outer inner outerOf innerOf blockText netTokenText numberText listText weightsText tokenText texts endText itemsText signedText decimal decimalOf
 listing-cases = (refl, refl, refl, refl)

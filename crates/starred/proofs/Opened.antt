@@ -16,15 +16,15 @@ use Rattle.model.specs.Rules.{touches, monotonous, keepsTypes, takesPart}
 use Rattle.model.specs.Held.{holdModel, holdNet, holdNets, holdEvent, holdEvents, tabled, modelOf, netOf, eventOf}
 use Rattle.model.specs.Test.{emptyPast, heldTypes, heldMoves, heldNet, heldNets, heldAct, heldEvent, emptyEvent, heldEvents, heldModel}
 use Rattle.model_text.specs.Reading.{readSides, readNet, readIdle, readMove, readAct, readSync, readEvent, readPlant}
-use Rattle.marking.specs.Held.{holdMarking, tokensOf, rightRow, heldMarking}
+use Rattle.marking.specs.Held.{holdMarking, tokensOf, rightRow, heldRows}
 use Rattle.marking.specs.Printed.{netTokenText, blockText, markingText}
 use Rattle.marking.specs.Reading.{readNetToken, readBlock}
 use Rattle.reader.specs.Reading.{readEnd, readLines, readModelAt}
 use Rattle.marking.specs.Sizes.{sizesIn}
 use Rattle.reader.specs.Answers as reader
-use Rattle.reader.specs.Answers.{loaded, restored, heldBoth, modelFrom, markingFrom}
-use Rattle.step.specs.Reading.{readStep}
-use Rattle.runner.specs.Answers.{stepJudged, readThen, tried, stepped, heldStep, whereHeld, stepping}
+use Rattle.reader.specs.Answers.{loaded, restored, heldBoth, modelFrom, markingFrom, heldIn}
+use Rattle.step.specs.Reading.{readTaking, readStep}
+use Rattle.runner.specs.Answers.{stepJudged, readThen, tried, stepped, heldStep, whereHeld, stepping, steppingIn}
 use Rattle.keeper.specs.Reading.{readInner, readWeightsAt}
 use Rattle.keeper.specs.Answers.{turnedOr, judgedWeights, weighed, weightsOr, weightsFrom}
 use Rattle.spread.specs.Call.{spreadCall}
@@ -38,13 +38,13 @@ lined = tt
 -- models, markings, steps, weight files
 unfoldable pub read : Unit {0}
 unfolding keepsTypes monotonous touches takesPart readSides readNet readIdle readMove readAct readSync readEvent readPlant readNetToken readBlock readEnd
-    readLines readModelAt readStep readInner readWeightsAt
+    readLines readModelAt readTaking readStep readInner readWeightsAt
 read = tt
 
 -- held models and markings, and their tests
 unfoldable pub held : Unit {0}
 unfolding padded fill tabled holdNet holdNets holdEvent holdEvents holdModel netOf eventOf modelOf holdMarking tokensOf sizesIn emptyPast heldTypes heldMoves
-    heldNet heldNets heldAct heldEvent emptyEvent heldEvents heldModel rightRow heldMarking heldBoth
+    heldNet heldNets heldAct heldEvent emptyEvent heldEvents heldModel rightRow heldRows heldIn
 held = tt
 
 -- the rule, the causes, the weights, the spread
@@ -60,6 +60,6 @@ written = tt
 
 -- the calls
 unfoldable pub opened : Unit {0}
-unfolding lined read held ruled written loaded modelFrom restored reader.markingOr markingFrom stepJudged readThen tried stepped heldStep whereHeld stepping
+unfolding lined read held ruled written loaded modelFrom restored reader.markingOr markingFrom stepJudged readThen tried stepped heldStep whereHeld steppingIn
     turnedOr judgedWeights weighed weightsOr weightsFrom spreadCall
 opened = tt

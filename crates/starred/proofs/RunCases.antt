@@ -14,14 +14,15 @@ use Rattle.eos.specs.Firing.{outer, inner, outerOf, innerOf, outerTaken, outerG
 use Rattle.eos.specs.Causes.{first, unless, at, causes, refusal}
 use Rattle.text.specs.Answers.{padded}
 use Rattle.text.specs.Repeat.{fill}
+use Rattle.model.specs.Limits.{roomLimit}
 use Rattle.model.specs.Held.{holdModel, holdNet, holdNets, holdEvent, holdEvents, tabled, modelOf, netOf, eventOf}
 use Rattle.model.specs.Rules.{touches, monotonous, takesPart}
 use Rattle.model.specs.Test.{emptyPast, heldTypes, heldMoves, heldNet, heldNets, heldAct, heldEvent, emptyEvent, heldEvents, heldModel}
-use Rattle.marking.specs.Held.{sizesOf, holdMarking, tokensOf, rightRow, heldMarking}
+use Rattle.marking.specs.Held.{sizesOf, holdMarking, tokensOf, rightRow, heldRows}
 use Rattle.marking.specs.Sizes.{sizesIn}
-use Rattle.reader.specs.Answers.{heldBoth}
+use Rattle.reader.specs.Answers.{heldBoth, heldIn}
 use Rattle.marking.specs.Reading.{readNetToken, readBlock}
-use Rattle.step.specs.Reading.{readStep}
+use Rattle.step.specs.Reading.{readTaking, readStep}
 use Rattle.runner.specs.declared.StepAnswer.the-variants.{Turned}
 use Rattle.runner_trace.specs.declared.Stop.the-variants as stop
 use Rattle.runner.specs.Answers.{fires, stops, stepJudged, readThen, tried}
@@ -46,10 +47,10 @@ abbrev start : Marking
 start = canonical (token 0 (1 ∷ 0 ∷ []) ∷ token 0 (0 ∷ 0 ∷ []) ∷ [])
 
 pub step-cases :
-    (tried listing (sizesOf listing) start (bytes "fire=1\ntake=1\ntoken=1:1,0\ngive=1\ntoken=2:0,1\n")
+    (tried roomLimit listing (sizesOf listing) start (bytes "fire=1\ntake=1\ntoken=1:1,0\ngive=1\ntoken=2:0,1\n")
     ≡ fires 45 (token 0 (0 ∷ 0 ∷ []) ∷ token 1 (0 ∷ 1 ∷ []) ∷ []))
-    × (tried listing (sizesOf listing) start (bytes "fire=1\ntake=1\ntoken=1:0,0\ngive=1\ntoken=2:0,0\n") ≡ stops (Turned 9 1))
-unfolding tried readThen stepJudged readStep readBlock readNetToken readToken tokenAt countsAt readNumber behind lines.judged many need then listEnd items item prepended
+    × (tried roomLimit listing (sizesOf listing) start (bytes "fire=1\ntake=1\ntoken=1:0,0\ngive=1\ntoken=2:0,0\n") ≡ stops (Turned 9 1))
+unfolding tried readThen stepJudged readTaking readStep readBlock readNetToken readToken tokenAt countsAt readNumber behind lines.judged many need then listEnd items item prepended
     ended stopOf number numberOf digits starts refusal causes first unless at outerTaken outerGiven innerTaken innerGiven outer inner outerOf innerOf
 step-cases = (refl, refl)
 
@@ -58,8 +59,8 @@ pub run-case :
     running (holdModel listing) (holdMarking start)
     (bytes "run=1\nfire=1\ntake=1\ntoken=1:1,0\ngive=1\ntoken=2:0,1\nfire=1\ntake=1\ntoken=1:0,0\ngive=1\ntoken=2:0,0\n")
     ≡ ran 1 (stop.Turned 9 1) (holdMarking (token 0 (0 ∷ 0 ∷ []) ∷ token 1 (0 ∷ 1 ∷ []) ∷ []))
-unfolding running runWhereHeld headed runFrom onward heldBoth heldModel heldTypes heldMoves heldNets heldNet heldEvents heldEvent emptyEvent heldAct emptyPast monotonous
-    touches takesPart heldMarking rightRow holdModel holdNet holdNets holdEvent holdEvents tabled fill padded holdMarking modelOf netOf eventOf tokensOf sizesIn
-    tried readThen stepJudged readStep readBlock readNetToken readToken tokenAt countsAt readHead readNumber behind lines.judged many need then listEnd items item
+unfolding running runWhereHeld headed runFrom onward heldIn heldModel heldTypes heldMoves heldNets heldNet heldEvents heldEvent emptyEvent heldAct emptyPast monotonous
+    touches takesPart heldRows rightRow holdModel holdNet holdNets holdEvent holdEvents tabled fill padded holdMarking modelOf netOf eventOf tokensOf sizesIn
+    tried readThen stepJudged readTaking readStep readBlock readNetToken readToken tokenAt countsAt readHead readNumber behind lines.judged many need then listEnd items item
     prepended ended stopOf number numberOf digits starts refusal causes first unless at outerTaken outerGiven innerTaken innerGiven outer inner outerOf innerOf
 run-case = refl

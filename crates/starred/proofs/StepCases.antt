@@ -11,10 +11,11 @@ use Rattle.text.specs.Printed.{decimalOf, decimal, itemsText, endText, texts, n
 use Rattle.text.specs.Token.{countsAt, tokenAt, readToken}
 use Rattle.eos.specs.Model.{NetToken, Marking}
 use Rattle.eos.specs.Firing.{Step}
+use Rattle.model.specs.Limits.{lineLimit, countLimit}
 use Rattle.marking.specs.Held.{Sizes}
 use Rattle.marking.specs.Printed.{netTokenText, blockText}
 use Rattle.marking.specs.Reading.{limits, free, readNetToken, readBlock}
-use Rattle.step.specs.Reading.{readStep}
+use Rattle.step.specs.Reading.{readTaking, readStep}
 use Rattle.step.specs.Printed.{stepText}
 
 -- two places with two counts each, as in the listing
@@ -38,13 +39,13 @@ abbrev large : Text
 large = bytes "fire=2\ntake=0\ngive=1\ntoken=2:70000,0\n"
 
 pub step-cases :
-    (readStep (limits 256 65535) listed 2 first 0 ≡ got (step 0 (token 0 (1 ∷ 0 ∷ []) ∷ []) (token 1 (0 ∷ 1 ∷ []) ∷ [])) 45)
+    (readStep (limits lineLimit countLimit) listed 2 first 0 ≡ got (step 0 (token 0 (1 ∷ 0 ∷ []) ∷ []) (token 1 (0 ∷ 1 ∷ []) ∷ [])) 45)
     × (readStep free listed 2 first 0 ≡ got (step 0 (token 0 (1 ∷ 0 ∷ []) ∷ []) (token 1 (0 ∷ 1 ∷ []) ∷ [])) 45)
-    × (readStep (limits 256 65535) listed 2 second 0 ≡ got (step 0 (token 0 (0 ∷ 0 ∷ []) ∷ []) (token 1 (0 ∷ 0 ∷ []) ∷ [])) 45)
+    × (readStep (limits lineLimit countLimit) listed 2 second 0 ≡ got (step 0 (token 0 (0 ∷ 0 ∷ []) ∷ []) (token 1 (0 ∷ 0 ∷ []) ∷ [])) 45)
     × (readStep free listed 2 second 0 ≡ got (step 0 (token 0 (0 ∷ 0 ∷ []) ∷ []) (token 1 (0 ∷ 0 ∷ []) ∷ [])) 45)
-    × (readStep (limits 256 65535) listed 2 large 0 ≡ bad (fault 3 21))
+    × (readStep (limits lineLimit countLimit) listed 2 large 0 ≡ bad (fault 3 21))
     × (readStep free listed 2 large 0 ≡ got (step 1 [] (token 1 (70000 ∷ 0 ∷ []) ∷ [])) 37)
-unfolding readStep readBlock readNetToken readToken tokenAt countsAt readNumber behind judged many need then listEnd items item prepended ended stopOf
+unfolding readTaking readStep readBlock readNetToken readToken tokenAt countsAt readNumber behind judged many need then listEnd items item prepended ended stopOf
     number numberOf digits starts
 step-cases = (refl, refl, refl, refl, refl, refl)
 

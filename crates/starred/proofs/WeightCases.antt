@@ -14,6 +14,7 @@ use Rattle.eos.specs.Model.{Marking, Transition, move, idle, Model}
 use Rattle.eos.specs.Firing.{outer, inner, outerOf, innerOf}
 use Rattle.eos.specs.Causes.{first, unless, at}
 use Rattle.eos.specs.Weights.{Weights, value, weigh, effect, covers, weightRefusal}
+use Rattle.model.specs.Limits.{coverLimit}
 use Rattle.reader.specs.Reading.{readEnd}
 use Rattle.keeper.specs.Printed.{weightFileText}
 use Rattle.keeper.specs.Reading.{readInner, readWeightsAt, readWeightFile}
@@ -49,10 +50,10 @@ read-cases = (refl, refl, refl, refl)
 
 -- 01: that model and weights have sum 3 and cover 1; outer weights 1,0 are turned down for event 1; all weights 0, for the last line
 pub judged-cases :
-    (judgedWeights listing start (weights (pos 1) (pos 1) (pos 1)) ≡ record { answer = Passed; sum = record { above = 3; below = 0 }; cover = true })
-    × (judgedWeights listing start (weights (pos 1) (pos 0) (pos 1)) ≡ refusedWeights (Turned 7 1))
-    × (judgedWeights listing start (weights (pos 0) (pos 0) (pos 0)) ≡ refusedWeights (Turned 6 3))
-    × (judgedWeights listing start (weights (negsuc 0) (negsuc 0) (pos 0)) ≡ record { answer = Passed; sum = record { above = 0; below = 2 }; cover = false })
+    (judgedWeights coverLimit listing start (weights (pos 1) (pos 1) (pos 1)) ≡ record { answer = Passed; sum = record { above = 3; below = 0 }; cover = true })
+    × (judgedWeights coverLimit listing start (weights (pos 1) (pos 0) (pos 1)) ≡ refusedWeights (Turned 7 1))
+    × (judgedWeights coverLimit listing start (weights (pos 0) (pos 0) (pos 0)) ≡ refusedWeights (Turned 6 3))
+    × (judgedWeights coverLimit listing start (weights (negsuc 0) (negsuc 0) (pos 0)) ≡ record { answer = Passed; sum = record { above = 0; below = 2 }; cover = false })
 unfolding judgedWeights turnedOr weightRefusal first unless at effect value weigh covers outer inner outerOf innerOf
 judged-cases = (refl, refl, refl, refl)
 

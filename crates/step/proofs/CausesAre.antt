@@ -109,10 +109,10 @@ module _ (m : Model) (right : rightModel m ≡ true) (s : Step) (of : StepOf m s
         omega (arith, length-append (M.less like μ (s .taken)) (s .given), length-less like alike (s .taken) μ w)
 
     -- the same tests over rows
-    rows-are : T (M.every (proper m) μ) → causesIn (holdRule m (s .event)) (map tokenRow (s .taken)) (map tokenRow (s .given)) (map tokenRow μ)
-        ≡ before ++ (unless (leb (length μ - length (s .taken) + length (s .given)) 256) crowded ∷ [])
+    rows-are : (room : ℕ) → T (M.every (proper m) μ) → causesIn room (holdRule m (s .event)) (map tokenRow (s .taken)) (map tokenRow (s .given)) (map tokenRow μ)
+        ≡ before ++ (unless (leb (length μ - length (s .taken) + length (s .given)) room) crowded ∷ [])
     unfolding causesIn outerCauses innerCauses markingCauses holdRule outerTaken outerGiven
-    rows-are h =
+    rows-are room h =
         let q = holdRule m (s .event) in
         let ev = event m (s .event) in
         let taken = map tokenRow (s .taken) in
@@ -125,10 +125,10 @@ module _ (m : Model) (right : rightModel m ≡ true) (s : Step) (of : StepOf m s
         rw (o, p, a, b, l, length-map (s .taken) tokenRow, length-map (s .given) tokenRow, length-map μ tokenRow)
 
   -- the rows meet the cause that the step meets
-  pub causes-are : (μ : Marking) → T (M.every (proper m) μ)
-      → first (causesIn (holdRule m (s .event)) (map tokenRow (s .taken)) (map tokenRow (s .given)) (map tokenRow μ)) ≡ refusal hasRoom m s μ
-  causes-are μ h =
-      ap first (rows-are μ h)
-      ∙ first-last (before μ) (unless (leb (length μ - length (s .taken) + length (s .given)) 256) crowded) (unless (hasRoom (after s μ)) crowded)
-      (λ e. ap (λ (n : ℕ). unless (leb n 256) crowded) (sym (left μ e)))
-      ∙ sym (refusal-is μ hasRoom)
+  pub causes-are : (room : ℕ) (μ : Marking) → T (M.every (proper m) μ)
+      → first (causesIn room (holdRule m (s .event)) (map tokenRow (s .taken)) (map tokenRow (s .given)) (map tokenRow μ)) ≡ refusal (hasRoom room) m s μ
+  causes-are room μ h =
+      ap first (rows-are μ room h)
+      ∙ first-last (before μ) (unless (leb (length μ - length (s .taken) + length (s .given)) room) crowded) (unless (hasRoom room (after s μ)) crowded)
+      (λ e. ap (λ (n : ℕ). unless (leb n room) crowded) (sym (left μ e)))
+      ∙ sym (refusal-is μ (hasRoom room))

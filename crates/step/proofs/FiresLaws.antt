@@ -28,8 +28,8 @@ rest-none : (a l : List (Option Cause)) → first (a ++ l) ≡ none → first l 
 rest-none [] l e = e
 rest-none (o ∷ a) l e = rest-none a l (first-none o (a ++ l) e .1)
 
-module _ (t : ℕ) (q : Rule) (taken given rows : List Row) (fires : verdictOf t (first (causesIn q taken given rows)) ≡ Fires) where
-  last : (lackingRows rows 0 [] taken ≡ none) × T (leb (length rows - length taken + length given) 256)
+module _ (room t : ℕ) (q : Rule) (taken given rows : List Row) (fires : verdictOf t (first (causesIn room q taken given rows)) ≡ Fires) where
+  last : (lackingRows rows 0 [] taken ≡ none) × T (leb (length rows - length taken + length given) room)
   unfolding causesIn markingCauses
   last =
       let m = rest-none (innerCauses q taken given) _ (rest-none (outerCauses (q .pre) (q .post) taken given) _ (none-met t _ fires)) in
@@ -42,5 +42,5 @@ module _ (t : ℕ) (q : Rule) (taken given rows : List Row) (fires : verdictOf t
   fires-within x = omega (arith, lacking-within rows 0 [] taken (λ y. omega arith) (last .0) x)
 
   -- it has room for those given
-  pub fires-room : length rows - length taken + length given ≤ 256
-  fires-room = leb→le (length rows - length taken + length given) 256 (last .1)
+  pub fires-room : length rows - length taken + length given ≤ room
+  fires-room = leb→le (length rows - length taken + length given) room (last .1)

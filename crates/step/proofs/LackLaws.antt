@@ -11,9 +11,10 @@ use lib.ListN.{length, getD, take, drop, drop-of-length-le}
 use lib.Seq.{drop-cons}
 use Rattle.eos.specs.Vector.{eqV}
 use Rattle.eos.specs.Multiset.{bit, count, Within}
+use Rattle.eos.specs.Causes.{numbered}
 use Rattle.eos.proofs.Basics.{true-is, some-not}
 use Rattle.eos.proofs.VectorLaws.{eqV-eq, eqV-refl}
-use Rattle.eos.proofs.MultisetLaws.{Likeness, bit-self}
+use Rattle.eos.proofs.MultisetLaws.{Likeness, bit-self, length-less}
 use Rattle.marking.specs.Rows.{Row, rowsIn}
 use Rattle.marking.proofs.RowLaws.{length-rows, row-at}
 use Rattle.step.specs.Verdict.{lackingRows}
@@ -105,3 +106,12 @@ lacking-within rows i seen (r ∷ l) h e x = go (leb (count eqV r (r ∷ seen)) 
         → count eqV x seen + count eqV x (r ∷ l) ≤ count eqV x rows
     go true q e f = omega (arith, f (more (leb→le (count eqV r (r ∷ seen)) (count eqV r rows) (true-is q))) e x)
     go false q e f = some-not e
+
+none-lacking : (o : Option ℕ) → numbered o ≡ 0 → o ≡ none
+none-lacking none e = refl
+none-lacking (some i) e = absurd (omega arith)
+
+-- a marking that lacks none of the rows taken has at least as many
+pub lacking-fewer : (rows l : List Row) → numbered (lackingRows rows 0 [] l) ≡ 0 → length l ≤ length rows
+lacking-fewer rows l e =
+    omega (arith, length-less eqV alike l rows (λ x. omega (arith, lacking-within rows 0 [] l (λ y. omega arith) (none-lacking _ e) x)))

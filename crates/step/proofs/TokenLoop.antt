@@ -16,6 +16,7 @@ use Rattle.text.specs.declared.Ended.the-variants.{Past, Stopped}
 use Rattle.text.proofs.Loops.{got-of, bad-of, loop-turn, loop-bad, loop-done}
 use Rattle.text.proofs.PaddedLaws.{length-padded}
 use Rattle.eos.specs.Model as eos
+use Rattle.model.specs.Limits.{lineLimit, countLimit}
 use Rattle.marking.specs.Rows.{Row, rowsIn}
 use Rattle.marking.specs.Held.{Sizes, tokenRow}
 use Rattle.marking.specs.Reading.{Limits, limits, readNetToken, readBlock}
@@ -89,15 +90,15 @@ module _ (lim : Limits) (z : Sizes) (s : Text) where
 
 module _ (key : Text) (z : Sizes) (s : Text) (at : ℕ) where
   -- their number is refused
-  pub tokens-refused : (d : Fault) → readNumber key (inRange 0 256) s at ≡ bad d → noRows (Stopped d) ≡ tokenRows (readBlock key (limits 256 65535) z s at)
+  pub tokens-refused : (d : Fault) → readNumber key (inRange 0 lineLimit) s at ≡ bad d → noRows (Stopped d) ≡ tokenRows (readBlock key (limits lineLimit countLimit) z s at)
   unfolding readBlock then tokenRows
-  tokens-refused d e = rw (sym (counted key z s at (bad d) (sym e)))
+  tokens-refused d e = rw (sym (counted key lineLimit z s at (bad d) (sym e)))
 
   -- their number is read, and they follow
-  pub tokens-counted : (n next : ℕ) → readNumber key (inRange 0 256) s at ≡ got n next
-      → many (readNetToken (limits 256 65535) z s) n next ≡ readBlock key (limits 256 65535) z s at
+  pub tokens-counted : (n next : ℕ) → readNumber key (inRange 0 lineLimit) s at ≡ got n next
+      → many (readNetToken (limits lineLimit countLimit) z s) n next ≡ readBlock key (limits lineLimit countLimit) z s at
   unfolding readBlock then
-  tokens-counted n next e = rw (sym (counted key z s at (got n next) (sym e)))
+  tokens-counted n next e = rw (sym (counted key lineLimit z s at (got n next) (sym e)))
 
 -- ---- their answer taken apart
 

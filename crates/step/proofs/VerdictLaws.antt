@@ -17,6 +17,7 @@ use Rattle.step.specs.declared.Verdict.the-variants.{Fires, Turned}
 use Rattle.step.specs.Verdict.{outerRows, innerTakenIn, innerGivenIn, lackingRows, outerCauses, innerCauses, markingCauses, causesIn, causePair, verdictOf}
 use Rattle.step.specs.VerdictParts.{Inner, evenIn}
 use Rattle.step.proofs.FirstFailing.{failing-same}
+use Rattle.step.proofs.LackLaws.{lacking-fewer}
 
 pub never : {A : Type 0} (n b : ℕ) → Turned n b ≡ Fires → A
 never n b e = let z : _≡_ {A = ℕ} 0 1 = cc in absurd (omega arith)
@@ -136,9 +137,9 @@ module _ (q : Rule) (taken : List Row) (held : List ℕ) (few : q .nets ≤ 8) (
       (λ i k. rw (h .rows i (omega arith), m .rows i (omega arith)))
 
 -- ---- the tests on the marking
-module _ (t : ℕ) (taken : List Row) (give : ℕ) (rows : List Row) where
+module _ (room t : ℕ) (taken : List Row) (give : ℕ) (rows : List Row) where
   abbrev pub on-marking : Verdict
-  on-marking = answer t (markingCauses taken give rows)
+  on-marking = answer t (markingCauses room taken give rows)
 
   abbrev lacks : Option ℕ
   lacks = lackingRows rows 0 [] taken
@@ -150,23 +151,26 @@ module _ (t : ℕ) (taken : List Row) (give : ℕ) (rows : List Row) where
       stop-at t missing _ lacks v e h ∙ ap (Turned 11) k
 
   module _ (a : numbered lacks ≡ 0) where
-    pub stop-crowded : 256 + length taken < length rows + give → on-marking ≡ Turned 12 (t + 3)
+    pub stop-crowded : room + length taken < length rows + give → on-marking ≡ Turned 12 (t + 3)
     unfolding markingCauses verdictOf
     stop-crowded h =
         let k : 3 + t ≡ t + 3 = omega arith in
-        skip-at t missing _ lacks a ∙ stop t crowded [] _ (lt-leb (length rows - length taken + give) 256 (omega arith)) ∙ ap (Turned 12) k
+        skip-at t missing _ lacks a ∙ stop t crowded [] _ (lt-leb (length rows - length taken + give) room (omega arith)) ∙ ap (Turned 12) k
 
-    pub pass-marking : give ≤ 256 → length rows + give ≤ 256 + length taken → on-marking ≡ Fires
+    pub pass-marking : length rows + give ≤ room + length taken → on-marking ≡ Fires
     unfolding markingCauses
-    pass-marking g h = skip-at t missing _ lacks a ∙ skip t crowded [] _ (le-leb (length rows - length taken + give) 256 (omega arith)) ∙ nothing t
+    pass-marking h =
+        skip-at t missing _ lacks a
+        ∙ skip t crowded [] _ (le-leb (length rows - length taken + give) room (omega (arith, lacking-fewer rows taken a)))
+        ∙ nothing t
 
 -- ---- the parts in turn
-module _ (t : ℕ) (q : Rule) (taken given rows : List Row) where
+module _ (room t : ℕ) (q : Rule) (taken given rows : List Row) where
   abbrev in-turn : Verdict
-  in-turn = answer t (causesIn q taken given rows)
+  in-turn = answer t (causesIn room q taken given rows)
 
   abbrev behind-places : List (Option Cause)
-  behind-places = innerCauses q taken given ++ markingCauses taken (length given) rows
+  behind-places = innerCauses q taken given ++ markingCauses room taken (length given) rows
 
   module _ (u : Verdict) (is : u ≡ on-places t (q .pre) (q .post) taken given) where
     -- turned down on the places
@@ -182,11 +186,11 @@ module _ (t : ℕ) (q : Rule) (taken given rows : List Row) where
       module _ (v : Verdict) (says : v ≡ on-nets t q taken given) where
         -- on the nets
         pub by-nets : {n k : ℕ} → v ≡ Turned n k → v ≡ in-turn
-        by-nets f = f ∙ sym (turns t (markingCauses taken (length given) rows) (innerCauses q taken given) (sym says ∙ f)) ∙ places-passed
+        by-nets f = f ∙ sym (turns t (markingCauses room taken (length given) rows) (innerCauses q taken given) (sym says ∙ f)) ∙ places-passed
 
         -- and else it is for the marking to say
-        pub by-marking : v ≡ Fires → (give : ℕ) → length given ≡ give → (w : Verdict) → w ≡ on-marking t taken give rows → w ≡ in-turn
+        pub by-marking : v ≡ Fires → (give : ℕ) → length given ≡ give → (w : Verdict) → w ≡ on-marking room t taken give rows → w ≡ in-turn
         by-marking f give l w h =
-            h ∙ ap (λ (g : ℕ). on-marking t taken g rows) (sym l)
-            ∙ sym (goes-on t (markingCauses taken (length given) rows) (innerCauses q taken given) (sym says ∙ f))
+            h ∙ ap (λ (g : ℕ). on-marking room t taken g rows) (sym l)
+            ∙ sym (goes-on t (markingCauses room taken (length given) rows) (innerCauses q taken given) (sym says ∙ f))
             ∙ places-passed

@@ -10,11 +10,17 @@ use Rattle.eos.specs.Firing.{Step}
 use Rattle.marking.specs.Rows.{Row}
 use Rattle.marking.specs.Held.{tokenRow}
 use Rattle.step.specs.declared.TokenLines.{TokenLines}
+use Rattle.step.specs.Reading.{Taking}
+use Rattle.step.specs.declared.TakeLines.{TakeLines}
 use Rattle.step.specs.declared.StepLines.{StepLines}
 
 -- no step, and how its reading ended
 abbrev pub noStep : Ended → StepLines
 noStep e = record { ended = e; event = 0; take = 0; give = 0 }
+
+-- nothing taken, and how the reading ended
+abbrev pub noTaking : Ended → TakeLines
+noTaking e = record { ended = e; event = 0; take = 0 }
 
 -- what the lines of net-tokens say, as the code keeps it
 pub record TokenRows : Type 0 where
@@ -24,6 +30,15 @@ pub record TokenRows : Type 0 where
 unfoldable pub tokenRows : Outcome eos.Marking → TokenRows
 tokenRows (got ts next) = record { lines = record { ended = Past next; count = length ts }; rows = map tokenRow ts }
 tokenRows (bad e) = record { lines = record { ended = Stopped e; count = 0 }; rows = [] }
+
+-- what a step's lines say up to those that it takes, as the code keeps it
+pub record TakeRows : Type 0 where
+  pub lines : TakeLines
+  pub taken : List Row
+
+unfoldable pub takeRows : Outcome Taking → TakeRows
+takeRows (got t next) = record { lines = record { ended = Past next; event = t .event; take = length (t .taken) }; taken = map tokenRow (t .taken) }
+takeRows (bad e) = record { lines = noTaking (Stopped e); taken = [] }
 
 -- what a step's lines say, as the code keeps it
 pub record StepRows : Type 0 where

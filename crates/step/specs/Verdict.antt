@@ -43,9 +43,9 @@ abbrev pub lackingRows : List Row → ℕ → List Row → List Row → Option �
 lackingRows rows i seen [] = none
 lackingRows rows i seen (r ∷ l) = cond (leb (M.count eqV r (r ∷ seen)) (M.count eqV r rows)) (lackingRows rows (suc i) (r ∷ seen) l) (some i)
 
--- room for 256 net-tokens, the test of 12
-abbrev pub hasRoom : Marking → Bool
-hasRoom μ = leb (length μ) 256
+-- room for so many net-tokens, the test of 12
+abbrev pub hasRoom : ℕ → Marking → Bool
+hasRoom room μ = leb (length μ) room
 
 -- the tests of a step in three parts: on the places of the system net (8)
 unfoldable pub outerCauses : Sides → Sides → List Row → List Row → List (Option Cause)
@@ -61,16 +61,16 @@ innerCauses q taken given =
     ∷ at unequal (failing (q .nets) 0 (innerGivenIn q taken given))
     ∷ []
 
--- on the marking, where `give` net-tokens are given (11 and 12)
-unfoldable pub markingCauses : List Row → ℕ → List Row → List (Option Cause)
-markingCauses taken give rows =
+-- on the marking, with its room, where `give` net-tokens are given (11 and 12)
+unfoldable pub markingCauses : ℕ → List Row → ℕ → List Row → List (Option Cause)
+markingCauses room taken give rows =
     at missing (lackingRows rows 0 [] taken)
-    ∷ unless (leb (length rows - length taken + give) 256) crowded
+    ∷ unless (leb (length rows - length taken + give) room) crowded
     ∷ []
 
 -- all tests of a step in their order
-unfoldable pub causesIn : Rule → List Row → List Row → List Row → List (Option Cause)
-causesIn q taken given rows = outerCauses (q .pre) (q .post) taken given ++ (innerCauses q taken given ++ markingCauses taken (length given) rows)
+unfoldable pub causesIn : ℕ → Rule → List Row → List Row → List Row → List (Option Cause)
+causesIn room q taken given rows = outerCauses (q .pre) (q .post) taken given ++ (innerCauses q taken given ++ markingCauses room taken (length given) rows)
 
 -- 01's table: a cause's number, and what stands beside it. Nets are numbered from 1, lines from the step's `fire` line: `take` is line 2,
 -- its `lines` token lines follow, then `give`

@@ -14,6 +14,13 @@ pub struct TokenLines {
     pub count: usize,
 }
 
+// How the reading of a step up to what it takes ended, its event, from 0, and how many net-tokens it takes; a refusal has none.
+pub struct TakeLines {
+    pub ended: Ended,
+    pub event: usize,
+    pub take: usize,
+}
+
 // How the reading of a step ended, its event, from 0, and how many net-tokens it takes and gives; a refusal has none.
 pub struct StepLines {
     pub ended: Ended,

@@ -45,7 +45,7 @@ pub fn change(
     given: &[u16],
     give: usize,
 )
-    requires { ⌜ Kept len (now rows) × M.Within eqV (rowsIn take (now taken)) (rowsIn len (now rows)) × (length (now taken) ≡ rowsRoom) × (length (now given) ≡ rowsRoom) × (take ≤ 256) × (give ≤ 256) × (len - take + give ≤ 256) ⌝ }
+    requires { ⌜ Kept len (now rows) × M.Within eqV (rowsIn take (now taken)) (rowsIn len (now rows)) × (length (now taken) ≡ rowsRoom) × (length (now given) ≡ rowsRoom) × (take ≤ roomLimit) × (give ≤ roomLimit) × (len - take + give ≤ roomLimit) ⌝ }
     ensures { λ _. ⌜ now (rows .exit) ≡ laid (M.sort lexV (M.less eqV (rowsIn len (now (rows .entry))) (rowsIn take (now (taken .entry))) ++ rowsIn give (now (given .entry)))) ⌝ }
 {
     take_rows(rows, len, taken, take);

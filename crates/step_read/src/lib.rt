@@ -7,14 +7,15 @@ ghost use Rattle.model.specs.Limits.{lineLimit, countLimit};
 ghost use Rattle.marking.specs.Rows.{rowsIn};
 ghost use Rattle.marking.specs.Held.{sizesAt, Roomy};
 ghost use Rattle.marking.specs.Reading.{limits, readNetToken, readBlock};
-ghost use Rattle.step.specs.Reading.{readStep};
-ghost use Rattle.step.specs.Answers.{noStep, tokenRows, stepRows};
+ghost use Rattle.step.specs.Reading.{readTaking, readStep};
+ghost use Rattle.step.specs.Answers.{noTaking, noStep, tokenRows, takeRows, stepRows};
 use marking::Marking;
 use marking::NetToken;
 use marking_edit::put_row;
 use marking_read::token_row;
 use model::Model;
 use step::StepLines;
+use step::TakeLines;
 use step::TokenLines;
 use text::Ended;
 use text::Line;
@@ -79,6 +80,46 @@ fn tokens_after(
     rows_at(s, next, places, sizes, value as usize, rows)
 }
 
+// Nothing taken, and how the reading ended.
+fn no_taking(ended: Ended) -> TakeLines
+    ensures { λ r. ⌜ r ≡ noTaking ended ⌝ }
+{
+    TakeLines {
+        ended,
+        event: 0,
+        take: 0,
+    }
+}
+
+// The lines of a step up to those that it takes: its event, from 1 to `events`, and the net-tokens taken. `taken` is room for their rows;
+// what stands there past the rows, and after a refusal, is left open.
+pub fn read_taking(
+    s: &[u8],
+    at: usize,
+    events: u16,
+    places: u16,
+    sizes: [u8; 32],
+    taken: &mut [u16; Marking::ROWS],
+) -> TakeLines
+    requires { ⌜ Roomy (sizesAt places sizes) ⌝ }
+    ensures { λ r. ⌜ record { lines = r; taken = rowsIn (r .take) (now (taken .exit)) } ≡ takeRows (readTaking (limits lineLimit countLimit) (sizesAt places sizes) events (now (s .entry)) at) ⌝ }
+{
+    let line = number_line(s, at, b"fire=", 1, events);
+    let Line::Value { value, next } = line else {
+        return no_taking(ended_of(line));
+    };
+    let take = tokens_after(s, next, b"take=", places, sizes, taken);
+    let ended = take.ended;
+    let Ended::Past { next: _ } = ended else {
+        return no_taking(ended);
+    };
+    TakeLines {
+        ended,
+        event: value as usize - 1,
+        take: take.count,
+    }
+}
+
 // No step, and how its reading ended.
 fn no_step(ended: Ended) -> StepLines
     ensures { λ r. ⌜ r ≡ noStep ended ⌝ }
@@ -92,7 +133,7 @@ fn no_step(ended: Ended) -> StepLines
 }
 
 // The lines of a step: its event, from 1 to `events`, and the net-tokens that it takes and gives. `taken` and `given` are room for their
-// rows; what stands there past the rows, and after a refusal, is left open.
+// rows, left as above.
 pub fn read_step(
     s: &[u8],
     at: usize,
@@ -105,24 +146,20 @@ pub fn read_step(
     requires { ⌜ Roomy (sizesAt places sizes) ⌝ }
     ensures { λ r. ⌜ record { lines = r; taken = rowsIn (r .take) (now (taken .exit)); given = rowsIn (r .give) (now (given .exit)) } ≡ stepRows (readStep (limits lineLimit countLimit) (sizesAt places sizes) events (now (s .entry)) at) ⌝ }
 {
-    let line = number_line(s, at, b"fire=", 1, events);
-    let Line::Value { value, next } = line else {
-        return no_step(ended_of(line));
-    };
-    let take = tokens_after(s, next, b"take=", places, sizes, taken);
+    let take = read_taking(s, at, events, places, sizes, taken);
     let read = take.ended;
-    let Ended::Past { next: then } = read else {
+    let Ended::Past { next } = read else {
         return no_step(read);
     };
-    let give = tokens_after(s, then, b"give=", places, sizes, given);
+    let give = tokens_after(s, next, b"give=", places, sizes, given);
     let ended = give.ended;
     let Ended::Past { next: _ } = ended else {
         return no_step(ended);
     };
     StepLines {
         ended,
-        event: value as usize - 1,
-        take: take.count,
+        event: take.event,
+        take: take.take,
         give: give.count,
     }
 }

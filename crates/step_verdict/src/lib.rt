@@ -79,25 +79,32 @@ pub fn on_nets<'a>(
     Verdict::Fires
 }
 
-// The tests on the marking (11 and 12): it has the net-tokens taken, and room for those given.
-pub fn on_marking(taken: &[u16], take: usize, give: usize, rows: &[u16], len: usize) -> Verdict
-    requires { ⌜ (take ≤ roomLimit) × (length (now taken) ≡ rowsRoom) × (give ≤ roomLimit) × Kept len (now rows) ⌝ }
-    ensures { λ r. ⌜ r ≡ verdictOf take (first (markingCauses (rowsIn take (now (taken .entry))) give (rowsIn len (now (rows .entry))))) ⌝ }
+// The tests on the marking (11 and 12): it has the net-tokens taken, and of its room there is enough for those given.
+pub fn on_marking(
+    room: usize,
+    taken: &[u16],
+    take: usize,
+    give: usize,
+    rows: &[u16],
+    len: usize,
+) -> Verdict
+    requires { ⌜ (room ≤ roomLimit) × (take ≤ roomLimit) × (length (now taken) ≡ rowsRoom) × (give ≤ roomLimit) × Kept len (now rows) ⌝ }
+    ensures { λ r. ⌜ r ≡ verdictOf take (first (markingCauses room (rowsIn take (now (taken .entry))) give (rowsIn len (now (rows .entry))))) ⌝ }
 {
     let lacks = lacking(taken, take, rows, len);
     if lacks != 0 {
         return turned(11, lacks + 2);
     }
-    let most = Model::ROOM as usize;
-    if most + take < len + give {
+    if room + take < len + give {
         return turned(12, take + 3);
     }
     Verdict::Fires
 }
 
 // Why a step is turned down, or that it fires: an event with the sides `pre` and `post`, of a model that is packed; `take` rows of `taken`
-// and `give` rows of `given`, on a marking of `len` rows. The three parts are asked in turn.
+// and `give` rows of `given`, on a marking of `len` rows with its room. The three parts are asked in turn.
 pub fn verdict<'a>(
+    room: usize,
     plan: &[u8],
     pre: &'a [u64],
     post: &'a [u64],
@@ -108,8 +115,8 @@ pub fn verdict<'a>(
     rows: &[u16],
     len: usize,
 ) -> Verdict
-    requires { ⌜ SidesLent (now plan) (now pre) (now post) × Placed take (now taken) × Placed give (now given) × Kept len (now rows) ⌝ }
-    ensures { λ r. ⌜ r ≡ verdictOf take (first (causesIn (ruleIn (now (plan .entry)) (now (pre .entry)) (now (post .entry))) (rowsIn take (now (taken .entry))) (rowsIn give (now (given .entry))) (rowsIn len (now (rows .entry))))) ⌝ }
+    requires { ⌜ (room ≤ roomLimit) × SidesLent (now plan) (now pre) (now post) × Placed take (now taken) × Placed give (now given) × Kept len (now rows) ⌝ }
+    ensures { λ r. ⌜ r ≡ verdictOf take (first (causesIn room (ruleIn (now (plan .entry)) (now (pre .entry)) (now (post .entry))) (rowsIn take (now (taken .entry))) (rowsIn give (now (given .entry))) (rowsIn len (now (rows .entry))))) ⌝ }
 {
     let outer = on_places(pre, post, taken, take, given, give);
     let Verdict::Fires = outer else {
@@ -119,5 +126,5 @@ pub fn verdict<'a>(
     let Verdict::Fires = inner else {
         return inner;
     };
-    on_marking(taken, take, give, rows, len)
+    on_marking(room, taken, take, give, rows, len)
 }

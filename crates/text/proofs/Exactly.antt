@@ -79,6 +79,11 @@ module _ {A B : Type 0} where
     pub rest : f value next ≡ got b end
 
   -- what is accepted of two readings in a row was accepted by each
+  pub then-then : {C : Type 0} (o : Outcome A) (f : A → ℕ → Outcome B) (g : B → ℕ → Outcome C) → then (then o f) g ≡ then o (λ a x. then (f a x) g)
+  unfolding then
+  then-then (got a u) f g = refl
+  then-then (bad d) f g = refl
+
   pub then-got : (o : Outcome A) (f : A → ℕ → Outcome B) (b : B) (end : ℕ) → then o f ≡ got b end → Then o f b end
   unfolding then
   then-got (got a u) f b end e = record { value = a; next = u; first = refl; rest = e }

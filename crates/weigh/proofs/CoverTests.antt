@@ -26,16 +26,16 @@ low-some w n p q h =
     let e : nth (take n w) i ≡ nth w i = getD-take n w i 0 (omega arith) in
     omega (arith, ltb-true 0 (nth w i) (below-at n (someAt w) h i (omega arith)))
 
-module _ (places nets : ℕ) (objects : List ObjectNet) (w : List ℕ) (sum : ℕ) where
-  pub cover-lacks : allBelow places (someAt w) ≡ false → false ≡ covered places nets objects w sum
+module _ (most places nets : ℕ) (objects : List ObjectNet) (w : List ℕ) (sum : ℕ) where
+  pub cover-lacks : allBelow places (someAt w) ≡ false → false ≡ covered most places nets objects w sum
   unfolding covered
   cover-lacks h = rw h
 
   module _ (some : allBelow places (someAt w) ≡ true) (low : ℕ) (is : low ≡ lowest (take places w)) where
-    pub cover-many : 256 < sum / low → false ≡ covered places nets objects w sum
+    pub cover-many : most < sum / low → false ≡ covered most places nets objects w sum
     unfolding covered
-    cover-many h = rw (some, ← is, lt-leb (sum / low) 256 h)
+    cover-many h = rw (some, ← is, lt-leb (sum / low) most h)
 
-    pub cover-rest : sum / low ≤ 256 → (t : Bool) → t ≡ allBelow nets (netCovered sum w objects) → t ≡ covered places nets objects w sum
+    pub cover-rest : sum / low ≤ most → (t : Bool) → t ≡ allBelow nets (netCovered sum w objects) → t ≡ covered most places nets objects w sum
     unfolding covered
-    cover-rest h t e = rw (some, ← is, le-leb (sum / low) 256 h) e
+    cover-rest h t e = rw (some, ← is, le-leb (sum / low) most h) e

@@ -13,6 +13,7 @@ use borrow.Author.Tests.{eq-eqb, ne-eqb, lt-ltb, le-ltb}
 use Rattle.eos.specs.Firing.{allBelow}
 use Rattle.eos.specs.Causes.{failing, numbered}
 use Rattle.text.proofs.Basics.{by-test}
+use Rattle.model.specs.Limits.{countLimit}
 use Rattle.model.specs.Held.{noNet}
 use Rattle.model.specs.declared.ObjectNet.{ObjectNet}
 use Rattle.weigh.specs.Sums.{total, leastAfter, lowest, someAt, enoughAt, netCovered}
@@ -77,10 +78,10 @@ lowest-next l n i low r p q k h e =
 
 -- ---- one weight
 
-pub not-enough : (sum w : ℕ) → w ≡ 0 → false ≡ (ltb 0 w && leb (sum / w) 65535)
+pub not-enough : (sum w : ℕ) → w ≡ 0 → false ≡ (ltb 0 w && leb (sum / w) countLimit)
 not-enough sum w e = rw e
 
-pub is-enough : (sum w : ℕ) → (w ≡ 0 → ⊥) → leb (sum / w) 65535 ≡ (ltb 0 w && leb (sum / w) 65535)
+pub is-enough : (sum w : ℕ) → (w ≡ 0 → ⊥) → leb (sum / w) countLimit ≡ (ltb 0 w && leb (sum / w) countLimit)
 is-enough sum w h = let p : 0 < w = omega (arith, h) in rw (lt-ltb 0 w p)
 
 -- ---- a move's gain

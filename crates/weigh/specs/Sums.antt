@@ -6,6 +6,7 @@ use mathlib.Core.List.{List, [], _∷_}
 use lib.Dec.{eqb, ltb, leb}
 use lib.ListN.{length, take, getD}
 use Rattle.eos.specs.Firing.{allBelow}
+use Rattle.model.specs.Limits.{countLimit}
 use Rattle.model.specs.Rules.{nth}
 use Rattle.model.specs.Held.{noNet, noEvent}
 use Rattle.model.specs.declared.ObjectNet.{ObjectNet}
@@ -110,11 +111,12 @@ someAt w i = ltb 0 (nth w i)
 
 -- the weight at i is not 0, and the sum divided by it is at most a count's limit
 abbrev pub enoughAt : ℕ → List ℕ → ℕ → ℕ → Bool
-enoughAt sum w i k = ltb 0 (nth w (i + k)) && leb (sum / nth w (i + k)) 65535
+enoughAt sum w i k = ltb 0 (nth w (i + k)) && leb (sum / nth w (i + k)) countLimit
 
 abbrev pub netCovered : ℕ → List ℕ → List ObjectNet → ℕ → Bool
 netCovered sum w objects n = allBelow (getD objects n noNet .places) (enoughAt sum w (n * 32 + 32))
 
-unfoldable pub covered : ℕ → ℕ → List ObjectNet → List ℕ → ℕ → Bool
-covered places nets objects w sum =
-    allBelow places (someAt w) && (leb (sum / lowest (take places w)) 256 && allBelow nets (netCovered sum w objects))
+-- all weights are at least 1, the sum divided by the least outer weight is at most `most`, and the nets are covered
+unfoldable pub covered : ℕ → ℕ → ℕ → List ObjectNet → List ℕ → ℕ → Bool
+covered most places nets objects w sum =
+    allBelow places (someAt w) && (leb (sum / lowest (take places w)) most && allBelow nets (netCovered sum w objects))

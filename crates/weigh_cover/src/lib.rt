@@ -86,17 +86,23 @@ fn nets_enough(sum: u64, w: &[u16], n: usize, objects: [ObjectNet; 8]) -> bool
     true
 }
 
-// Whether all weights are at least 1, the sum divided by the least outer weight is at most the limit of net-tokens, and divided by each
-// inner weight at most the limit of a count.
-pub fn covers(places: usize, nets: usize, objects: [ObjectNet; 8], w: [u16; 288], sum: u64) -> bool
+// Whether all weights are at least 1, the sum divided by the least outer weight is at most `most`, and divided by each inner weight at most
+// the limit of a count.
+pub fn covers(
+    most: u64,
+    places: usize,
+    nets: usize,
+    objects: [ObjectNet; 8],
+    w: [u16; 288],
+    sum: u64,
+) -> bool
     requires { ⌜ (1 ≤ places) × (places ≤ 32) × (nets ≤ 8) × SmallNets objects ⌝ }
-    ensures { λ r. ⌜ r ≡ covered places nets objects w sum ⌝ }
+    ensures { λ r. ⌜ r ≡ covered most places nets objects w sum ⌝ }
 {
     if !all_some(&w, places) {
         return false;
     }
     let low = least(&w, places);
-    let most = Model::COVER as u64;
     if most < sum / low as u64 {
         return false;
     }

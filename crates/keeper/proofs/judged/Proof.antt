@@ -18,7 +18,7 @@ types-long c = search needs
 
 kept : (c : tie.Start) (w : Weights) → Holds (c .args .m) w (c .args .h) → Kept (c .args .m) w
 kept c w h =
-    record { held = model-held _ _ (c .pre); types = types-long c; objects = objects-room (c .args .m) _ (c .good .0); shaped = h .shaped }
+    record { held = model-held _ _ (c .pre); types = types-long c; objects = objects-room (c .args .m) _ (c .good .1 .0); shaped = h .shaped }
 
 -- whether every weight is 0
 zero : (c : tie.After-all-zero) (w : Weights) → Holds (c .before .args .m) w (c .before .args .h) → allZero w ≡ c .all-zero .result
@@ -27,8 +27,8 @@ zero c w h = zero-is (c .before .args .m) w (kept (c .before) w h) (c .before .a
 all-zero-requires : tie.Need-all-zero-requires
 all-zero-requires c κs = search needs
 
-add-t6 : tie.Need-add-t6
-add-t6 c =
+add-t7 : tie.Need-add-t7
+add-t7 c =
     let a = c .before .before .before in
     omega (arith, most-nets _ (held-is _ (model-held _ _ (a .pre))))
 
@@ -39,7 +39,7 @@ returns : tie.Need-returns
 returns c =
     let t = c .before .before in
     let z = t .before in
-    λ w h. c .weights-refused .ensures ∙ turned-zero _ w _ (zero z w h ∙ t .if1 .taken)
+    λ w h. c .weights-refused .ensures ∙ turned-zero _ _ w _ (zero z w h ∙ t .if1 .taken)
 
 unbalanced-requires : tie.Need-unbalanced-requires
 unbalanced-requires c κs = model-held _ _ (c .before .before .pre)
@@ -52,7 +52,7 @@ returns-2 c =
     let t = c .before in
     let u = t .before in
     let e = u .before in
-    λ w h. c .weights-refused2 .ensures ∙ turned-event _ w _ (zero (e .before) w h ∙ e .if1 .left) _ (u .unbalanced .ensures w h) (t .if2 .taken)
+    λ w h. c .weights-refused2 .ensures ∙ turned-event _ _ w _ (zero (e .before) w h ∙ e .if1 .left) _ (u .unbalanced .ensures w h) (t .if2 .taken)
 
 passed-requires : tie.Need-passed-requires
 passed-requires c κs = c .before .before .before .before .pre
@@ -62,14 +62,14 @@ returns-3 c =
     let t = c .before in
     let u = t .before in
     let e = u .before in
-    λ w h. c .passed .ensures w h ∙ none-turned _ w _ (zero (e .before) w h ∙ e .if1 .left) _ (u .unbalanced .ensures w h) (t .if2 .left)
+    λ w h. c .passed .ensures w h ∙ none-turned _ _ w _ (zero (e .before) w h ∙ e .if1 .left) _ (u .unbalanced .ensures w h) (t .if2 .left)
 
 pub judged-spec : {M : Type 1} → statement M
 judged-spec =
     tie.close
     (tie.spec
     all-zero-requires
-    add-t6
+    add-t7
     weights-refused-requires
     returns
     unbalanced-requires

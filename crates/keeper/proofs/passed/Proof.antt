@@ -15,13 +15,13 @@ use Rattle.keeper.proofs.JudgeLaws.{model-held, marking-held, tokens-fe
 types-long : (c : tie.Start) → length (c .args .m .types) ≡ 32
 types-long c = search needs
 
-rows-long : (c : tie.Start) → length (c .args .t2 .rows) ≡ 8448
+rows-long : (c : tie.Start) → length (c .args .t3 .rows) ≡ 8448
 rows-long c = search needs
 
-above-long : (c : tie.Start) → length (c .args .t3 .above) ≡ 288
+above-long : (c : tie.Start) → length (c .args .t4 .above) ≡ 288
 above-long c = search needs
 
-below-long : (c : tie.Start) → length (c .args .t3 .below) ≡ 288
+below-long : (c : tie.Start) → length (c .args .t4 .below) ≡ 288
 below-long c = search needs
 
 abbrev first : tie.After-marking-weight → tie.Start
@@ -57,7 +57,7 @@ covers-requires c κs =
     let a = first (second (c .before .before .before .before)) in
     let h = model-held _ _ (a .pre) in
     let m = a .args .m in
-    (some-place _ _ (a .pre), most-places m (held-is m h), most-nets m (held-is m h), nets-small m h (objects-room m _ (a .good .0)))
+    (some-place _ _ (a .pre), most-places m (held-is m h), most-nets m (held-is m h), nets-small m h (objects-room m _ (a .good .1 .0)))
 
 returns : tie.Need-returns
 returns c =
@@ -68,9 +68,9 @@ returns c =
     let m = a .args .m in
     λ w h.
     let kept : Kept m w =
-    record { held = model-held _ _ (a .pre); types = types-long a; objects = objects-room m _ (a .good .0); shaped = h .shaped } in
-    passed-is m w kept (a .args .t2) (marking-held _ _ (a .pre)) (a .args .t3) (h .is) _ _ (p .marking-weight .ensures .0) (q .marking-weight2 .ensures .0)
-    _ (d .difference .ensures) _ (c .covers .ensures)
+    record { held = model-held _ _ (a .pre); types = types-long a; objects = objects-room m _ (a .good .1 .0); shaped = h .shaped } in
+    passed-is m w kept (a .args .t3) (marking-held _ _ (a .pre)) (a .args .t4) (h .is) _ _ (p .marking-weight .ensures .0) (q .marking-weight2 .ensures .0)
+    _ (d .difference .ensures) _ _ (c .covers .ensures)
 
 pub passed-spec : {M : Type 1} → statement M
 passed-spec =

@@ -51,6 +51,9 @@ enum-known-ended c = search needs
 enum-told : tie.Need-enum-told
 enum-told c = search needs
 
+cast-judged : tie.Need-cast-judged
+cast-judged c = search needs
+
 judged-requires : tie.Need-judged-requires
 judged-requires c κs = both (c .before .before .before .before)
 
@@ -90,6 +93,7 @@ weights-at-spec =
     weight-lines-requires
     enum-known-ended
     enum-told
+    cast-judged
     judged-requires
     returns-3
     fault-answer-requires

@@ -1,6 +1,7 @@
 -- `block_at` meets its contract: the number of net-tokens, and then their lines.
 use borrow.Author.Needs.{needs}
 use mathlib.Core.Path.{ap, ap₂, sym, _∙_}
+use native.Mathlib.Omega.{arith}
 use Rattle.text.specs.Answers.{endedIn}
 use Rattle.text.specs.declared.Ended.{Ended}
 use Rattle.text.proofs.Loops.{line-got, line-bad}
@@ -33,7 +34,7 @@ returns c =
     let l = c .before .before .before .before in
     let d = c .before .before .enum-told .given in
     ap₂ block (c .ended-of .ensures ∙ ap endedIn (d .1)) (c .before .empty .ensures)
-    ∙ block-refused _ _ _ _ _ (line-bad _ _ (sym (d .1) ∙ l .number-line .ensures))
+    ∙ block-refused _ _ _ _ _ _ (line-bad _ _ (sym (d .1) ∙ l .number-line .ensures))
 
 cast-tokens-at : tie.Need-cast-tokens-at
 cast-tokens-at c = search needs
@@ -41,13 +42,14 @@ cast-tokens-at c = search needs
 tokens-at-requires : tie.Need-tokens-at-requires
 tokens-at-requires c κs =
     let l = c .before .before .before in
-    (counted-few _ _ _ _ _ (line-got _ _ _ (sym (c .before .line .given .1) ∙ l .number-line .ensures)), l .before .before .before .pre)
+    let p = l .before .before .before .pre in
+    (omega (arith, p .0, counted-few _ _ _ _ _ _ (line-got _ _ _ (sym (c .before .line .given .1) ∙ l .number-line .ensures))), p .1)
 
 returns-2 : tie.Need-returns-2
 returns-2 c =
     let k = c .before .before in
     let l = k .before .before in
-    c .tokens-at .ensures ∙ block-counted _ _ _ _ _ _ (line-got _ _ _ (sym (k .line .given .1) ∙ l .number-line .ensures))
+    c .tokens-at .ensures ∙ block-counted _ _ _ _ _ _ _ (line-got _ _ _ (sym (k .line .given .1) ∙ l .number-line .ensures))
 
 pub block-at-spec : {M : Type 1} → statement M
 block-at-spec =

@@ -1,5 +1,6 @@
 -- `turn_at` meets its contract: the end of the text, or the turn of a step.
 use borrow.Author.Needs.{needs}
+use Rattle.model.specs.Limits.{roomLimit}
 use Rattle.runner_trace.proofs.turn_at.Statement.{statement}
 use Rattle.runner_trace.proofs.turn_at.Tie as tie
 use mathlib.Core.List.{List}
@@ -29,19 +30,22 @@ before s = with-rows (s .args .rows .now) (s .args .p)
 
 -- what the step answered, and the marking after it
 abbrev after : tie.After-step-on → Stepped
-after c = record { answer = c .step-on .result .answer; marking = record { len = c .step-on .result .len; rows = c .step-on .last .1 .1 .0 } }
+after c = record { answer = c .step-on .result .answer; marking = record { len = c .step-on .result .len; rows = c .step-on .last .1 .1 .1 .0 } }
 
 -- the step was tried on what is left of the text
-said : (c : tie.After-step-on) → let s = start (else-of c) in after c ≡ heldStep (modelIn (s .args .plan .now)) (markingIn (before s)) (drop (s .args .at) (s .args .s .now))
+said : (c : tie.After-step-on) → let s = start (else-of c) in after c ≡ heldStep roomLimit (modelIn (s .args .plan .now)) (markingIn (before s)) (drop (s .args .at) (s .args .s .now))
 said c =
     let s = start (else-of c) in
-    c .step-on .ensures ∙ ap (heldStep (modelIn (s .args .plan .now)) (markingIn (before s))) (rest-left (s .args .s .now) (s .args .at))
+    c .step-on .ensures ∙ ap (heldStep roomLimit (modelIn (s .args .plan .now)) (markingIn (before s))) (rest-left (s .args .s .now) (s .args .at))
 
 progress-of-requires : tie.Need-progress-of-requires
 progress-of-requires c κs = search needs
 
 returns : tie.Need-returns
 returns c = let t = c .before in let s = t .before .before .before in ap (with-rows (s .args .rows .now)) (c .progress-of .ensures) ∙ turn-ends _ _ _ (before s) (t .if1 .taken)
+
+cast-step-on : tie.Need-cast-step-on
+cast-step-on c = search needs
 
 sub-step-on : tie.Need-sub-step-on
 sub-step-on c = search needs
@@ -77,6 +81,7 @@ turn-at-spec =
     (tie.spec
     progress-of-requires
     returns
+    cast-step-on
     sub-step-on
     part-step-on-start
     part-step-on-end

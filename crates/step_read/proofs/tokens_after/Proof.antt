@@ -34,7 +34,7 @@ rows-at-requires : tie.Need-rows-at-requires
 rows-at-requires c κs =
     let k = c .before .before in
     let l = k .before .before in
-    (counted-few _ _ _ _ _ (line-got _ _ _ (sym (k .line .given .1) ∙ l .number-line .ensures)), l .before .before .before .pre)
+    (counted-few _ _ _ _ _ _ (line-got _ _ _ (sym (k .line .given .1) ∙ l .number-line .ensures)), l .before .before .before .pre)
 
 returns-2 : tie.Need-returns-2
 returns-2 c =

@@ -32,10 +32,7 @@ returns c =
     let l = c .before .before in
     let s = start l in
     let a = s .args in
-    c .turned .ensures ∙ sym (stop-missing (a .take) (taken s) (a .give) (marked s) (l .lacking .result) (l .lacking .ensures .1) (c .before .if1 .taken))
-
-cast-most : tie.Need-cast-most
-cast-most c = search needs
+    c .turned .ensures ∙ sym (stop-missing (a .room) (a .take) (taken s) (a .give) (marked s) (l .lacking .result) (l .lacking .ensures .1) (c .before .if1 .taken))
 
 add-if2 : tie.Need-add-if2
 add-if2 c = search needs
@@ -57,7 +54,7 @@ returns-2 c =
     let e = sym (l .lacking .ensures .1) ∙ c .before .before .if1 .left in
     let n = length-rows (a .take) (a .taken .now) in
     let k = length-rows (a .len) (a .rows .now) in
-    c .turned2 .ensures ∙ sym (stop-crowded (a .take) (taken s) (a .give) (marked s) e (omega (arith, n, k, c .before .if2 .taken)))
+    c .turned2 .ensures ∙ sym (stop-crowded (a .room) (a .take) (taken s) (a .give) (marked s) e (omega (arith, n, k, c .before .if2 .taken)))
 
 returns-3 : tie.Need-returns-3
 returns-3 c =
@@ -67,7 +64,7 @@ returns-3 c =
     let e = sym (l .lacking .ensures .1) ∙ c .before .if1 .left in
     let n = length-rows (a .take) (a .taken .now) in
     let k = length-rows (a .len) (a .rows .now) in
-    sym (pass-marking (a .take) (taken s) (a .give) (marked s) e (s .pre .2) (omega (arith, n, k, c .if2 .left)))
+    sym (pass-marking (a .room) (a .take) (taken s) (a .give) (marked s) e (omega (arith, n, k, c .if2 .left)))
 
 pub on-marking-spec : {M : Type 1} → statement M
 on-marking-spec =
@@ -77,7 +74,6 @@ on-marking-spec =
     add-turned
     turned-requires
     returns
-    cast-most
     add-if2
     add-if2-2
     add-turned-2

@@ -36,7 +36,7 @@ returns : tie.Need-returns
 returns c =
     let p = c .before .before in
     let s = start p in
-    by-places (s .args .take) (rule s) (taken s) (given s) (marked s) (p .on-places .result) (p .on-places .ensures) (c .enum-told2 .given .1)
+    by-places (s .args .room) (s .args .take) (rule s) (taken s) (given s) (marked s) (p .on-places .result) (p .on-places .ensures) (c .enum-told2 .given .1)
 
 on-nets-requires : tie.Need-on-nets-requires
 on-nets-requires c κs = search needs
@@ -52,7 +52,7 @@ returns-2 c =
     let n = c .before .before in
     let p = n .before .before .before in
     let s = start p in
-    by-nets (s .args .take) (rule s) (taken s) (given s) (marked s) (p .on-places .result) (p .on-places .ensures) (n .before .enum-told .given .1)
+    by-nets (s .args .room) (s .args .take) (rule s) (taken s) (given s) (marked s) (p .on-places .result) (p .on-places .ensures) (n .before .enum-told .given .1)
     (n .on-nets .result) (n .on-nets .ensures) (c .enum-told4 .given .1)
 
 on-marking-requires : tie.Need-on-marking-requires
@@ -63,7 +63,7 @@ returns-3 c =
     let n = c .before .before .before in
     let p = n .before .before .before in
     let s = start p in
-    by-marking (s .args .take) (rule s) (taken s) (given s) (marked s) (p .on-places .result) (p .on-places .ensures) (n .before .enum-told .given .1)
+    by-marking (s .args .room) (s .args .take) (rule s) (taken s) (given s) (marked s) (p .on-places .result) (p .on-places .ensures) (n .before .enum-told .given .1)
     (n .on-nets .result) (n .on-nets .ensures) (c .before .enum-told3 .given .1) (s .args .give) (length-rows (s .args .give) (s .args .given .now)) _ (c .on-marking .ensures)
 
 pub verdict-spec : {M : Type 1} → statement M

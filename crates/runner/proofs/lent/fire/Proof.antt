@@ -34,7 +34,7 @@ marked s = rowsIn (s .args .len) (s .args .rows .now)
 
 -- the step meets no cause
 fires : (c : tie.After-enum-told)
-    → verdictOf (start (c .before .before) .args .take) (first (causesIn (rule (start (c .before .before))) (taken (start (c .before .before))) (given (start (c .before .before))) (marked (start (c .before .before))))) ≡ Fires
+    → verdictOf (start (c .before .before) .args .take) (first (causesIn (start (c .before .before) .args .room) (rule (start (c .before .before))) (taken (start (c .before .before))) (given (start (c .before .before))) (marked (start (c .before .before))))) ≡ Fires
 fires c = sym (c .before .before .verdict .ensures) ∙ c .enum-told .given .1
 
 verdict-requires : tie.Need-verdict-requires
@@ -51,22 +51,22 @@ change-requires c κs =
     let e = c .before in
     let s = start (e .before .before) in
     let a = s .args in
-    let w = fires-within (a .take) (rule s) (taken s) (given s) (marked s) (fires e) in
-    let r = fires-room (a .take) (rule s) (taken s) (given s) (marked s) (fires e) in
+    let w = fires-within (a .room) (a .take) (rule s) (taken s) (given s) (marked s) (fires e) in
+    let r = fires-room (a .room) (a .take) (rule s) (taken s) (given s) (marked s) (fires e) in
     let n = length-rows (a .take) (a .taken .now) in
     let g = length-rows (a .give) (a .given .now) in
     let k = length-rows (a .len) (a .rows .now) in
-    (s .pre .3, w, s .pre .1 .long, s .pre .2 .long, s .pre .1 .few, s .pre .2 .few, omega (arith, r, n, g, k))
+    (s .pre .4, w, s .pre .2 .long, s .pre .3 .long, s .pre .2 .few, s .pre .3 .few, omega (arith, r, n, g, k, s .pre .0))
 
-sub-t19 : tie.Need-sub-t19
-sub-t19 c =
+sub-t20 : tie.Need-sub-t20
+sub-t20 c =
     let e = c .before .before in
     let s = start (e .before .before) in
     let a = s .args in
-    taken-few (a .rows .now) (a .len) (a .taken .now) (a .take) (fires-within (a .take) (rule s) (taken s) (given s) (marked s) (fires e))
+    taken-few (a .rows .now) (a .len) (a .taken .now) (a .take) (fires-within (a .room) (a .take) (rule s) (taken s) (given s) (marked s) (fires e))
 
-add-t20 : tie.Need-add-t20
-add-t20 c = search needs
+add-t21 : tie.Need-add-t21
+add-t21 c = search needs
 
 returns : tie.Need-returns
 returns c =
@@ -90,7 +90,7 @@ fire-spec =
     enum-known-judged
     enum-told
     change-requires
-    sub-t19
-    add-t20
+    sub-t20
+    add-t21
     returns
     returns-2)

@@ -35,10 +35,10 @@ abbrev marked : tie.Start → Marking
 marked s = record { len = s .args .len; rows = s .args .rows .now }
 
 held : (s : tie.Start) → heldModel (model s) ≡ true
-held s = both-model (model s) (marked s) (s .pre .2)
+held s = both-model (model s) (marked s) (s .pre .3)
 
 stands : (s : tie.Start) → Stands (sizesFor (model s)) (marked s)
-stands s = both-stands (model s) (marked s) (s .pre .5) (s .pre .2)
+stands s = both-stands (model s) (marked s) (s .pre .6) (s .pre .3)
 
 -- the rows that were read
 abbrev taken : tie.After-read-step → List Row
@@ -53,7 +53,7 @@ rows-read : (c : tie.After-read-step)
 unfolding modelIn
 rows-read c =
     let s = start c in
-    c .read-step .ensures ∙ ap stepRows (reading-is (model s) (marked s) (s .args .s .now) (s .args .sizes) (s .pre .3))
+    c .read-step .ensures ∙ ap stepRows (reading-is (model s) (marked s) (s .args .s .now) (s .args .sizes) (s .pre .4))
 
 -- the step that was read
 read : (c : tie.After-ended)
@@ -81,7 +81,7 @@ read-step-requires : tie.Need-read-step-requires
 unfolding modelIn
 read-step-requires c κs =
     let s = c .before .before .before .before .before .before in
-    roomy-of (model s) (held s) (s .args .sizes) (s .pre .3)
+    roomy-of (model s) (held s) (s .args .sizes) (s .pre .4)
 
 enum-known-ended : tie.Need-enum-known-ended
 enum-known-ended c = search needs
@@ -98,13 +98,13 @@ returns c =
     let r = t .before .before in
     let s = start r in
     ap (λ (a : StepAnswer). stays a (marked s)) (c .answer-of .ensures)
-    ∙ step-refused (model s) (marked s) (s .args .s .now) _ _ (t .enum-told .given .1) (lines-bad (r .read-step .result) (taken r) (given r) _ (rows-read r) _ (t .enum-told .given .1))
+    ∙ step-refused (model s) (marked s) (s .args .s .now) (s .args .room) _ _ (t .enum-told .given .1) (lines-bad (r .read-step .result) (taken r) (given r) _ (rows-read r) _ (t .enum-told .given .1))
 
 rule-of-requires : tie.Need-rule-of-requires
 rule-of-requires c κs =
     let e = c .before .before .before in
     let s = start (e .before .before) in
-    (s .pre .0, held s, omega (arith, read e .event-is, right e .known), refl, refl)
+    (s .pre .1, held s, omega (arith, read e .event-is, right e .known), refl, refl)
 
 slice-aggregate-fire : tie.Need-slice-aggregate-fire
 slice-aggregate-fire c = search needs
@@ -121,9 +121,10 @@ fire-requires c κs =
     let r = right e in
     let m = model s in
     let g = q .rule-of .ensures in (
-      record { plan-long = s .pre .0; pre-long = g .0; post-long = g .1; sound = rule-is-sound m (s .pre .1) (held s) t r _ _ (g .2) (read e .event-is) },
-      rows-placed m (s .pre .1) (held s) (t .taken) (r .taken) (r .take-few) _ _ (read e .take-is) (search needs) (read e .taken-are),
-      rows-placed m (s .pre .1) (held s) (t .given) (r .given) (r .give-few) _ _ (read e .give-is) (search needs) (read e .given-are),
+      s .pre .0,
+      record { plan-long = s .pre .1; pre-long = g .0; post-long = g .1; sound = rule-is-sound m (s .pre .2) (held s) t r _ _ (g .2) (read e .event-is) },
+      rows-placed m (s .pre .2) (held s) (t .taken) (r .taken) (r .take-few) _ _ (read e .take-is) (search needs) (read e .taken-are),
+      rows-placed m (s .pre .2) (held s) (t .given) (r .given) (r .give-few) _ _ (read e .give-is) (search needs) (read e .given-are),
       stands s .kept,
     )
 
@@ -132,7 +133,7 @@ returns-2 c =
     let q = c .before .before .before .before .before .before .before .before in
     let e = q .before .before .before .before in
     let s = start (e .before .before) in
-    c .fire .ensures ∙ step-ruled (model s) (marked s) (s .args .s .now) (s .pre .1) (held s) (stands s) _ _ _ _ (read e) _ (q .rule-of .ensures .2)
+    c .fire .ensures ∙ step-ruled (model s) (marked s) (s .args .s .now) (s .args .room) (s .pre .2) (held s) (stands s) _ _ _ _ (read e) _ (q .rule-of .ensures .2)
 
 pub step-on-spec : {M : Type 1} → statement M
 step-on-spec =

@@ -1,7 +1,9 @@
 -- `step_at` meets its contract: of what is left of the text, 1, then 14, then the step on the marking's rows.
 use borrow.Author.Needs.{needs}
+use Rattle.model.specs.Limits.{roomLimit}
 use Rattle.runner.proofs.stepping.step_at.Statement.{statement}
 use Rattle.runner.proofs.stepping.step_at.Tie as tie
+use native.Mathlib.Omega.{arith}
 use mathlib.Core.Path.{_≡_, ap, sym, subst, _∙_}
 use mathlib.Core.Bool.{true}
 use lib.ListN.{drop}
@@ -58,6 +60,9 @@ returns-2 c = step-unheld _ _ _ (c .before .before .if1 .left) (sym (c .before .
 pack-requires : tie.Need-pack-requires
 pack-requires c κs = search needs
 
+cast-step-on : tie.Need-cast-step-on
+cast-step-on c = search needs
+
 slice-aggregate-step-on : tie.Need-slice-aggregate-step-on
 slice-aggregate-step-on c = search needs
 
@@ -72,6 +77,7 @@ step-on-requires c κs =
     let s = start (rest p) in
     let m = s .args .m in
     let e = again f in (
+      omega arith,
       f .pack .ensures .0,
       subst SizedModel (sym e) (model-sized m _ (s .good .0)),
       ap (λ (x : Model). heldBoth x (s .args .k)) e ∙ passed p,
@@ -85,7 +91,7 @@ returns-3 c =
     let f = c .before .before .before .before .before .before in
     let p = f .before .before .before in
     let l = rest p in
-    c .step-on .ensures ∙ ap (λ (x : Model). heldStep x (start l .args .k) (now (l .left .result))) (again f)
+    c .step-on .ensures ∙ ap (λ (x : Model). heldStep roomLimit x (start l .args .k) (now (l .left .result))) (again f)
     ∙ step-held _ _ _ (p .before .before .if1 .left) (passed p) ∙ on-rest l
 
 pub step-at-spec : {M : Type 1} → statement M
@@ -97,6 +103,7 @@ step-at-spec =
     test-marking-requires
     returns-2
     pack-requires
+    cast-step-on
     slice-aggregate-step-on
     sizes-requires
     step-on-requires
