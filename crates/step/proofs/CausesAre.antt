@@ -90,7 +90,7 @@ module _ (m : Model) (right : rightModel m ≡ true) (s : Step) (of : StepOf m s
     before =
         let ev = event m (s .event) in
         unless (outerTaken m ev (s .taken)) taking
-        ∷ unless (outerGiven m ev (s .given)) giving
+        ∷ unless (outerGiven m ev (s .taken) (s .given)) giving
         ∷ at short (failing (length (m .nets)) 0 (innerTaken m ev (s .taken)))
         ∷ at unequal (failing (length (m .nets)) 0 (innerGiven m ev (s .taken) (s .given)))
         ∷ at missing (lacking μ 0 [] (s .taken))
@@ -111,14 +111,14 @@ module _ (m : Model) (right : rightModel m ≡ true) (s : Step) (of : StepOf m s
     -- the same tests over rows
     rows-are : (room : ℕ) → T (M.every (proper m) μ) → causesIn room (holdRule m (s .event)) (map tokenRow (s .taken)) (map tokenRow (s .given)) (map tokenRow μ)
         ≡ before ++ (unless (leb (length μ - length (s .taken) + length (s .given)) room) crowded ∷ [])
-    unfolding causesIn outerCauses innerCauses markingCauses holdRule outerTaken outerGiven
+    unfolding causesIn outerCauses innerCauses markingCauses holdRule outerTaken outerGiven outerOf
     rows-are room h =
         let q = holdRule m (s .event) in
         let ev = event m (s .event) in
         let taken = map tokenRow (s .taken) in
         let given = map tokenRow (s .given) in
         let o : eqV (outerRows taken) (holdSides pre m ev .outer) ≡ outerTaken m ev (s .taken) = outer-same pre pre-side (s .taken) (of .taken) in
-        let p : eqV (outerRows given) (holdSides post m ev .outer) ≡ outerGiven m ev (s .given) = outer-same post post-side (s .given) (of .given) in
+        let p : eqV (outerRows given) (holdSides post m ev .outer) ≡ outerGiven m ev (s .taken) (s .given) = outer-same post post-side (s .given) (of .given) in
         let a = failing-same (length (m .nets)) 0 (innerTakenIn q taken) (innerTaken m ev (s .taken)) (λ i k. taken-at i (omega arith)) in
         let b = failing-same (length (m .nets)) 0 (innerGivenIn q taken given) (innerGiven m ev (s .taken) (s .given)) (λ i k. given-at i (omega arith)) in
         let l = lacking-rows m right μ 0 [] (s .taken) h tt (of .taken) in
