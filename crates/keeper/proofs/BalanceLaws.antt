@@ -1,46 +1,35 @@
 -- An event's effect is 0 exactly where it gains what it loses, by the tables of gains and of losses; the least event that does not.
-use Prim.Native.Nat.{ℕ, zero, suc, _+_, _-_, _*_, _≤_, _<_, pred}
+use Prim.Native.Nat.{ℕ, zero, suc, _+_, _*_, _<_}
 use mathlib.Core.Path.{_≡_, refl, ap, ap₂, sym, _∙_}
-use mathlib.Core.Bool.{Bool, true, cond, false≢true}
+use mathlib.Core.Bool.{Bool, true, cond}
 use mathlib.Core.List.{List, map}
 use mathlib.Core.Option.{Option, some}
 use native.Mathlib.Omega.{arith}
-use lib.Dec.{eqb, leb}
+use lib.Dec.{eqb}
 use lib.IntN.{ℤ, _-ℤ_}
 use lib.ListN.{getD}
-use borrow.Author.Tests.{eqb-true, eqb-false, eq-eqb, ne-eqb}
-use Rattle.text.proofs.Basics.{by-test, and-true}
-use Rattle.text.specs.Lines.{inRange}
+use borrow.Author.Tests.{eqb-true, eqb-false, eq-eqb, ne-eqb, ltb-true}
+use Rattle.text.proofs.Basics.{by-test}
 use Rattle.text.specs.Capped.{above, below}
-use Rattle.text.proofs.TestLaws.{within-is}
 use Rattle.eos.specs.Model as eos
 use Rattle.eos.specs.Firing.{pre, post, outerOf, innerOf}
 use Rattle.eos.specs.Causes.{failing, numbered}
 use Rattle.eos.specs.Weights.{Weights, isZero, effect}
-use Rattle.model.specs.Rules.{nth, Frame}
-use Rattle.model.specs.Held.{noNet, noEvent, tabled, actOf, eventOf, modelOf}
-use Rattle.model.specs.Test.{heldAct, frameIn, heldModel}
+use Rattle.model.specs.Rules.{nth, rightAct}
+use Rattle.model.specs.Acts.{actOf, moveOf}
+use Rattle.model.specs.Held.{noNet, noEvent, tabled, eventOf, modelOf}
+use Rattle.model.specs.Test.{frameIn, heldModel}
 use Rattle.model.specs.declared.Event.{Event}
 use Rattle.model.specs.declared.Model.{Model}
 use Rattle.model.proofs.HeldTests.{held-is, most-moves, most-places}
+use Rattle.model.proofs.HeldActs.{act-is, act-range}
 use Rattle.keeper.specs.Held.{weightLists, holdWeights}
-use Rattle.weigh.specs.Sums.{total, product, gainOf, Gains, eventGain, balancedAt, ActIn}
+use Rattle.weigh.specs.Sums.{total, product, gainOf, Gains, moveGain, eventGain, balancedAt, ActIn}
 use Rattle.keeper.specs.declared.HeldWeights.{HeldWeights}
 use Rattle.weigh.proofs.TotalLaws.{total-same, total-plus, total-rows}
 use Rattle.keeper.proofs.SplitLaws.{sub-minus, sub-zero, dotN, dotsN, valueBy, value-split}
 use Rattle.keeper.proofs.HeldRows.{Kept, event-test}
 use Rattle.keeper.proofs.EffectLaws.{event-is, inside-is, outside-move, outside-idle}
-
--- an act that is held is a move or idling
-act-cases : {G : Type 0} (f : Frame) (kind index : ℕ) → heldAct f kind index ≡ true → (kind ≡ 1 → 1 ≤ index → index ≤ f .moves → G)
-    → (kind ≡ 2 → 1 ≤ index → index ≤ f .places → G) → G
-unfolding heldAct
-act-cases f zero i h x y = absurd (false≢true h)
-act-cases f (suc zero) i h x y = let b = within-is 1 (f .moves) i h in x refl (b .0) (b .1)
-act-cases f (suc (suc zero)) i h x y =
-    let b = within-is 1 (f .places) i (and-true (inRange 1 (f .places) i) (leb 1 (f .type (pred i))) h .0) in
-    y refl (b .0) (b .1)
-act-cases f (suc (suc (suc k))) i h x y = absurd (false≢true h)
 
 -- a test of two sums with a summand in common
 eqb-plus : (a b c : ℕ) → eqb (a + c) (b + c) ≡ eqb a b
@@ -80,13 +69,20 @@ module _ (m : Model) (w : Weights) (kept : Kept m w) (k : ℕ) (listed : k < m .
   inside-post : (f : ℤ → ℕ) → inside post f ≡ total (m .nets) (λ n. total 32 (counted posts f n))
   inside-post f = inside-is m w kept k listed post refl (m .post) posts (λ i. refl) (λ n i. refl) f
 
-  act-is : event .act ≡ actOf (held .kind) (held .index)
+  abbrev act : eos.Act
+  act = actOf (held .kind) (held .index)
+
+  act-held : event .act ≡ act
   unfolding eventOf
-  act-is = ap (λ (e : eos.Event). e .act) (event-is m w kept k listed)
+  act-held = ap (λ (e : eos.Event). e .act) (event-is m w kept k listed)
+
+  act-right : rightAct (frameIn m) act ≡ true
+  act-right = act-is (frameIn m) (held .kind) (held .index) (event-test m (kept .held) k listed .act) .right
 
   -- idling weighs the same on both sides
-  abbrev rest : (ℤ → ℕ) → (ℤ → ℕ) → ℕ
-  rest f g = cond (eqb (held .kind) 1) 0 (nth (map f (w .outward)) (pred (held .index)) + nth (map g (w .outward)) (pred (held .index)))
+  abbrev rest : (ℤ → ℕ) → (ℤ → ℕ) → eos.Act → ℕ
+  rest f g (eos.move j) = 0
+  rest f g (eos.idle j) = nth (map f (w .outward)) j + nth (map g (w .outward)) j
 
   module _ (f g : ℤ → ℕ) (gain : List ℕ) (gains : Gains m (table f) (table g) gain) where
     one-gain : (n : ℕ) → n < m .nets → (t : ℕ) → t < 32
@@ -105,33 +101,28 @@ module _ (m : Model) (w : Weights) (kept : Kept m w) (k : ℕ) (listed : k < m .
         (λ n p. total-same 32 _ (λ t. counted posts f n t + counted pres g n t) (one-gain n p) ∙ total-plus 32 (counted posts f n) (counted pres g n))
         ∙ total-plus (m .nets) (λ n. total 32 (counted posts f n)) (λ n. total 32 (counted pres g n)) ∙ ap₂ _+_ (sym (inside-post f)) (sym (inside-pre g))
 
-    outside-gain : outside post f + outside pre g ≡ cond (eqb (held .kind) 1) (nth gain (held .index - 1)) 0 + rest f g
-    unfolding gainOf
-    outside-gain =
-        act-cases (frameIn m) (held .kind) (held .index) (event-test m (kept .held) k listed .act)
-        (λ e p q.
-        let j = pred (held .index) in
-        let j-is : held .index - 1 ≡ j = omega arith in
-        let act : event .act ≡ eos.move j = act-is ∙ ap (λ (x : ℕ). actOf x (held .index)) e in
-        let a = outside-move m w kept k listed post refl (m .post) posts (λ i. refl) (λ n i. refl) f j (omega arith) act in
-        let b = outside-move m w kept k listed pre refl (m .pre) pres (λ i. refl) (λ n i. refl) g j (omega arith) act in
+    outside-gain : (a : eos.Act) → event .act ≡ a → rightAct (frameIn m) a ≡ true → outside post f + outside pre g ≡ moveGain gain (moveOf a) + rest f g a
+    unfolding rightAct moveGain gainOf
+    outside-gain (eos.move j) e h =
+        let p = ltb-true j (m .moves) h in
+        let a = outside-move m w kept k listed post refl (m .post) posts (λ i. refl) (λ n i. refl) f j p e in
+        let b = outside-move m w kept k listed pre refl (m .pre) pres (λ i. refl) (λ n i. refl) g j p e in
         let c : nth gain j ≡ product (table f) 0 (m .post) (j * 32) + product (table g) 0 (m .pre) (j * 32) = gains .moves j (omega (arith, most-moves m (held-is m (kept .held)))) in
-        rw (e, j-is) (omega (arith, a, b, c)))
-        (λ e p q.
-        let j = pred (held .index) in
-        let act : event .act ≡ eos.idle j = act-is ∙ ap (λ (x : ℕ). actOf x (held .index)) e in
-        let a = outside-idle m w kept k listed post refl (m .post) posts (λ i. refl) (λ n i. refl) f j act in
-        let b = outside-idle m w kept k listed pre refl (m .pre) pres (λ i. refl) (λ n i. refl) g j act in
-        rw e (omega (arith, a, b)))
+        omega (arith, a, b, c)
+    outside-gain (eos.idle j) e h =
+        let a = outside-idle m w kept k listed post refl (m .post) posts (λ i. refl) (λ n i. refl) f j e in
+        let b = outside-idle m w kept k listed pre refl (m .pre) pres (λ i. refl) (λ n i. refl) g j e in
+        omega (arith, a, b)
 
     -- what the event weighs on one side and on the other
     value-gain : valueBy f w (outerOf post (modelOf m) event) (innerOf post (modelOf m) event) + valueBy g w (outerOf pre (modelOf m) event) (innerOf pre (modelOf m) event)
-        ≡ eventGain (m .nets) held gain + rest f g
+        ≡ eventGain (m .nets) held gain + rest f g act
     unfolding eventGain
-    value-gain = omega (arith, counts-gain, outside-gain)
+    value-gain = omega (arith, counts-gain, outside-gain act act-held act-right)
 
-  rest-same : rest above below ≡ rest below above
-  rest-same = ap (λ (x : ℕ). cond (eqb (held .kind) 1) 0 x) {x = nth (map above (w .outward)) (pred (held .index)) + nth (map below (w .outward)) (pred (held .index))} (omega arith)
+  rest-same : (a : eos.Act) → rest above below a ≡ rest below above a
+  rest-same (eos.move j) = refl
+  rest-same (eos.idle j) = omega arith
 
   -- the effect is 0 where the gain is the loss
   effect-zero : (gain loss : List ℕ) → Gains m (table above) (table below) gain → Gains m (table below) (table above) loss
@@ -143,19 +134,19 @@ module _ (m : Model) (w : Weights) (kept : Kept m w) (k : ℕ) (listed : k < m .
       let ob = outerOf pre (modelOf m) event in
       let ib = innerOf pre (modelOf m) event in
       let x = value-gain above below gain p in
-      let y : valueBy below w oa ia + valueBy above w ob ib ≡ eventGain (m .nets) held loss + rest above below = value-gain below above loss q ∙ rw rest-same in
+      let y : valueBy below w oa ia + valueBy above w ob ib ≡ eventGain (m .nets) held loss + rest above below act = value-gain below above loss q ∙ rw (rest-same act) in
       ap isZero (ap₂ _-ℤ_ (value-split w oa ia) (value-split w ob ib)
       ∙ sub-minus (valueBy above w oa ia) (valueBy below w oa ia) (valueBy above w ob ib) (valueBy below w ob ib))
       ∙ sub-zero (valueBy above w oa ia + valueBy below w ob ib) (valueBy below w oa ia + valueBy above w ob ib)
-      ∙ ap₂ eqb x y ∙ eqb-plus (eventGain (m .nets) held gain) (eventGain (m .nets) held loss) (rest above below)
+      ∙ ap₂ eqb x y ∙ eqb-plus (eventGain (m .nets) held gain) (eventGain (m .nets) held loss) (rest above below act)
 
 -- the index of an event's act is one of 32
 pub act-in : (m : Model) → heldModel m ≡ true → (k : ℕ) → k < m .listed → ActIn (getD (m .events) k noEvent)
 act-in m held k listed =
     let e = getD (m .events) k noEvent in
-    act-cases (frameIn m) (e .kind) (e .index) (event-test m held k listed .act)
-    (λ d p q. record { least = p; most = (omega (arith, most-moves m (held-is m held))) })
-    (λ d p q. record { least = p; most = (omega (arith, most-places m (held-is m held))) })
+    let h = held-is m held in
+    let r = act-range (frameIn m) (e .kind) (e .index) (event-test m held k listed .act) (most-moves m h) (most-places m h) in
+    record { least = r .0; most = r .1 }
 
 -- tests that are the same fail at the same index
 failing-same : (f g : ℕ → Bool) (d i : ℕ) → ((k : ℕ) → k < i + d → f k ≡ g k) → failing d i f ≡ failing d i g

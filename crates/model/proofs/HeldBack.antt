@@ -23,7 +23,8 @@ use Rattle.model.proofs.PaddedRows.{empty-zeros, padded-take}
 use Rattle.model.proofs.SlotLaws.{cond-from, by-index, listed-at, length-listed}
 use Rattle.model.proofs.TableLaws.{table-is}
 use Rattle.model.proofs.HoldModel.{net-at, net-past, event-at, event-past, nets-long, events-long}
-use Rattle.model.proofs.HeldTests.{Held, most-nets, most-places, most-moves, most-events, events-at, moves-are, EventIn, act-again}
+use Rattle.model.proofs.HeldTests.{Held, most-nets, most-places, most-moves, most-events, events-at, moves-are, EventIn}
+use Rattle.model.proofs.HeldActs.{act-is}
 use Rattle.model.proofs.UsedLaws.{types-empty, count-is, net-used, net-held, event-used}
 
 -- a table of n transitions between `size` places
@@ -111,10 +112,10 @@ module _ (m : Model) (sized : SizedModel m) (held : Held m) where
   event-again : (e : Event) → length (e .sync) ≡ 256 → EventIn (frameIn m) e → e ≡ holdEvent (eventOf (m .nets) (m .objects) e)
   unfolding holdEvent eventOf
   event-again e long h =
-      let a = act-again (frameIn m) (e .kind) (e .index) (h .act) in
+      let a = act-is (frameIn m) (e .kind) (e .index) (h .act) in
       let s = table-is row [] refl 8 (frameIn m .steps) (m .nets) (e .sync) (syncIn (m .objects) (e .sync)) long nets
       (λ i p. within-is 0 32 (net i .transitions) (net-used m held i p .1) .1) (λ i. refl) (h .past) in
-      λ i. record { kind = sym (a .0) i; index = sym (a .1) i; sync = s i }
+      λ i. record { kind = sym (a .same-kind) i; index = sym (a .same-index) i; sync = s i }
 
   abbrev eventsIn : List eos.Event
   eventsIn = listed (λ i. eventOf (m .nets) (m .objects) (event i)) 0 (m .listed)

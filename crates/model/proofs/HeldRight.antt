@@ -1,6 +1,6 @@
 -- What passes the test of a held model stands for a right model.
 use Prim.Native.Nat.{ℕ, _+_, _*_, _≤_, _<_}
-use mathlib.Core.Path.{_≡_, ap, ap₂, sym, _∙_, fun-ext}
+use mathlib.Core.Path.{_≡_, ap, _∙_, fun-ext}
 use mathlib.Core.List.{List, []}
 use mathlib.Core.Bool.{true}
 use native.Mathlib.Omega.{arith}
@@ -13,8 +13,9 @@ use Rattle.text.specs.Lines.{inRange, every}
 use Rattle.text.proofs.TestLaws.{and-both, and-eqb, within-is, every-of, everyAt-of}
 use Rattle.eos.specs.Model as eos
 use Rattle.model.specs.Rules.{nth, byte, listOf, frameOf, monotonous, rightSides, keepsTypes, rightMove, ownNet, takesPart, rightNet, rightSync, rightEvent, rightModel}
-use Rattle.model.specs.Held.{noNet, noEvent, Bytes, SizedNet, SizedModel, rowIn, listed, sidesIn, netOf, actOf, syncIn, eventOf, modelOf}
-use Rattle.model.specs.Test.{frameIn, heldAct, ownIn}
+use Rattle.model.specs.Acts.{actOf}
+use Rattle.model.specs.Held.{noNet, noEvent, Bytes, SizedNet, SizedModel, rowIn, listed, sidesIn, netOf, syncIn, eventOf, modelOf}
+use Rattle.model.specs.Test.{frameIn}
 use Rattle.model.specs.declared.ObjectNet.{ObjectNet}
 use Rattle.model.specs.declared.Event.{Event}
 use Rattle.model.specs.declared.Model.{Model}
@@ -25,7 +26,8 @@ use Rattle.model.proofs.TableLaws.{length-row, nth-row, empty-row}
 use Rattle.model.proofs.HoldHeld.{frame-same}
 use Rattle.model.proofs.UsedLaws.{type-below, types-empty, net-used, event-used}
 use Rattle.model.proofs.HeldBack.{held-again}
-use Rattle.model.proofs.HeldTests.{Held, most-nets, most-places, most-moves, most-events, moves-are, EventIn, act-same, act-again, own-same, part-same}
+use Rattle.model.proofs.HeldTests.{Held, most-nets, most-places, most-moves, most-events, moves-are, EventIn, part-same}
+use Rattle.model.proofs.HeldActs.{act-is}
 
 -- n numbers of a row of bytes
 row-right : (rows : ℕ) (t : List ℕ) → Bytes (rows * 32) t → (i n : ℕ) → i < rows → n ≤ 32 → listOf n byte (rowIn n t i) ≡ true
@@ -102,21 +104,19 @@ module _ (m : Model) (sized : SizedModel m) (held : Held m) where
   event-right e b h =
       let f = frameIn m in
       let a = actOf (e .kind) (e .index) in
-      let again = act-again f (e .kind) (e .index) (h .act) in
-      let own : ownNet f a ≡ ownIn f (e .kind) (e .index) = sym (own-same f a) ∙ ap₂ (ownIn f) (again .0) (again .1) in
       let g = syncIn (m .objects) (e .sync) in
       let long = length-listed g 0 (m .nets) in
       is-event f (eventOf (m .nets) (m .objects) e) (record {
-        act = sym (act-same f a) ∙ ap₂ (heldAct f) (again .0) (again .1) ∙ h .act;
+        act = act-is f (e .kind) (e .index) (h .act) .right;
         long = long;
-        sync = everyAt-of (rightSync f (ownNet f a)) (listed g 0 (m .nets)) 0 [] (λ i p.
+        sync = everyAt-of (rightSync f (ownNet (f .type) a)) (listed g 0 (m .nets)) 0 [] (λ i p.
             let q : i < m .nets = omega (arith, long) in
             let w = net i .transitions in
             let v = rowIn w (e .sync) i in
             let same = empty-row 8 (m .nets) (f .steps) (e .sync) (h .past) nets (b .long) i q (steps i q) in
-            let part : takesPart (ownNet f a) i v ≡ true = ap (λ (o : ℕ). takesPart o i v) own ∙ part-same _ i v (rowIn 32 (e .sync) i) same ∙ h .part i q in
+            let part : takesPart (ownNet (f .type) a) i v ≡ true = part-same _ i v (rowIn 32 (e .sync) i) same ∙ h .part i q in
             rw (zero-add i, listed-at g (m .nets) i [] q)
-            (and-both (listOf w byte v) (takesPart (ownNet f a) i v) (row-right 8 (e .sync) b i w (omega (arith, nets)) (steps i q)) part));
+            (and-both (listOf w byte v) (takesPart (ownNet (f .type) a) i v) (row-right 8 (e .sync) b i w (omega (arith, nets)) (steps i q)) part));
       })
 
   -- ---- all of it

@@ -1,8 +1,8 @@
 -- The test of a held model by one turn of the loops that make it, and what holds of tables with unused room.
-use Prim.Native.Nat.{ℕ, zero, suc, _+_, _-_, _*_, _≤_, _<_, pred}
+use Prim.Native.Nat.{ℕ, zero, suc, _+_, _-_, _*_, _≤_, _<_}
 use mathlib.Core.Path.{_≡_, refl, sym, ap, _∙_}
 use mathlib.Core.List.{List, [], _∷_, _++_}
-use mathlib.Core.Bool.{Bool, true, false, cond, _&&_, and-true, and-false, and-assoc, and-comm, false≢true}
+use mathlib.Core.Bool.{Bool, true, false, cond, _&&_, and-true, and-false, and-assoc, and-comm}
 use native.Mathlib.Omega.{arith}
 use native.Mathlib.Nat.{zero-add, add-zero, add-suc}
 use native.Mathlib.Numerals.{add-one}
@@ -16,7 +16,7 @@ use Rattle.text.proofs.Basics as T
 use Rattle.text.proofs.Basics.{by-test}
 use Rattle.model.specs.Rules.{nth, Frame, takesPart}
 use Rattle.model.specs.Held.{noNet}
-use Rattle.model.specs.Test.{empty, emptyPast, usedOf, heldEvents, frameIn, heldAct, ownIn, countsAre, emptyAt, usedIn, sizesAre, framed, partAt, eventAt}
+use Rattle.model.specs.Test.{empty, emptyPast, usedOf, heldEvents, frameIn, countsAre, emptyAt, usedIn, sizesAre, framed, partAt, eventAt}
 use Rattle.model.specs.declared.Model.{Model}
 
 -- ---- a test that is made first
@@ -147,38 +147,6 @@ few-steps nets k places steps e =
     (λ h. let d = T.and-true (eqb places 0) (eqb steps 0) (rw h at e) in omega (arith, eqb-true steps 0 (d .1)))
 
 -- ---- events
-
-pub less-one : (i : ℕ) → i - 1 ≡ pred i
-less-one zero = refl
-less-one (suc i) = omega arith
-
-module _ (f : Frame) (i : ℕ) where
-  pub act-other : (k : ℕ) → (k ≡ 1 → ⊥) → (k ≡ 2 → ⊥) → false ≡ heldAct f k i
-  unfolding heldAct
-  act-other zero p q = refl
-  act-other (suc zero) p q = absurd (p refl)
-  act-other (suc (suc zero)) p q = absurd (q refl)
-  act-other (suc (suc (suc k))) p q = refl
-
-  pub act-range : (k : ℕ) → heldAct f k i ≡ true → f .moves ≤ 32 → f .places ≤ 32 → (1 ≤ i) × (i ≤ 32)
-  unfolding heldAct
-  act-range zero e h m = absurd (false≢true e)
-  act-range (suc zero) e h m = let d = T.and-true (leb 1 i) (leb i (f .moves)) e in omega (arith, leb-true 1 i (d .0), leb-true i (f .moves) (d .1))
-  act-range (suc (suc zero)) e h m =
-      let d = T.and-true (inRange 1 (f .places) i) (leb 1 (f .type (pred i))) e in
-      let g = T.and-true (leb 1 i) (leb i (f .places)) (d .0) in
-      omega (arith, leb-true 1 i (g .0), leb-true i (f .places) (g .1))
-  act-range (suc (suc (suc k))) e h m = absurd (false≢true e)
-
-  pub own-other : (k : ℕ) → k < 2 → 0 ≡ ownIn f k i
-  own-other zero h = refl
-  own-other (suc zero) h = refl
-  own-other (suc (suc k)) h = absurd (omega arith)
-
-  pub own-idle : (k : ℕ) → 2 ≤ k → f .type (pred i) ≡ ownIn f k i
-  own-idle zero h = absurd (omega arith)
-  own-idle (suc zero) h = absurd (omega arith)
-  own-idle (suc (suc k)) h = refl
 
 -- all take part in a move
 pub parts-move : (n : ℕ) (sync : List ℕ) → true ≡ allBelow n (partAt 0 sync)

@@ -1,20 +1,19 @@
--- The test of a held model, taken apart; what it and the rules say of an event's first part and of who takes part.
-use Prim.Native.Nat.{ℕ, zero, suc, pred, _≤_, _<_}
+-- The test of a held model, taken apart; what it and the rules say of who takes part.
+use Prim.Native.Nat.{ℕ, zero, suc, _≤_, _<_}
 use mathlib.Core.Path.{_≡_, refl, ap}
 use mathlib.Core.List.{List}
-use mathlib.Core.Bool.{Bool, true, cond, _&&_, false≢true, not, Bool·beq}
-use native.Mathlib.Omega.{arith}
-use lib.Dec.{leb, ltb, eqb}
-use borrow.Author.Tests.{le-leb}
+use mathlib.Core.Bool.{Bool, true, cond, not, Bool·beq}
+use lib.Dec.{ltb, eqb}
 use lib.ListN.{length}
 use Rattle.text.specs.Lines.{inRange}
 use Rattle.text.proofs.Basics.{and-true}
 use Rattle.text.proofs.TestLaws.{within-is}
 use Rattle.eos.specs.Model as eos
 use Rattle.text.specs.Answers.{padded}
-use Rattle.model.specs.Rules.{Frame, ownNet, takesPart, rightAct}
-use Rattle.model.specs.Held.{kindOf, indexOf, rowIn, actOf}
-use Rattle.model.specs.Test.{empty, emptyPast, usedOf, heldTypes, heldMoves, heldNets, frameIn, heldAct, ownIn, heldEvent, heldEvents, heldModel, countsAre, typeAt, sizesAre, netAt, eventAt, moveAt}
+use Rattle.model.specs.Rules.{Frame, takesPart}
+use Rattle.model.specs.Acts.{heldAct, ownIn}
+use Rattle.model.specs.Held.{rowIn}
+use Rattle.model.specs.Test.{empty, emptyPast, usedOf, heldTypes, heldMoves, heldNets, frameIn, heldEvent, heldEvents, heldModel, countsAre, typeAt, sizesAre, netAt, eventAt, moveAt}
 use Rattle.model.specs.declared.ObjectNet.{ObjectNet}
 use Rattle.model.specs.declared.Event.{Event}
 use Rattle.model.specs.declared.Model.{Model}
@@ -140,7 +139,7 @@ are-moves m h = rw (h .pre, h .post) (below-of (m .moves) (moveTest m) (h .typed
 
 -- whether net n takes part as it has to
 abbrev pub partTest : Frame → Event → ℕ → Bool
-partTest f e n = takesPart (ownIn f (e .kind) (e .index)) n (rowIn 32 (e .sync) n)
+partTest f e n = takesPart (ownIn (f .type) (e .kind) (e .index)) n (rowIn 32 (e .sync) n)
 
 -- the parts of the test of an event
 pub record EventIn (f : Frame) (e : Event) : Type 0 where
@@ -161,30 +160,7 @@ pub in-event : (f : Frame) (e : Event) → EventIn f e → heldEvent f e ≡ tru
 unfolding heldEvent
 in-event f e h = rw (h .act, h .past) (below-of (f .nets) (partTest f e) (h .part))
 
--- ---- an event's first part
-
-numbered : (n k : ℕ) → inRange 1 n (suc k) ≡ ltb k n
-numbered n k = rw (le-leb 1 (suc k) (omega arith))
-
-module _ (f : Frame) where
-  -- the test of what it is held as is the rule
-  pub act-same : (a : eos.Act) → heldAct f (kindOf a) (indexOf a) ≡ rightAct f a
-  unfolding heldAct rightAct
-  act-same (eos.move k) = numbered (f .moves) k
-  act-same (eos.idle p) = ap (λ (b : Bool). b && leb 1 (f .type p)) (numbered (f .places) p)
-
-  -- the net that it idles in is the same
-  pub own-same : (a : eos.Act) → ownIn f (kindOf a) (indexOf a) ≡ ownNet f a
-  own-same (eos.move k) = refl
-  own-same (eos.idle p) = refl
-
-  -- what passes the test is held again as it was
-  pub act-again : (kind index : ℕ) → heldAct f kind index ≡ true → (kindOf (actOf kind index) ≡ kind) × (indexOf (actOf kind index) ≡ index)
-  unfolding heldAct
-  act-again zero i h = absurd (false≢true h)
-  act-again (suc zero) i h = (refl, omega (arith, within-is 1 (f .moves) i h .0))
-  act-again (suc (suc zero)) i h = (refl, omega (arith, within-is 1 (f .places) i (and-true (inRange 1 (f .places) i) (leb 1 (f .type (pred i))) h .0) .0))
-  act-again (suc (suc (suc k))) i h = absurd (false≢true h)
+-- ---- who takes part
 
 -- who takes part is seen by whether all counts are 0
 pub part-same : (own n : ℕ) (v w : List ℕ) → empty v ≡ empty w → takesPart own n v ≡ takesPart own n w

@@ -22,7 +22,8 @@ use Rattle.model.proofs.PaddedRows.{empty-of, nth-zeros, nth-padded, nt
 use Rattle.model.proofs.SlotLaws.{cond-below, cond-from, by-index}
 use Rattle.model.proofs.TableLaws.{tabled-row, tabled-past}
 use Rattle.model.proofs.HoldModel.{net-at, net-past, event-at, event-past, steps-at}
-use Rattle.model.proofs.HeldTests.{is-held, types-of, countTest, nets-of, events-of, moveTest, are-moves, in-event, act-same, own-same, part-same}
+use Rattle.model.proofs.HeldTests.{is-held, types-of, countTest, nets-of, events-of, moveTest, are-moves, in-event, part-same}
+use Rattle.model.proofs.HeldActs.{act-same, own-same}
 
 -- the events of what a model is held as depend on what the model's depend on
 pub frame-same : (d : eos.Model) → length (d .types) ≤ 32 → length (d .nets) ≤ 8 → frameIn (holdModel d) ≡ frameOf d
@@ -134,7 +135,7 @@ module _ (d : eos.Model) (right : Right d) where
             let held = rowIn 32 (tabled row 256 (e .sync)) n in
             let same : empty held ≡ empty v =
             ap empty (tabled-row row [] refl 8 (e .sync) few n (omega (arith, nets))) ∙ empty-padded v (omega (arith, s .long, few-steps d right n p)) in
-            rw (own-same f (e .act), part-same (ownNet f (e .act)) n held v same) (s .part);
+            rw (own-same (f .type) (e .act), part-same (ownNet (f .type) (e .act)) n held v same) (s .part);
       })
 
   events-pass : heldEvents (holdModel d) ≡ true

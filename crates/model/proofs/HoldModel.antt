@@ -9,13 +9,14 @@ use Rattle.text.specs.Lines.{every}
 use Rattle.text.proofs.TestLaws.{and-eqb, within-is, every-at}
 use Rattle.eos.specs.Model as eos
 use Rattle.model.specs.Rules.{byte, listOf, frameOf, rightSides, rightNet, rightModel}
-use Rattle.model.specs.Held.{preOf, postOf, row, tabled, holdNet, kindOf, indexOf, holdEvent, noNet, noEvent, holdNets, holdEvents, holdModel, Bytes, SizedNet, SizedModel, listed, sidesIn, netOf, actOf, syncIn, eventOf, modelOf}
+use Rattle.model.specs.Held.{preOf, postOf, row, tabled, holdNet, holdEvent, noNet, noEvent, holdNets, holdEvents, holdModel, Bytes, SizedNet, SizedModel, listed, sidesIn, netOf, syncIn, eventOf, modelOf}
 use Rattle.model.specs.declared.ObjectNet.{ObjectNet}
 use Rattle.model.specs.declared.Event.{Event}
 use Rattle.model.specs.declared.Model.{Model}
 use Rattle.model.proofs.RuleLaws.{list-is, sides-are, sides-long, RightNet, net-is, RightEvent, sync-at, Right, right-is, few-nets, few-places, few-moves, few-events, few-steps, right-move, right-net, right-event}
 use Rattle.text.proofs.PaddedLaws.{take-padded, length-padded}
 use Rattle.model.proofs.PaddedRows.{nth-zeros, small-at}
+use Rattle.model.proofs.HeldActs.{act-back}
 use Rattle.model.proofs.SlotLaws.{by-index, listed-is, length-held, held-at, held-past}
 use Rattle.model.proofs.TableLaws.{tabled-part, length-tabled, tabled-small}
 
@@ -82,11 +83,6 @@ netOf-hold n h =
     let b = sides-back (n .size) (n .transitions) (few .1) (some .1) (λ i p. every-at (rightSides (n .size)) (n .transitions) i eos.noTransition (r .sides) p) in
     rw b
 
--- an event's first part
-pub actOf-hold : (a : eos.Act) → actOf (kindOf a) (indexOf a) ≡ a
-actOf-hold (eos.move k) = refl
-actOf-hold (eos.idle p) = refl
-
 module _ (d : eos.Model) (right : Right d) where
   -- an event
   eventOf-hold : (e : eos.Event) → RightEvent (frameOf d) e → eventOf (length (d .nets)) (holdNets (d .nets)) (holdEvent e) ≡ e
@@ -97,7 +93,7 @@ module _ (d : eos.Model) (right : Right d) where
       listed-is (syncIn (holdNets (d .nets)) (tabled row 256 (e .sync))) (e .sync) [] (λ i p.
       let few = few-steps d right i (omega (arith, r .long)) in
       rw (steps-at (d .nets) i nets) (tabled-part row [] refl 8 (e .sync) (omega (arith, r .long)) i _ p few (sync-at (frameOf d) e r i p .long))) in
-      ap₂ {C = eos.Event} (λ a s. record { act = a; sync = s }) (actOf-hold (e .act)) (rw (r .long) at b)
+      ap₂ {C = eos.Event} (λ a s. record { act = a; sync = s }) (act-back (e .act)) (rw (r .long) at b)
 
   model-back : modelOf (holdModel d) ≡ d
   unfolding modelOf holdModel

@@ -3,6 +3,7 @@ pub mod RuleLoops
 pub mod PaddedRows
 pub mod SlotLaws
 pub mod TableLaws
+pub mod HeldActs
 pub mod HeldTests
 pub mod UsedLaws
 pub mod RoomLaws

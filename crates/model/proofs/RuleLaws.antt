@@ -70,12 +70,12 @@ sync-is f own n v h =
 pub record RightEvent (f : Frame) (e : Event) : Type 0 where
   pub act : rightAct f (e .act) ≡ true
   pub long : length (e .sync) ≡ f .nets
-  pub sync : everyAt (rightSync f (ownNet f (e .act))) 0 (e .sync) ≡ true
+  pub sync : everyAt (rightSync f (ownNet (f .type) (e .act))) 0 (e .sync) ≡ true
 
 -- the counts of net i
-pub sync-at : (f : Frame) (e : Event) → RightEvent f e → (i : ℕ) → i < length (e .sync) → RightSync f (ownNet f (e .act)) i (getD (e .sync) i [])
+pub sync-at : (f : Frame) (e : Event) → RightEvent f e → (i : ℕ) → i < length (e .sync) → RightSync f (ownNet (f .type) (e .act)) i (getD (e .sync) i [])
 sync-at f e r i h =
-    let own = ownNet f (e .act) in
+    let own = ownNet (f .type) (e .act) in
     sync-is f own i (getD (e .sync) i []) (rw (zero-add i) at (everyAt-at (rightSync f own) (e .sync) 0 i [] (r .sync) h))
 
 -- an event by its rules

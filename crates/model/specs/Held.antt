@@ -1,5 +1,5 @@
 -- How a model is held: in arrays of fixed room, unused room 0. And what a held model stands for.
-use Prim.Native.Nat.{ℕ, zero, suc, _*_, pred, _≤_, _<_}
+use Prim.Native.Nat.{ℕ, zero, suc, _*_, _≤_, _<_}
 use mathlib.Core.Path.{_≡_}
 use mathlib.Core.List.{List, [], _∷_}
 use lib.ListN.{length, take, drop, getD, set, replicate}
@@ -8,6 +8,7 @@ use Rattle.text.specs.Repeat.{fill}
 use Rattle.text.specs.Answers.{padded}
 use Rattle.eos.specs.Model as eos
 use Rattle.model.specs.Limits.{syncRoom}
+use Rattle.model.specs.Acts.{kindOf, indexOf, actOf}
 use Rattle.model.specs.declared.ObjectNet.{ObjectNet}
 use Rattle.model.specs.declared.Event.{Event}
 use Rattle.model.specs.declared.Model.{Model}
@@ -38,15 +39,6 @@ holdNet n = record {
   pre = tabled preOf 1024 (n .transitions);
   post = tabled postOf 1024 (n .transitions);
 }
-
--- the kind of an event: 1 for a move, 2 for idling; its index is the move's or the place's number, from 1
-abbrev pub kindOf : eos.Act → ℕ
-kindOf (eos.move k) = 1
-kindOf (eos.idle p) = 2
-
-abbrev pub indexOf : eos.Act → ℕ
-indexOf (eos.move k) = suc k
-indexOf (eos.idle p) = suc p
 
 unfoldable pub holdEvent : eos.Event → Event
 holdEvent e = record { kind = kindOf (e .act); index = indexOf (e .act); sync = tabled row syncRoom (e .sync) }
@@ -130,11 +122,6 @@ sidesIn n pre post i = record { pre = rowIn n pre i; post = rowIn n post i }
 
 unfoldable pub netOf : ObjectNet → eos.ObjectNet
 netOf n = record { size = n .places; transitions = listed (sidesIn (n .places) (n .pre) (n .post)) 0 (n .transitions) }
-
-abbrev pub actOf : ℕ → ℕ → eos.Act
-actOf zero i = eos.move (pred i)
-actOf (suc zero) i = eos.move (pred i)
-actOf (suc (suc k)) i = eos.idle (pred i)
 
 -- the counts of net n, of which there are as many as it has transitions
 abbrev pub syncIn : List ObjectNet → List ℕ → ℕ → List ℕ

@@ -1,4 +1,5 @@
 pub mod Limits
 pub mod Rules
+pub mod Acts
 pub mod Held
 pub mod Test

@@ -66,16 +66,17 @@ rightMove nets types t = rightSides (length types) t && keepsTypes nets types t
 unfoldable pub rightNet : ObjectNet → Bool
 rightNet n = inRange 1 32 (n .size) && (inRange 0 32 (length (n .transitions)) && every (rightSides (n .size)) (n .transitions))
 
--- the net that an event idles in, from 1; 0 for a move
-abbrev pub ownNet : Frame → Act → ℕ
-ownNet f (move k) = 0
-ownNet f (idle p) = f .type p
+-- the net that an event idles in, from 1, by the type of each place; 0 for a move
+abbrev pub ownNet : (ℕ → ℕ) → Act → ℕ
+ownNet type (move k) = 0
+ownNet type (idle p) = type p
 
 -- cause 5: an idling event's own net takes part, and no other does (000, equation 2)
 unfoldable pub takesPart : ℕ → ℕ → List ℕ → Bool
 takesPart zero n v = true
 takesPart (suc own) n v = Bool·beq (eqb own n) (not (every (λ c. eqb c 0) v))
 
+-- a move of the model, or a place of it that is typed by a net
 unfoldable pub rightAct : Frame → Act → Bool
 rightAct f (move k) = ltb k (f .moves)
 rightAct f (idle p) = ltb p (f .places) && leb 1 (f .type p)
@@ -85,7 +86,7 @@ unfoldable pub rightSync : Frame → ℕ → ℕ → List ℕ → Bool
 rightSync f own n v = listOf (f .steps n) byte v && takesPart own n v
 
 unfoldable pub rightEvent : Frame → Event → Bool
-rightEvent f e = rightAct f (e .act) && (eqb (length (e .sync)) (f .nets) && everyAt (rightSync f (ownNet f (e .act))) 0 (e .sync))
+rightEvent f e = rightAct f (e .act) && (eqb (length (e .sync)) (f .nets) && everyAt (rightSync f (ownNet (f .type) (e .act))) 0 (e .sync))
 
 unfoldable pub rightModel : Model → Bool
 rightModel m =

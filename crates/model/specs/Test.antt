@@ -1,13 +1,14 @@
 -- The test of a held model (01's cause 14): counts in range, unused room 0, and the rules on types, moves and events, each looked up
 -- where it is held.
-use Prim.Native.Nat.{ℕ, zero, suc, pred}
-use mathlib.Core.Bool.{Bool, false, cond, _&&_}
+use Prim.Native.Nat.{ℕ}
+use mathlib.Core.Bool.{Bool, cond, _&&_}
 use mathlib.Core.List.{List}
 use lib.Dec.{leb, eqb, ltb}
 use lib.ListN.{drop, getD}
 use Rattle.text.specs.Lines.{inRange, every}
 use Rattle.eos.specs.Firing.{allBelow}
 use Rattle.model.specs.Rules.{nth, Frame, monotonous, takesPart}
+use Rattle.model.specs.Acts.{heldAct, ownIn}
 use Rattle.model.specs.Held.{noNet, noEvent, rowIn}
 use Rattle.model.specs.declared.ObjectNet.{ObjectNet}
 use Rattle.model.specs.declared.Event.{Event}
@@ -89,19 +90,6 @@ frameIn m = record {
 abbrev pub framed : ℕ → ℕ → ℕ → List ℕ → List ℕ → Frame
 framed places moves nets types steps = record { places = places; moves = moves; nets = nets; type = nth types; steps = nth steps }
 
--- the kind is 1 or 2, the index a move's or a typed place's
-unfoldable pub heldAct : Frame → ℕ → ℕ → Bool
-heldAct f zero i = false
-heldAct f (suc zero) i = inRange 1 (f .moves) i
-heldAct f (suc (suc zero)) i = inRange 1 (f .places) i && leb 1 (f .type (pred i))
-heldAct f (suc (suc (suc k))) i = false
-
--- the net that an event idles in, from 1; 0 for a move
-abbrev pub ownIn : Frame → ℕ → ℕ → ℕ
-ownIn f zero i = 0
-ownIn f (suc zero) i = 0
-ownIn f (suc (suc k)) i = f .type (pred i)
-
 -- the counts of net n in an event
 abbrev pub partAt : ℕ → List ℕ → ℕ → Bool
 partAt own sync n = takesPart own n (rowIn 32 sync n)
@@ -109,7 +97,7 @@ partAt own sync n = takesPart own n (rowIn 32 sync n)
 unfoldable pub heldEvent : Frame → Event → Bool
 heldEvent f e =
     heldAct f (e .kind) (e .index)
-    && (emptyPast 8 (usedIn (f .nets) (f .steps)) (e .sync) && allBelow (f .nets) (partAt (ownIn f (e .kind) (e .index)) (e .sync)))
+    && (emptyPast 8 (usedIn (f .nets) (f .steps)) (e .sync) && allBelow (f .nets) (partAt (ownIn (f .type) (e .kind) (e .index)) (e .sync)))
 
 unfoldable pub emptyEvent : Event → Bool
 emptyEvent e = eqb (e .kind) 0 && (eqb (e .index) 0 && empty (e .sync))

@@ -4,11 +4,11 @@ ghost use Prim.Native.Nat.{_≤_, _<_};
 ghost use Rattle.text.specs.Lines.{many};
 ghost use Rattle.text.specs.Repeat.{manyAt};
 ghost use Rattle.model.specs.Held.{noEvent};
-ghost use Rattle.model.specs.Test.{ownIn};
 ghost use Rattle.model_text.specs.Reading.{readIdle, readMove, readAct, readSync, readEvent};
 ghost use Rattle.model_text.specs.Answers.{asFrame, Fitting, actingOf, countsOf, syncsOf, eventLinesOf, eventsOf};
 use model::Event;
 use model::Model;
+use model_acts::own_net;
 use model_nets::narrow;
 use model_rules::takes_part;
 use model_tables::bytes::put_bytes;
@@ -137,18 +137,6 @@ fn syncs_at(s: &[u8], from: usize, f: Frame, own: u8) -> Syncs
     }
 }
 
-// The net in which an event idles, from 1; 0 for a move.
-fn own_net(kind: u8, index: u8, f: Frame) -> u8
-    requires { ⌜ (1 ≤ index) × (index ≤ 32) ⌝ }
-    ensures { λ r. ⌜ r ≡ ownIn (asFrame f) kind index ⌝ }
-{
-    if kind < 2 {
-        return 0;
-    }
-    let types = f.types;
-    types[index as usize - 1]
-}
-
 // No event, and how the reading ended.
 fn no_event(ended: Ended) -> EventLines
     ensures { λ r. ⌜ r ≡ record { ended = ended; event = noEvent } ⌝ }
@@ -165,7 +153,8 @@ fn event_at(s: &[u8], at: usize, f: Frame) -> EventLines
     let a = act_at(s, at, f);
     match a {
         Acting::Acts { kind, index, next } => {
-            let own = own_net(kind, index, f);
+            let types = f.types;
+            let own = own_net(types, kind, index);
             let b = syncs_at(s, next, f, own);
             let e = b.ended;
             let Ended::Past { next: last } = e else {

@@ -1,6 +1,5 @@
 // The test of a held model: counts in range, unused room 0, and the rules on types, moves and events. Tests over arrays run to their end.
 ghost use mathlib.Core.Path.{_≡_};
-ghost use mathlib.Core.List.{List};
 ghost use mathlib.Core.Bool.{_&&_, cond};
 ghost use Prim.Native.Nat.{ℕ, _*_, _+_, _≤_};
 ghost use lib.Dec.{eqb, leb, ltb};
@@ -9,10 +8,12 @@ ghost use Rattle.text.specs.Lines.{inRange};
 ghost use Rattle.eos.specs.Firing.{allBelow};
 ghost use Rattle.model.specs.Rules.{nth};
 ghost use Rattle.model.specs.Held.{noNet, rowIn};
-ghost use Rattle.model.specs.Test.{empty, emptyPast, usedOf, heldNet, heldAct, ownIn, heldEvent, emptyEvent, heldModel, usedIn, typeAt, moveAt, sizesAre, netIs, netAt, countsAre, framed, partAt, eventIs, eventAt};
+ghost use Rattle.model.specs.Test.{empty, emptyPast, usedOf, heldNet, heldEvent, emptyEvent, heldModel, usedIn, typeAt, moveAt, sizesAre, netIs, netAt, countsAre, framed, partAt, eventIs, eventAt};
 use model::Event;
 use model::Model;
 use model::ObjectNet;
+use model_acts::act_held;
+use model_acts::own_net;
 use model_rules::monotonous;
 use model_rules::takes_part;
 
@@ -196,35 +197,6 @@ fn transitions_of(objects: [ObjectNet; 8]) -> [usize; 8]
         k += 1;
     }
     steps
-}
-
-// Whether an event may be of this kind and index.
-fn act_held(places: usize, moves: usize, types: [u8; 32], kind: u8, index: u8) -> bool
-    requires { ⌜ places ≤ 32 ⌝ }
-    ensures { λ r. ⌜ ((nets : ℕ) (steps : List ℕ) → r ≡ heldAct (framed places moves nets types steps) kind index) ⌝ }
-{
-    let i = index as usize;
-    if kind == 1 {
-        return in_range(1, moves, i);
-    }
-    if kind == 2 {
-        if !in_range(1, places, i) {
-            return false;
-        }
-        return 1 <= types[i - 1];
-    }
-    false
-}
-
-// The net that an event idles in, from 1; 0 for a move.
-fn own_net(types: [u8; 32], kind: u8, index: u8) -> u8
-    requires { ⌜ (1 ≤ index) × (index ≤ 32) ⌝ }
-    ensures { λ r. ⌜ ((places moves nets : ℕ) (steps : List ℕ) → r ≡ ownIn (framed places moves nets types steps) kind index) ⌝ }
-{
-    if kind < 2 {
-        return 0;
-    }
-    types[index as usize - 1]
 }
 
 // Whether each net takes part as an event that idles in net `own` asks.

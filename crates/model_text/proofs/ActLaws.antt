@@ -1,5 +1,5 @@
 -- Which case of an event's first line holds, and of a line of counts, by the line's answer.
-use Prim.Native.Nat.{ℕ, zero, suc, pred, _-_, _%_, _≤_, _<_}
+use Prim.Native.Nat.{ℕ, suc, pred, _-_, _%_, _≤_}
 use mathlib.Core.Path.{_≡_, refl, ap, sym, _∙_}
 use mathlib.Core.List.{List, map}
 use mathlib.Core.Bool.{Bool, true, false}
@@ -19,9 +19,8 @@ use Rattle.text.specs.declared.Ended.the-variants.{Past, Stopped}
 use Rattle.text.specs.declared.Row.{Row}
 use Rattle.text.proofs.Exactly.{then-got, need-got, got-is}
 use Rattle.eos.specs.Model.{Act, move, idle}
-use Rattle.model.specs.Rules.{byte, Frame, ownNet, takesPart}
-use Rattle.model.specs.Held.{kindOf, indexOf}
-use Rattle.model.specs.Test.{ownIn}
+use Rattle.model.specs.Rules.{byte, Frame, takesPart}
+use Rattle.model.specs.Acts.{indexOf}
 use Rattle.model.proofs.HeldTests.{part-padded}
 use Rattle.model_text.specs.Reading.{readIdle, readMove, readAct, readSync}
 use Rattle.model_text.specs.Answers.{actingOf, countsOf}
@@ -90,22 +89,6 @@ module _ (f : Frame) (places : f .places ≤ 32) (moves : f .moves ≤ 32) (s : 
       by-test (starts (bytes "idle=") (drop at s))
       (λ h. idle-few (sym (act-idle f s at h) ∙ e))
       (λ h. move-few (sym (act-move f s at h) ∙ e))
-
--- ---- the net in which an event idles
-
-pub own-move : (f : Frame) (kind i : ℕ) → kind < 2 → 0 ≡ ownIn f kind i
-own-move f zero i h = refl
-own-move f (suc zero) i h = refl
-own-move f (suc (suc k)) i h = absurd (omega arith)
-
-pub own-idle : (f : Frame) (kind i : ℕ) → 2 ≤ kind → f .type (i - 1) ≡ ownIn f kind i
-own-idle f zero i h = absurd (omega arith)
-own-idle f (suc zero) i h = absurd (omega arith)
-own-idle f (suc (suc k)) i h = rw (sub-one i)
-
-pub own-is : (f : Frame) (a : Act) → ownIn f (kindOf a) (indexOf a) ≡ ownNet f a
-own-is f (move k) = refl
-own-is f (idle p) = refl
 
 -- ---- the counts of a net
 

@@ -18,7 +18,7 @@ use Rattle.text.proofs.LinesExactly.{number-exactly, list-exactly}
 use Rattle.text.proofs.ChainExactly.{Makes, exactly-by, first-makes, last-makes}
 use Rattle.eos.specs.Model.{Act, move, idle, Event}
 use Rattle.model.specs.Rules.{byte, listOf, Frame, ownNet, takesPart, rightAct, rightSync, rightEvent}
-use Rattle.model.specs.Held.{indexOf}
+use Rattle.model.specs.Acts.{indexOf}
 use Rattle.model_text.specs.Reading.{readIdle, readMove, readAct, readSync, readEvent}
 use Rattle.model_text.specs.Printed.{actText, eventText}
 
@@ -95,7 +95,7 @@ module _ (f : Frame) (s : Text) where
   unfolding readEvent eventText rightEvent need
   event-exactly =
       exactly-by (first-makes act-exactly
-      (λ a. last-makes (manyAt-exactly s (readSync f (ownNet f a) s) (listText (bytes "sync=")) (rightSync f (ownNet f a)) (sync-exactly (ownNet f a)) 0 (f .nets))
+      (λ a. last-makes (manyAt-exactly s (readSync f (ownNet (f .type) a) s) (listText (bytes "sync=")) (rightSync f (ownNet (f .type) a)) (sync-exactly (ownNet (f .type) a)) 0 (f .nets))
       (λ v. true) 0 (λ v. record { act = a; sync = v }) (λ e. e .sync) (λ v h. refl))
       (λ e. e .act) (λ a e h r. ap (λ (e : Event). e .act) (r .2)))
       (λ e h. rw (h .0) (h .1 .0))

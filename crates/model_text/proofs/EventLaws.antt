@@ -13,18 +13,19 @@ use Rattle.text.specs.declared.Fault.{Fault}
 use Rattle.text.specs.declared.Ended.{Ended}
 use Rattle.text.specs.declared.Ended.the-variants.{Past, Stopped}
 use Rattle.text.proofs.Loops.{got-of, bad-of, turn-at, bad-at}
-use Rattle.eos.specs.Model.{Act, move, idle, Event}
+use Rattle.eos.specs.Model.{Act, Event}
 use Rattle.model.specs.Rules.{Frame, ownNet}
-use Rattle.model.specs.Held.{row, putRow, tabled, kindOf, indexOf, holdEvent, noEvent, putAt, holdEvents}
-use Rattle.model.specs.Test.{ownIn}
+use Rattle.model.specs.Acts.{kindOf, indexOf, ownIn}
+use Rattle.model.specs.Held.{row, putRow, tabled, holdEvent, noEvent, putAt, holdEvents}
 use Rattle.model.specs.declared.Event as held
+use Rattle.model.proofs.HeldActs.{own-same, index-positive}
 use Rattle.model_text.specs.Reading.{readAct, readSync, readEvent}
 use Rattle.model_text.specs.Answers.{actingOf, countsOf, syncsOf, eventLinesOf, eventsOf}
 use Rattle.model_text.specs.declared.Acting.the-variants.{Acts, Refused}
 use Rattle.model_text.specs.declared.Counts.{Counts}
 use Rattle.model_text.specs.declared.Syncs.{Syncs}
 use Rattle.model_text.specs.declared.EventLines.{EventLines}
-use Rattle.model_text.proofs.ActLaws.{act-few, own-is}
+use Rattle.model_text.proofs.ActLaws.{act-few}
 use Rattle.model_text.proofs.LineAnswers.{turn-past, turn-stopped, filled-got, filled-bad}
 
 -- ---- a turn of reading counts
@@ -76,10 +77,6 @@ unfolding actingOf
 act-bad (got a n) d e = let z : _≡_ {A = ℕ} 0 1 = cc in absurd (omega arith)
 act-bad (bad c) d e = cc
 
-index-positive : (a : Act) → 1 ≤ indexOf a
-index-positive (move k) = omega arith
-index-positive (idle p) = omega arith
-
 event-bad : (o : Outcome Event) (e : Ended) (d : Fault) → e ≡ Stopped d → o ≡ bad d → record { ended = e; event = noEvent } ≡ eventLinesOf o
 unfolding eventLinesOf endedOf keptOr
 event-bad o e d h k = rw (h, k)
@@ -105,27 +102,27 @@ module _ (f : Frame) (s : Text) (at : ℕ) where
       let l = index-positive (g .act) in
       (omega (arith, g .index-is, l), omega (arith, g .index-is, k))
 
-  module _ (kind index x₁ : ℕ) (g : ActGot (readAct f s at) kind index x₁) (own : ℕ) (owns : own ≡ ownIn f kind index)
+  module _ (kind index x₁ : ℕ) (g : ActGot (readAct f s at) kind index x₁) (own : ℕ) (owns : own ≡ ownIn (f .type) kind index)
       (r : Syncs) (read : r ≡ syncsOf (manyAt (readSync f own s) 0 (f .nets) x₁)) where
-    own-act : own ≡ ownNet f (g .act)
-    own-act = owns ∙ ap₂ (ownIn f) (g .kind-is) (g .index-is) ∙ own-is f (g .act)
+    own-act : own ≡ ownNet (f .type) (g .act)
+    own-act = owns ∙ ap₂ (ownIn (f .type)) (g .kind-is) (g .index-is) ∙ own-same (f .type) (g .act)
 
-    line : r ≡ syncsOf (manyAt (readSync f (ownNet f (g .act)) s) 0 (f .nets) x₁)
+    line : r ≡ syncsOf (manyAt (readSync f (ownNet (f .type) (g .act)) s) 0 (f .nets) x₁)
     line = read ∙ ap (λ (n : ℕ). syncsOf (manyAt (readSync f n s) 0 (f .nets) x₁)) own-act
 
-    syncs-end : r .ended ≡ endedOf (manyAt (readSync f (ownNet f (g .act)) s) 0 (f .nets) x₁)
+    syncs-end : r .ended ≡ endedOf (manyAt (readSync f (ownNet (f .type) (g .act)) s) 0 (f .nets) x₁)
     unfolding syncsOf
     syncs-end = ap (λ (x : Syncs). x .ended) line
 
-    syncs-held : (v : List (List ℕ)) (next : ℕ) → manyAt (readSync f (ownNet f (g .act)) s) 0 (f .nets) x₁ ≡ got v next → r .sync ≡ tabled row 256 v
+    syncs-held : (v : List (List ℕ)) (next : ℕ) → manyAt (readSync f (ownNet (f .type) (g .act)) s) 0 (f .nets) x₁ ≡ got v next → r .sync ≡ tabled row 256 v
     unfolding syncsOf keptOr
     syncs-held v next e = ap (λ (x : Syncs). x .sync) line ∙ rw e
 
-    sync-stops : (d : Fault) → manyAt (readSync f (ownNet f (g .act)) s) 0 (f .nets) x₁ ≡ bad d → readEvent f s at ≡ bad d
+    sync-stops : (d : Fault) → manyAt (readSync f (ownNet (f .type) (g .act)) s) 0 (f .nets) x₁ ≡ bad d → readEvent f s at ≡ bad d
     unfolding readEvent then
     sync-stops d e = rw (g .is, e)
 
-    event-is : (v : List (List ℕ)) (x₂ : ℕ) → manyAt (readSync f (ownNet f (g .act)) s) 0 (f .nets) x₁ ≡ got v x₂
+    event-is : (v : List (List ℕ)) (x₂ : ℕ) → manyAt (readSync f (ownNet (f .type) (g .act)) s) 0 (f .nets) x₁ ≡ got v x₂
         → readEvent f s at ≡ got (record { act = g .act; sync = v }) x₂
     unfolding readEvent then
     event-is v x₂ e = rw (g .is, e)

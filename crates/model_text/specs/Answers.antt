@@ -6,7 +6,8 @@ use Rattle.text.specs.Lines.{Outcome, got, bad}
 use Rattle.text.specs.Answers.{endedOf, keptOr, padded}
 use Rattle.eos.specs.Model as eos
 use Rattle.model.specs.Limits.{syncRoom}
-use Rattle.model.specs.Held.{preOf, postOf, row, tabled, holdNet, noNet, holdNets, kindOf, indexOf, holdEvent, noEvent, holdEvents, holdModel, noModel}
+use Rattle.model.specs.Acts.{kindOf, indexOf}
+use Rattle.model.specs.Held.{preOf, postOf, row, tabled, holdNet, noNet, holdNets, holdEvent, noEvent, holdEvents, holdModel, noModel}
 use Rattle.model.specs.Rules as rules
 use Rattle.model.specs.declared.ObjectNet.{ObjectNet}
 use Rattle.model.specs.declared.Model.{Model}

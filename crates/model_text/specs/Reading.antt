@@ -40,7 +40,7 @@ readSync f own s n at = then (readList (bytes "sync=") (f .steps n) byte s at) �
 unfoldable pub readEvent : Frame → Text → ℕ → Outcome Event
 readEvent f s at =
     then (readAct f s at) λ a x₁.
-    then (manyAt (readSync f (ownNet f a) s) 0 (f .nets) x₁) λ v x₂. got (record { act = a; sync = v }) x₂
+    then (manyAt (readSync f (ownNet (f .type) a) s) 0 (f .nets) x₁) λ v x₂. got (record { act = a; sync = v }) x₂
 
 -- a model that has no events yet
 abbrev pub eventless : List ℕ → List Transition → List ObjectNet → Model

@@ -13,9 +13,10 @@ use Rattle.text.specs.Printed.{decimalOf, decimal, signedText, itemsText, endTe
 use Rattle.eos.specs.Firing.{outer, inner, outerOf, innerOf, outerTaken, outerGiven, innerTaken, innerGiven}
 use Rattle.eos.specs.Causes.{first, unless, at, causes, refusal}
 use Rattle.eos.specs.Weights.{value, weigh, effect, covers, weightRefusal}
-use Rattle.model.specs.Rules.{touches, monotonous, keepsTypes, takesPart}
+use Rattle.model.specs.Rules.{touches, monotonous, keepsTypes, takesPart, rightAct}
+use Rattle.model.specs.Acts.{heldAct}
 use Rattle.model.specs.Held.{holdModel, holdNet, holdNets, holdEvent, holdEvents, tabled, modelOf, netOf, eventOf}
-use Rattle.model.specs.Test.{emptyPast, heldTypes, heldMoves, heldNet, heldNets, heldAct, heldEvent, emptyEvent, heldEvents, heldModel}
+use Rattle.model.specs.Test.{emptyPast, heldTypes, heldMoves, heldNet, heldNets, heldEvent, emptyEvent, heldEvents, heldModel}
 use Rattle.model_text.specs.Reading.{readSides, readNet, readIdle, readMove, readAct, readSync, readEvent, readPlant}
 use Rattle.marking.specs.Held.{holdMarking, tokensOf, rightRow, heldRows}
 use Rattle.marking.specs.Reading.{readNetToken, readBlock}
@@ -49,7 +50,7 @@ pub listing-cases :
 unfolding listingText afterModel runText coverText sumText pairThen pairText traceFile weightsFile modelFile modelFrom loaded readModelAt readLines readEnd
     readPlant readEvent readSync readAct readMove readIdle readNet readSides keepsTypes
     weightsFrom weightsOr weighed judgedWeights turnedOr weightRefusal readWeightsAt readInner readWeights effect value weigh covers
-    running runWhereHeld headed runFrom onward heldIn heldModel heldTypes heldMoves heldNets heldNet heldEvents heldEvent emptyEvent heldAct emptyPast monotonous
+    running runWhereHeld headed runFrom onward heldIn heldModel heldTypes heldMoves heldNets heldNet heldEvents heldEvent emptyEvent heldAct rightAct emptyPast monotonous
     touches takesPart heldRows rightRow holdModel holdNet holdNets holdEvent holdEvents tabled fill padded holdMarking modelOf netOf eventOf tokensOf sizesIn
     tried readThen stepJudged readTaking readStep readBlock readNetToken readToken tokenAt countsAt readHead readNumber readList behind lines.judged many manyAt need then listEnd
     items item prepended ended stopOf number numberOf digits plainly negated signed starts newlines refusal causes first unless at outerTaken outerGiven innerTaken

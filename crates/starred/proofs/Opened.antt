@@ -12,9 +12,10 @@ use Rattle.eos.specs.Firing.{outer, inner, outerOf, innerOf, outerTaken, outerG
 use Rattle.eos.specs.Causes.{first, unless, at, causes, refusal}
 use Rattle.eos.specs.Weights.{value, weigh, effect, covers, weightRefusal}
 use Rattle.eos.specs.Spread.{binomial, spread}
-use Rattle.model.specs.Rules.{touches, monotonous, keepsTypes, takesPart}
+use Rattle.model.specs.Rules.{touches, monotonous, keepsTypes, takesPart, rightAct}
+use Rattle.model.specs.Acts.{heldAct}
 use Rattle.model.specs.Held.{holdModel, holdNet, holdNets, holdEvent, holdEvents, tabled, modelOf, netOf, eventOf}
-use Rattle.model.specs.Test.{emptyPast, heldTypes, heldMoves, heldNet, heldNets, heldAct, heldEvent, emptyEvent, heldEvents, heldModel}
+use Rattle.model.specs.Test.{emptyPast, heldTypes, heldMoves, heldNet, heldNets, heldEvent, emptyEvent, heldEvents, heldModel}
 use Rattle.model_text.specs.Reading.{readSides, readNet, readIdle, readMove, readAct, readSync, readEvent, readPlant}
 use Rattle.marking.specs.Held.{holdMarking, tokensOf, rightRow, heldRows}
 use Rattle.marking.specs.Printed.{netTokenText, blockText, markingText}
@@ -44,7 +45,7 @@ read = tt
 -- held models and markings, and their tests
 unfoldable pub held : Unit {0}
 unfolding padded fill tabled holdNet holdNets holdEvent holdEvents holdModel netOf eventOf modelOf holdMarking tokensOf sizesIn emptyPast heldTypes heldMoves
-    heldNet heldNets heldAct heldEvent emptyEvent heldEvents heldModel rightRow heldRows heldIn
+    heldNet heldNets heldAct rightAct heldEvent emptyEvent heldEvents heldModel rightRow heldRows heldIn
 held = tt
 
 -- the rule, the causes, the weights, the spread

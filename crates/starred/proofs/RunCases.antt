@@ -16,8 +16,9 @@ use Rattle.text.specs.Answers.{padded}
 use Rattle.text.specs.Repeat.{fill}
 use Rattle.model.specs.Limits.{roomLimit}
 use Rattle.model.specs.Held.{holdModel, holdNet, holdNets, holdEvent, holdEvents, tabled, modelOf, netOf, eventOf}
-use Rattle.model.specs.Rules.{touches, monotonous, takesPart}
-use Rattle.model.specs.Test.{emptyPast, heldTypes, heldMoves, heldNet, heldNets, heldAct, heldEvent, emptyEvent, heldEvents, heldModel}
+use Rattle.model.specs.Rules.{touches, monotonous, takesPart, rightAct}
+use Rattle.model.specs.Acts.{heldAct}
+use Rattle.model.specs.Test.{emptyPast, heldTypes, heldMoves, heldNet, heldNets, heldEvent, emptyEvent, heldEvents, heldModel}
 use Rattle.marking.specs.Held.{sizesOf, holdMarking, tokensOf, rightRow, heldRows}
 use Rattle.marking.specs.Sizes.{sizesIn}
 use Rattle.reader.specs.Answers.{heldBoth, heldIn}
@@ -59,7 +60,7 @@ pub run-case :
     running (holdModel listing) (holdMarking start)
     (bytes "run=1\nfire=1\ntake=1\ntoken=1:1,0\ngive=1\ntoken=2:0,1\nfire=1\ntake=1\ntoken=1:0,0\ngive=1\ntoken=2:0,0\n")
     ≡ ran 1 (stop.Turned 9 1) (holdMarking (token 0 (0 ∷ 0 ∷ []) ∷ token 1 (0 ∷ 1 ∷ []) ∷ []))
-unfolding running runWhereHeld headed runFrom onward heldIn heldModel heldTypes heldMoves heldNets heldNet heldEvents heldEvent emptyEvent heldAct emptyPast monotonous
+unfolding running runWhereHeld headed runFrom onward heldIn heldModel heldTypes heldMoves heldNets heldNet heldEvents heldEvent emptyEvent heldAct rightAct emptyPast monotonous
     touches takesPart heldRows rightRow holdModel holdNet holdNets holdEvent holdEvents tabled fill padded holdMarking modelOf netOf eventOf tokensOf sizesIn
     tried readThen stepJudged readTaking readStep readBlock readNetToken readToken tokenAt countsAt readHead readNumber behind lines.judged many need then listEnd items item
     prepended ended stopOf number numberOf digits starts refusal causes first unless at outerTaken outerGiven innerTaken innerGiven outer inner outerOf innerOf

@@ -5,11 +5,7 @@ use mathlib.Core.List.{List, [], _∷_, append-nil}
 use native.Mathlib.Omega.{arith}
 use native.Mathlib.Nat.{mul-le-mul}
 use native.Mathlib.Numerals.{add-one}
-use borrow.Author.Tests.{eq-eqb, ne-eqb, eqb-true, eqb-false}
-use Rattle.text.proofs.Basics.{by-test}
-use lib.Dec.{eqb}
-use lib.ListN.{length, set, replicate, length-set, length-replicate}
-use Rattle.model.proofs.HeldTestLoops.{less-one}
+use lib.ListN.{length, set}
 use Rattle.eos.specs.Vector.{_⊕_, times}
 use Rattle.eos.proofs.VectorLaws.{getD-⊕}
 use Rattle.eos.proofs.VectorSums.{length-times, nth-times}
@@ -20,7 +16,7 @@ use Rattle.text.proofs.PaddedLaws.{padded-is}
 use lib.Seq.{sets, ext-getD}
 use Rattle.model.specs.Held.{row, rowIn, putRow, listed}
 use Rattle.model.proofs.TableLaws.{row-at, length-row}
-use Rattle.step.specs.RuleParts.{outerIn, sumRows}
+use Rattle.step.specs.RuleParts.{sumRows}
 
 -- of two vectors of the same length
 pub length-⊕ : (x y : List ℕ) → length x ≡ length y → length (x ⊕ y) ≡ length x
@@ -56,23 +52,6 @@ set-below f (a ∷ l) zero x h p zero = p
 set-below f (a ∷ l) zero x h p (suc i) = h (suc i)
 set-below f (a ∷ l) (suc k) x h p zero = h 0
 set-below f (a ∷ l) (suc k) x h p (suc i) = set-below (λ j. f (suc j)) l k x (λ j. h (suc j)) p i
-
--- ---- the outer side
-
-module _ (kind index : ℕ) (table : List ℕ) where
-  pub outer-move : kind ≡ 1 → rowIn 32 table (index - 1) ≡ outerIn kind index table
-  unfolding outerIn
-  outer-move e = rw (less-one index, eq-eqb kind 1 e, outerIn)
-
-  pub outer-idle : (kind ≡ 1 → ⊥) → set (replicate 32 0) (index - 1) 1 ≡ outerIn kind index table
-  unfolding outerIn
-  outer-idle n = rw (less-one index, ne-eqb kind 1 n, outerIn)
-
-  pub outer-wide : length table ≡ 1024 → 1 ≤ index → index ≤ 32 → length (outerIn kind index table) ≡ 32
-  outer-wide long some few =
-      by-test (eqb kind 1)
-      (λ t. ap length (sym (outer-move (eqb-true kind 1 t))) ∙ length-row table (index - 1) 32 (omega arith))
-      (λ t. ap length (sym (outer-idle (eqb-false kind 1 t))) ∙ length-set {A = ℕ} (replicate 32 0) (index - 1) 1 ∙ length-replicate {A = ℕ} 32 0)
 
 -- ---- rows added up
 

@@ -11,6 +11,7 @@ use Rattle.text.specs.Repeat.{fill}
 use Rattle.text.specs.Answers.{padded}
 use Rattle.eos.specs.Vector.{zeros}
 use Rattle.model.specs.Rules.{nth}
+use Rattle.model.specs.Acts.{outerIn}
 use Rattle.model.specs.Held.{row, rowIn, putRow, tabled, listed, noNet, noEvent, modelOf}
 use Rattle.model.specs.Test.{heldModel}
 use Rattle.model.specs.declared.ObjectNet.{ObjectNet}
@@ -19,11 +20,12 @@ use Rattle.model.specs.declared.Model.{Model}
 use Rattle.model.proofs.SlotLaws.{listed-at, length-listed}
 use Rattle.model.proofs.TableLaws.{row-at, length-row, rows-ext, length-tabled, tabled-row}
 use Rattle.model.proofs.HeldTests.{Held, held-is, most-nets, most-events}
+use Rattle.model.proofs.HeldActs.{outer-wide}
 use Rattle.model_packed.specs.Packed.{netFrom, eventFrom, modelIn}
 use Rattle.step.specs.Rule.{holdRule, ruleSides, ruleIn}
-use Rattle.step.specs.RuleParts.{outerIn, sumRows, netSum, PackedEvent, netSumIn, sideIn}
+use Rattle.step.specs.RuleParts.{sumRows, netSum, PackedEvent, netSumIn, sideIn}
 use Rattle.step.proofs.RuleHeld.{few-transitions, index-few, sidesWith, rule-is}
-use Rattle.step.proofs.ArcSums.{whole-row, outer-wide}
+use Rattle.step.proofs.ArcSums.{whole-row}
 
 -- how long a part is that is lent
 pub length-part : (l : List ℕ) (at n : ℕ) → at + n ≤ length l → length (take (at + n - at) (drop at l)) ≡ n
@@ -39,11 +41,11 @@ sum-in plan e arcs n a b p q = rw (p, q)
 
 -- the first row and those of the nets, laid one after the other
 pub side-laid : (plan : List ℕ) (e moves arcs a : ℕ) (side s₁ s₂ outer : List ℕ) → side ≡ replicate 288 0 → a ≡ 1024 → length outer ≡ 32
-    → outer ≡ outerIn (nth plan (18484 + e * 258)) (nth plan (18484 + e * 258 + 1)) (take a (drop moves plan)) → s₁ ≡ sets side 0 outer
+    → outer ≡ outerIn (nth plan (18484 + e * 258)) (nth plan (18484 + e * 258 + 1)) (rowIn 32 (take a (drop moves plan))) → s₁ ≡ sets side 0 outer
     → s₂ ≡ fill (putRow row) 1 (listed (netSumIn plan e arcs) 0 (nth plan 0)) s₁ → s₂ ≡ sideIn plan e moves arcs
 unfolding sideIn tabled fill
 side-laid plan e moves arcs a side s₁ s₂ outer none p wide o h k =
-    let first : outer ≡ padded (outerIn (nth plan (18484 + e * 258)) (nth plan (18484 + e * 258 + 1)) (take 1024 (drop moves plan))) =
+    let first : outer ≡ padded (outerIn (nth plan (18484 + e * 258)) (nth plan (18484 + e * 258 + 1)) (rowIn 32 (take 1024 (drop moves plan)))) =
     sym (whole-row outer wide) ∙ ap padded (rw p at o) in
     let laid = h ∙ ap (λ (l : List ℕ). sets l 0 outer) none ∙ ap (sets (replicate 288 0) 0) first in
     k ∙ ap (fill (putRow row) 1 (listed (netSumIn plan e arcs) 0 (nth plan 0))) laid
@@ -174,9 +176,9 @@ module _ (plan : List ℕ) (e : ℕ) (long : length plan ≡ 34996) (held : held
   side-is pick moves arcs table p q wide =
       let f = packed-of in
       let ev = event plan e known in
-      let outer : outerIn (nth plan (18484 + e * 258)) (nth plan (18484 + e * 258 + 1)) (take 1024 (drop moves plan)) ≡ outerIn (ev .kind) (ev .index) table =
+      let outer : outerIn (nth plan (18484 + e * 258)) (nth plan (18484 + e * 258 + 1)) (rowIn 32 (take 1024 (drop moves plan))) ≡ outerIn (ev .kind) (ev .index) (rowIn 32 table) =
       rw (kind-in plan e known, index-in plan e known, q) in
-      let o = outerIn (ev .kind) (ev .index) table in
+      let o = outerIn (ev .kind) (ev .index) (rowIn 32 table) in
       let w = whole-row o (outer-wide (ev .kind) (ev .index) table wide (omega (arith, index-in plan e known, f .index-some)) (omega (arith, index-in plan e known, f .index-few))) in
       let inner : listed (netSumIn plan e arcs) 0 (nth plan 0) ≡ listed (netSum pick (modelIn plan .objects) (ev .sync)) 0 (modelIn plan .nets) =
       rw (nets-in plan) (listed-same (netSumIn plan e arcs) (netSum pick (modelIn plan .objects) (ev .sync)) 0 (modelIn plan .nets) (λ n h.

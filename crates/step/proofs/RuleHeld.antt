@@ -1,36 +1,39 @@
 -- What the parts of the code answer for a held model is what the model's event asks and gives.
-use Prim.Native.Nat.{ℕ, zero, suc, _+_, _*_, pred, _≤_, _<_}
+use Prim.Native.Nat.{ℕ, zero, suc, _+_, _*_, _≤_, _<_}
 use mathlib.Core.Path.{_≡_, refl, ap, sym, _∙_}
-use mathlib.Core.Bool.{Bool, true, false≢true}
+use mathlib.Core.Bool.{Bool, true}
 use mathlib.Core.List.{List, [], _∷_}
 use native.Mathlib.Omega.{arith}
 use native.Mathlib.Nat.{zero-add, add-zero}
-use lib.ListN.{length, take, drop, getD, set, replicate, length-take, length-set, length-replicate, List·getD-eq-default}
+use lib.Dec.{ltb}
+use borrow.Author.Tests.{ltb-true}
+use lib.ListN.{length, take, drop, getD, length-take, List·getD-eq-default}
 use lib.Seq.{ext-getD, getD-take, getD-drop}
 use Rattle.text.proofs.Basics.{and-true}
-use Rattle.text.specs.Lines.{inRange}
 use Rattle.text.specs.Answers.{padded}
 use Rattle.text.proofs.PaddedLaws.{length-padded}
 use Rattle.text.proofs.TestLaws.{within-is}
 use Rattle.eos.specs.Vector.{_⊕_, times, zeros, unit}
 use Rattle.eos.specs.Model as eos
-use Rattle.eos.specs.Firing.{ofAct, outerOf, innerOf, summed, pre, post}
+use Rattle.eos.specs.Firing.{actSide, ofAct, outerOf, innerOf, summed, pre, post}
 use Rattle.eos.proofs.VectorLaws.{getD-⊕}
-use Rattle.eos.proofs.VectorSums.{length-times, length-unit, length-zeros, long-left, nth-times, nth-zero}
-use Rattle.model.specs.Rules.{nth}
-use Rattle.model.specs.Held.{row, rowIn, tabled, listed, noNet, noEvent, sidesIn, netOf, eventOf, syncIn, actOf, modelOf}
-use Rattle.model.specs.Test.{heldNet, heldAct, emptyPast, usedOf, frameIn}
+use Rattle.eos.proofs.VectorSums.{length-times, length-unit, length-zeros, length-one, long-left, nth-times, nth-zero}
+use Rattle.model.specs.Rules.{nth, rightAct}
+use Rattle.model.specs.Acts.{actOf, heldAct, outerIn}
+use Rattle.model.specs.Held.{row, rowIn, tabled, listed, noNet, noEvent, sidesIn, netOf, eventOf, syncIn, modelOf}
+use Rattle.model.specs.Test.{heldNet, emptyPast, usedOf, frameIn}
 use Rattle.model.specs.declared.ObjectNet.{ObjectNet}
 use Rattle.model.specs.declared.Event.{Event}
 use Rattle.model.specs.declared.Model.{Model}
-use Rattle.model.proofs.PaddedRows.{nth-zeros, nth-padded, padded-take}
+use Rattle.model.proofs.PaddedRows.{nth-padded, padded-take}
 use Rattle.model.proofs.SlotLaws.{by-index, length-listed, listed-at, listed-past}
 use Rattle.model.proofs.TableLaws.{length-row, rows-ext, length-tabled, tabled-row, nth-row}
 use Rattle.model.proofs.HeldTests.{Held, moves-are, most-nets, most-places, most-moves}
-use Rattle.model.proofs.HeldTestLoops.{few-steps, act-range}
+use Rattle.model.proofs.HeldTestLoops.{few-steps}
+use Rattle.model.proofs.HeldActs.{act-is, act-range}
 use Rattle.model.proofs.UsedLaws.{types-empty, count-is, net-used, net-held, event-used}
 use Rattle.step.specs.Rule.{Sides, holdSides, holdRule}
-use Rattle.step.specs.RuleParts.{outerIn, sumRows, netSum}
+use Rattle.step.specs.RuleParts.{sumRows, netSum}
 
 -- ---- sums, number by number
 
@@ -222,34 +225,24 @@ module _ (m : Model) (held : Held m) (e : ℕ) (known : e < m .listed) where
         (ext-getD 0 (padded v) (rowIn 32 table i) (length-padded v ∙ sym n)
         (λ j p. nth-padded v short j ∙ ap (λ (g : ℕ → ℕ). g j) (nth-row 32 (m .moves) (λ _. m .places) table (s .room) few i h wide)))
 
-    nth-unit : (p q : ℕ) (v : List ℕ) → p < length v → ((i : ℕ) → nth v i ≡ 0) → nth (unit p) q ≡ nth (set v p 1) q
-    nth-unit p q [] h z = absurd (omega arith)
-    nth-unit zero zero (a ∷ v) h z = refl
-    nth-unit zero (suc q) (a ∷ v) h z = sym (z (suc q))
-    nth-unit (suc p) zero (a ∷ v) h z = sym (z 0)
-    nth-unit (suc p) (suc q) (a ∷ v) h z = nth-unit p q v (omega arith) (λ i. z (suc i))
-
     -- one net-token on a place
-    idle-is : (p : ℕ) → p < m .places → padded (unit p ⊕ zeros (eos.places (modelOf m))) ≡ set (replicate 32 0) p 1
+    idle-is : (p : ℕ) → p < m .places → padded (unit p ⊕ zeros (eos.places (modelOf m))) ≡ unit p ⊕ zeros 32
     unfolding modelOf
     idle-is p h =
         let n = length (take (m .places) (m .types)) in
         let wide = most-places m held in
         let v = unit p ⊕ zeros n in
-        let one : List ℕ = set (replicate 32 0) p 1 in
+        let one = unit p ⊕ zeros 32 in
         let few : n ≤ 32 = omega (arith, length-take (m .places) (m .types)) in
         let short : length v ≤ 32 = length-both 32 (unit p) (zeros n) (omega (arith, length-unit p)) (omega (arith, length-zeros n)) in
-        let room : length {A = ℕ} (replicate 32 0) ≡ 32 = length-replicate {A = ℕ} 32 0 in
         let at : (i : ℕ) → nth v i ≡ nth one i =
-        λ i. omega (arith, getD-⊕ (unit p) (zeros n) i, nth-zero n i, nth-unit p i (replicate 32 0) (omega arith) (nth-zeros 32)) in
-        ext-getD 0 (padded v) one (length-padded v ∙ sym (length-set {A = ℕ} (replicate 32 0) p 1 ∙ room)) (λ i q. nth-padded v short i ∙ at i)
+        λ i. omega (arith, getD-⊕ (unit p) (zeros n) i, nth-zero n i, getD-⊕ (unit p) (zeros 32) i, nth-zero 32 i) in
+        ext-getD 0 (padded v) one (length-padded v ∙ sym (length-one p 32 (omega arith))) (λ i q. nth-padded v short i ∙ at i)
 
-    pub outer-is : (kind index : ℕ) → heldAct (frameIn m) kind index ≡ true → padded (ofAct side (modelOf m) (actOf kind index)) ≡ outerIn kind index table
-    unfolding heldAct outerIn
-    outer-is zero index a = absurd (false≢true a)
-    outer-is (suc zero) index a = let d = within-is 1 (m .moves) index a in move-is (pred index) (omega arith)
-    outer-is (suc (suc zero)) index a = let d = within-is 1 (m .places) index (and-true (inRange 1 (m .places) index) _ a .0) in idle-is (pred index) (omega arith)
-    outer-is (suc (suc (suc k))) index a = absurd (false≢true a)
+    outer-is : (a : eos.Act) → rightAct (frameIn m) a ≡ true → padded (ofAct side (modelOf m) a) ≡ actSide (rowIn 32 table) 32 a
+    unfolding rightAct
+    outer-is (eos.move k) h = move-is k (ltb-true k (m .moves) h)
+    outer-is (eos.idle p) h = idle-is p (ltb-true p (m .places) (and-true (ltb p (m .places)) _ h .0))
 
   -- ---- the whole
 
@@ -261,14 +254,14 @@ module _ (m : Model) (held : Held m) (e : ℕ) (known : e < m .listed) where
   types-are a = sym (padded-take (m .places) (m .types) a (types-empty m held a))
 
   -- what the theory has for the event's outer side
-  outer-of : {side : eos.Transition → List ℕ} {table : List ℕ} → Moving side table → outerIn (event .kind) (event .index) table ≡ padded (outerOf side (modelOf m) (eos.event (modelOf m) e))
+  outer-of : {side : eos.Transition → List ℕ} {table : List ℕ} → Moving side table → outerIn (event .kind) (event .index) (rowIn 32 table) ≡ padded (outerOf side (modelOf m) (eos.event (modelOf m) e))
   unfolding outerOf eventOf
-  outer-of {side} s = rw event-is (sym (outer-is s (event .kind) (event .index) act-held))
+  outer-of {side} s = rw event-is (sym (outer-is s (actOf (event .kind) (event .index)) (act-is (frameIn m) (event .kind) (event .index) act-held .right)))
 
   -- a side from its parts
   abbrev pub sidesWith : (ObjectNet → List ℕ) → List ℕ → Sides
   sidesWith pick table = record {
-    outer = outerIn (event .kind) (event .index) table;
+    outer = outerIn (event .kind) (event .index) (rowIn 32 table);
     inner = tabled row 256 (listed (netSum pick (m .objects) (event .sync)) 0 (m .nets));
   }
 
@@ -299,4 +292,4 @@ few-transitions m held long n =
 pub index-few : (m : Model) → Held m → (e : ℕ) → e < m .listed → (1 ≤ getD (m .events) e noEvent .index) × (getD (m .events) e noEvent .index ≤ 32)
 index-few m held e known =
     let v = getD (m .events) e noEvent in
-    act-range (frameIn m) (v .index) (v .kind) (act-held m held e known) (most-moves m held) (most-places m held)
+    act-range (frameIn m) (v .kind) (v .index) (act-held m held e known) (most-moves m held) (most-places m held)

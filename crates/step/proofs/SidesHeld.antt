@@ -7,10 +7,10 @@ use native.Mathlib.Omega.{arith}
 use borrow.Author.Tests.{ltb-true}
 use lib.ListN.{length, getD}
 use lib.Dec.{ltb}
-use Rattle.eos.specs.Vector.{times, zeros, unit}
+use Rattle.eos.specs.Vector.{times, zeros}
 use Rattle.eos.specs.Model.{Transition, Act, move, idle, Event, Model, places, net, event, noTransition}
 use Rattle.eos.specs.Firing.{ofAct, outerOf, summed, innerOf, pre, post}
-use Rattle.eos.proofs.VectorSums.{length-times, length-unit, length-zeros, long-left, long-right}
+use Rattle.eos.proofs.VectorSums.{length-times, length-zeros, long-left, length-one}
 use Rattle.text.proofs.Basics.{and-true}
 use Rattle.text.specs.Lines.{every}
 use Rattle.text.specs.Answers.{padded}
@@ -46,9 +46,7 @@ module _ (side : Transition → List ℕ) (s : Side side) where
     act-long : (a : Act) → rightAct (frameOf m) a ≡ true → length (ofAct side m a) ≡ places m
     unfolding rightAct
     act-long (move k) h = s (places m) (getD (m .moves) k noTransition) (right-move m (right-is m right) k (ltb-true k (length (m .moves)) h) .sides)
-    act-long (idle p) h =
-        let q = and-true (ltb p (places m)) _ h in
-        long-right (unit p) (zeros (places m)) (omega (arith, length-unit p, length-zeros (places m), ltb-true p (places m) (q .0))) ∙ length-zeros (places m)
+    act-long (idle p) h = length-one p (places m) (ltb-true p (places m) (and-true (ltb p (places m)) _ h .0))
 
     pub outer-side-long : (e : ℕ) → e < length (m .events) → length (outerOf side m (event m e)) ≡ places m
     unfolding outerOf

@@ -1,20 +1,15 @@
 -- What the parts of the code answer that adds up what an event asks and gives.
-use Prim.Native.Nat.{ℕ, zero, suc, _+_, _*_, pred, _≤_, _<_}
+use Prim.Native.Nat.{ℕ, zero, suc, _+_, _*_, _≤_, _<_}
 use mathlib.Core.Path.{_≡_}
-use mathlib.Core.Bool.{true, false}
 use mathlib.Core.List.{List, _∷_}
-use lib.Dec.{eqb}
-use lib.ListN.{length, getD, set, replicate, take, drop}
+use lib.ListN.{length, getD, take, drop}
 use Rattle.eos.specs.Vector.{_⊕_, times, zeros}
 use Rattle.model.specs.Limits.{syncRoom}
 use Rattle.model.specs.Rules.{nth}
+use Rattle.model.specs.Acts.{outerIn}
 use Rattle.model.specs.Held.{row, rowIn, tabled, listed, noNet}
 use Rattle.model_packed.specs.Layout.{netAt, eventAt, eventSync, packedLong}
 use Rattle.model.specs.declared.ObjectNet.{ObjectNet}
-
--- a move's row of the table, or one net-token on the place
-unfoldable pub outerIn : ℕ → ℕ → List ℕ → List ℕ
-outerIn kind index table = elim (eqb kind 1) [ true ↦ rowIn 32 table (pred index) | false ↦ set (replicate 32 0) (pred index) 1 ]
 
 -- v, and n rows from row i on, each as often as it is counted
 unfoldable pub sumRows : (ℕ → ℕ) → (ℕ → List ℕ) → ℕ → ℕ → List ℕ → List ℕ
@@ -50,4 +45,4 @@ netSumIn plan e arcs n =
 unfoldable pub sideIn : List ℕ → ℕ → ℕ → ℕ → List ℕ
 sideIn plan e moves arcs =
     tabled row 288
-    (outerIn (nth plan (eventAt e)) (nth plan (eventAt e + 1)) (take 1024 (drop moves plan)) ∷ listed (netSumIn plan e arcs) 0 (nth plan 0))
+    (outerIn (nth plan (eventAt e)) (nth plan (eventAt e + 1)) (rowIn 32 (take 1024 (drop moves plan))) ∷ listed (netSumIn plan e arcs) 0 (nth plan 0))

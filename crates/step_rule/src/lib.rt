@@ -14,8 +14,9 @@ ghost use Rattle.model.specs.Test.{heldModel};
 ghost use Rattle.model_packed.specs.Packed.{modelIn};
 ghost use Rattle.model_packed.specs.Layout.{postAt, netPost, packedLong};
 ghost use Rattle.step.specs.Rule.{holdRule, ruleIn};
-ghost use Rattle.step.specs.RuleParts.{outerIn, sumRows, PackedEvent, netSumIn, sideIn};
+ghost use Rattle.step.specs.RuleParts.{sumRows, PackedEvent, netSumIn, sideIn};
 use model::Event;
+use model_acts::outer_side;
 use model_packed::EVENT;
 use model_packed::EVENT_SYNC;
 use model_packed::EVENTS;
@@ -26,35 +27,6 @@ use model_packed::OBJECTS;
 use model_packed::POST;
 use model_packed::PRE;
 use model_tables::sums::put_sums;
-
-// Row i of a table of arcs.
-fn arcs_at(table: &[u8], i: usize) -> [u64; 32]
-    requires { ⌜ i * 32 + 32 ≤ length (now table) ⌝ }
-    ensures { λ r. ⌜ r ≡ rowIn 32 (now (table .entry)) i ⌝ }
-{
-    let mut row = [0u64; 32];
-    let at = i * 32;
-    let mut k = 0;
-    while k < 32 {
-        row[k] = table[at + k] as u64;
-        k += 1;
-    }
-    row
-}
-
-// The outer side of an event: the move's row of the table, or one net-token on the place at which it idles.
-fn outer_side(kind: u8, index: u8, table: &[u8]) -> [u64; 32]
-    requires { ⌜ (1 ≤ index) × (index ≤ 32) × (length (now table) ≡ 1024) ⌝ }
-    ensures { λ r. ⌜ r ≡ outerIn kind index (now (table .entry)) ⌝ }
-{
-    let i = index as usize - 1;
-    if kind == 1 {
-        return arcs_at(table, i);
-    }
-    let mut one = [0u64; 32];
-    one[i] = 1;
-    one
-}
 
 // Row t of a table of arcs added to the sum, as often as it is counted.
 fn plus_times(sum: &mut [u64; 32], count: u8, table: &[u8], t: usize)

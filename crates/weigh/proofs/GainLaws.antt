@@ -1,11 +1,10 @@
 -- The tables of what transitions gain: a row as it is filled, and the rows laid one after the other.
-use Prim.Native.Nat.{ℕ, zero, suc, _+_, _-_, _*_, _≤_, _<_}
+use Prim.Native.Nat.{ℕ, zero, suc, _+_, _*_, _≤_, _<_}
 use mathlib.Core.Path.{_≡_, refl, ap, _∙_}
-use mathlib.Core.Bool.{Bool, true, false, cond}
+use mathlib.Core.Bool.{Bool}
 use mathlib.Core.List.{List, [], _∷_}
 use native.Mathlib.Omega.{arith}
 use native.Mathlib.Nat.{add-zero, zero-add}
-use lib.Dec.{eqb}
 use borrow.Author.Tests.{eq-eqb, ne-eqb}
 use lib.ListN.{length, getD, set, replicate, length-set, length-replicate}
 use lib.Seq.{sets, getD-set-same, getD-set-other, set-out, length-sets}
@@ -15,7 +14,7 @@ use Rattle.model.specs.declared.ObjectNet.{ObjectNet}
 use Rattle.model.specs.declared.Event.{Event}
 use Rattle.model.proofs.PaddedRows.{nth-zeros}
 use Rattle.model.proofs.SlotLaws.{by-index}
-use Rattle.weigh.specs.Sums.{product, gainOf, Small, GainRow, NetGains, TableGains, eventGain, balanced, leastAfter}
+use Rattle.weigh.specs.Sums.{moveGain, product, gainOf, Small, GainRow, NetGains, TableGains, eventGain, balanced, leastAfter}
 
 -- ---- a number stored in a list
 
@@ -125,12 +124,10 @@ pub model-gains : (pre post : List ℕ) (nets : ℕ) (objects : List ObjectNet) 
 model-gains pre post nets objects up down moves gain g n = record { small = n .small; moves = λ t p. n .first t p ∙ g .is t p; nets = n .is }
 
 -- what a move gains stays small
-pub move-small : (kind index : ℕ) (gain : List ℕ) (r : ℕ) → r ≡ cond (eqb kind 1) (nth gain (index - 1)) 0 → Small gain → r ≤ 1069531200
-move-small kind index gain r e h = rw e (go (eqb kind 1))
-  where
-    go : (t : Bool) → cond t (nth gain (index - 1)) 0 ≤ 1069531200
-    go true = h (index - 1)
-    go false = omega arith
+pub move-small : (gain : List ℕ) → Small gain → (k : ℕ) → moveGain gain k ≤ 1069531200
+unfolding moveGain
+move-small gain h zero = omega arith
+move-small gain h (suc k) = h k
 
 -- the least of the events before k, with the event e at k
 module _ (least k : ℕ) where

@@ -1,22 +1,23 @@
 -- One step of the loops that add up, test and compare weights, and their ends.
 use Prim.Native.Nat.{ℕ, zero, suc, _+_, _-_, _*_, _/_, _≤_, _<_, min}
 use mathlib.Core.Path.{_≡_, refl, sym, ap, ap₂, _∙_}
-use mathlib.Core.Bool.{Bool, true, false, cond, _&&_}
+use mathlib.Core.Bool.{Bool, true, false, _&&_}
 use mathlib.Core.List.{List, [], _∷_}
 use native.Mathlib.Omega.{arith}
 use native.Mathlib.Nat.{add-zero, zero-add, mul-le-mul}
 use native.Mathlib.Numerals.{add-one}
-use lib.Dec.{eqb, ltb, leb}
+use lib.Dec.{ltb, leb}
 use lib.ListN.{length, take, drop, getD, length-drop}
 use lib.Seq.{drop-cons, getD-take, drop-length, length-take-le}
-use borrow.Author.Tests.{eq-eqb, ne-eqb, lt-ltb, le-ltb}
+use borrow.Author.Tests.{ne-eqb, lt-ltb, le-ltb}
 use Rattle.eos.specs.Firing.{allBelow}
 use Rattle.eos.specs.Causes.{failing, numbered}
 use Rattle.text.proofs.Basics.{by-test}
 use Rattle.model.specs.Limits.{countLimit}
+use Rattle.model.specs.Rules.{nth}
 use Rattle.model.specs.Held.{noNet}
 use Rattle.model.specs.declared.ObjectNet.{ObjectNet}
-use Rattle.weigh.specs.Sums.{total, leastAfter, lowest, someAt, enoughAt, netCovered}
+use Rattle.weigh.specs.Sums.{moveGain, total, leastAfter, lowest, someAt, enoughAt, netCovered}
 use Rattle.weigh.proofs.TotalLaws.{total-on}
 
 -- a product of two numbers that have limits
@@ -86,11 +87,14 @@ is-enough sum w h = let p : 0 < w = omega (arith, h) in rw (lt-ltb 0 w p)
 
 -- ---- a move's gain
 
-pub of-move : (kind x : ℕ) → kind ≡ 1 → x ≡ cond (eqb kind 1) x 0
-of-move kind x e = rw (eq-eqb kind 1 e)
+pub of-none : (gain : List ℕ) (k : ℕ) → k ≡ 0 → 0 ≡ moveGain gain k
+unfolding moveGain
+of-none gain k e = rw e
 
-pub of-idle : (kind x : ℕ) → (kind ≡ 1 → ⊥) → 0 ≡ cond (eqb kind 1) x 0
-of-idle kind x e = rw (ne-eqb kind 1 e)
+pub of-move : (gain : List ℕ) (k : ℕ) → (k ≡ 0 → ⊥) → nth gain (k - 1) ≡ moveGain gain k
+unfolding moveGain
+of-move gain zero h = absurd (h refl)
+of-move gain (suc k) h = let e : suc k - 1 ≡ k = omega arith in rw e
 
 -- ---- the least index at which a test fails, with one index more
 

@@ -8,6 +8,7 @@ use lib.ListN.{length, take, getD}
 use Rattle.eos.specs.Firing.{allBelow}
 use Rattle.model.specs.Limits.{countLimit}
 use Rattle.model.specs.Rules.{nth}
+use Rattle.model.specs.Acts.{moveIn}
 use Rattle.model.specs.Held.{noNet, noEvent}
 use Rattle.model.specs.declared.ObjectNet.{ObjectNet}
 use Rattle.model.specs.declared.Event.{Event}
@@ -59,10 +60,14 @@ pub record TableGains (pre post : List ℕ) (count : ℕ) (objects : List Object
 abbrev pub Gains : Model → List ℕ → List ℕ → List ℕ → Type 0
 Gains m up down gain = TableGains (m .pre) (m .post) (m .nets) (m .objects) up down gain
 
+-- what a move gains, numbered from 1; 0 is no move
+unfoldable pub moveGain : List ℕ → ℕ → ℕ
+moveGain gain zero = 0
+moveGain gain (suc k) = nth gain k
+
 -- what an event gains: what its move gains, and each transition's gain as often as it is counted. Idling gains nothing outside
 unfoldable pub eventGain : ℕ → Event → List ℕ → ℕ
-eventGain nets e gain =
-    cond (eqb (e .kind) 1) (nth gain (e .index - 1)) 0 + total (nets * 32) (λ k. nth (e .sync) k * nth gain (32 + k))
+eventGain nets e gain = moveGain gain (moveIn (e .kind) (e .index)) + total (nets * 32) (λ k. nth (e .sync) k * nth gain (32 + k))
 
 -- an event's move or place is one of 32
 pub record ActIn (e : Event) : Type 0 where

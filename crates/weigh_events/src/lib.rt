@@ -1,16 +1,15 @@
 // What events gain and lose: an event whose effect is 0 gains what it loses.
 ghost use mathlib.Core.Path.{_≡_};
-ghost use mathlib.Core.Bool.{cond};
-ghost use Prim.Native.Nat.{ℕ, _+_, _-_, _*_, _^_, _≤_, _<_};
-ghost use lib.Dec.{eqb};
+ghost use Prim.Native.Nat.{ℕ, _+_, _*_, _^_, _≤_, _<_};
 ghost use lib.ListN.{length, getD};
 ghost use Rattle.eos.specs.Causes.{failing, numbered};
 ghost use Rattle.model.specs.Limits.{syncRoom};
 ghost use Rattle.model.specs.Rules.{nth};
 ghost use Rattle.model.specs.Held.{noEvent};
-ghost use Rattle.weigh.specs.Sums.{total, product, GainRow, NetGains, TableGains, Small, eventGain, balanced, balancedAt, leastAfter, ActIn};
+ghost use Rattle.weigh.specs.Sums.{total, product, GainRow, NetGains, TableGains, Small, moveGain, eventGain, balanced, balancedAt, leastAfter, ActIn};
 use model::Event;
 use model::ObjectNet;
+use model_acts::move_of;
 use model_tables::sums::put_sums;
 
 // A weight times an arc.
@@ -101,15 +100,15 @@ pub fn gains<'a>(
     gain_table(moves, nets, objects, up, down)
 }
 
-// What an event's move gains; idling gains nothing outside.
-fn move_gain(kind: u8, index: u8, gain: &[u64]) -> u64
-    requires { ⌜ (1 ≤ index) × (index ≤ 32) × (length (now gain) ≡ 288) ⌝ }
-    ensures { λ r. ⌜ r ≡ cond (eqb kind 1) (nth (now (gain .entry)) (index - 1)) 0 ⌝ }
+// What move k gains, numbered from 1; 0 is no move.
+fn move_gain(k: u8, gain: &[u64]) -> u64
+    requires { ⌜ (k ≤ 32) × (length (now gain) ≡ 288) ⌝ }
+    ensures { λ r. ⌜ r ≡ moveGain (now (gain .entry)) k ⌝ }
 {
-    if kind == 1 {
-        return gain[index as usize - 1];
+    if k == 0 {
+        return 0;
     }
-    0
+    gain[k as usize - 1]
 }
 
 // A gain, as often as it is counted.
@@ -139,7 +138,7 @@ fn event_gain(e: Event, nets: usize, gain: [u64; 288]) -> u64
     requires { ⌜ (nets ≤ 8) × ActIn e × Small gain ⌝ }
     ensures { λ r. ⌜ r ≡ eventGain nets e gain ⌝ }
 {
-    let outside = move_gain(e.kind, e.index, &gain);
+    let outside = move_gain(move_of(e.kind, e.index), &gain);
     let inside = counts_gain(&e.sync, nets * 32, &gain);
     outside + inside
 }

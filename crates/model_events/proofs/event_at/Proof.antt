@@ -8,13 +8,13 @@ use Rattle.model_text.specs.Reading.{readAct}
 use Rattle.model_text.specs.Answers.{asFrame}
 use Rattle.model_text.proofs.EventLaws.{ActGot, act-got, index-in, act-refused, counts-refused, event-read}
 
-abbrev start : tie.After-known-told → tie.Start
-start c = c .before .before .before .before .before
+abbrev start : tie.After-types → tie.Start
+start c = c .before .before .before .before .before .before
 
 -- the first line, which was accepted
-first : (c : tie.After-known-told) → ActGot (readAct (asFrame (start c .args .f)) (now (start c .args .s)) (start c .args .at))
-    (c .before .a .given .0 .0) (c .before .a .given .0 .1 .0) (c .before .a .given .0 .1 .1 .0)
-first c = act-got _ _ _ _ (sym (c .before .a .given .1) ∙ c .before .before .before .act-at .ensures)
+first : (c : tie.After-types) → ActGot (readAct (asFrame (start c .args .f)) (now (start c .args .s)) (start c .args .at))
+    (c .before .before .a .given .0 .0) (c .before .before .a .given .0 .1 .0) (c .before .before .a .given .0 .1 .1 .0)
+first c = let k = c .before .before in act-got _ _ _ _ (sym (k .a .given .1) ∙ k .before .before .act-at .ensures)
 
 act-at-requires : tie.Need-act-at-requires
 act-at-requires c κs = search needs

@@ -5,7 +5,8 @@ use Rattle.model_test.proofs.event_held.Tie as tie
 use mathlib.Core.Path.{sym, _∙_}
 use borrow.Author.Tests.{not-true, not-false}
 use Rattle.model.specs.Test.{heldEvent, framed}
-use Rattle.model.proofs.HeldTestLoops.{and-no, and-yes, act-range}
+use Rattle.model.proofs.HeldTestLoops.{and-no, and-yes}
+use Rattle.model.proofs.HeldActs.{act-range}
 
 act-held-requires : tie.Need-act-held-requires
 act-held-requires c κs = search needs
@@ -21,7 +22,7 @@ own-net-requires : tie.Need-own-net-requires
 own-net-requires c κs =
     let b = c .before in
     let a = b .before .args in
-    act-range (framed (a .places) (a .moves) (a .nets) (a .types) (a .t5)) (a .t6 .index) (a .t6 .kind)
+    act-range (framed (a .places) (a .moves) (a .nets) (a .types) (a .t5)) (a .t6 .kind) (a .t6 .index)
     (sym (b .act-held .ensures (a .nets) (a .t5)) ∙ not-false _ (c .if1 .left)) (b .before .pre .1) (b .before .pre .0)
 
 slice-aggregate-empty-past : tie.Need-slice-aggregate-empty-past
@@ -42,7 +43,7 @@ returns-2 c =
     let b = i .before in
     let a = b .before .args in
     and-yes _ _ _ (sym (b .act-held .ensures (a .nets) (a .t5)) ∙ not-false _ (i .if1 .left))
-    (rw (p .empty-past .ensures, c .parts-held .ensures, o .own-net .ensures (a .places) (a .moves) (a .nets) (a .t5)))
+    (rw (p .empty-past .ensures, c .parts-held .ensures, o .own-net .ensures))
 
 pub event-held-spec : {M : Type 1} → statement M
 event-held-spec =

@@ -1,6 +1,6 @@
 -- `arcs_at` meets its contract.
-use Rattle.step_rule.proofs.arcs_at.Statement.{statement}
-use Rattle.step_rule.proofs.arcs_at.Tie as tie
+use Rattle.model_acts.proofs.arcs_at.Statement.{statement}
+use Rattle.model_acts.proofs.arcs_at.Tie as tie
 use borrow.Author.Needs.{needs}
 use Prim.Native.Nat.{_-_, _≤_, _<_, _+_, _*_}
 use mathlib.Core.Path.{_≡_, refl, _∙_}
