@@ -92,11 +92,13 @@ typedef struct {
     fp_marking marking;
 } fp_stepped;
 
-/* A run over a trace: the steps fired before the stop, and the marking then. */
+/* A run over a trace: the steps fired before the stop, the byte of the trace where it stopped, and the marking then. The byte is where the
+ * step that was turned down begins; the whole length at the end; 0 where the run was refused before its first step, by its header too. */
 typedef struct {
     size_t number;
     size_t beside;
     size_t fired;
+    size_t at;
     fp_marking marking;
 } fp_ran;
 
@@ -133,6 +135,7 @@ typedef struct {
     size_t number;
     size_t beside;
     size_t fired;
+    size_t at;
 } fp_ran_at;
 
 static inline fp_stepped_at fp_step_at(const fp_model *model, fp_marking *marking, const uint8_t *text, size_t len) {
@@ -145,7 +148,7 @@ static inline fp_stepped_at fp_step_at(const fp_model *model, fp_marking *markin
 static inline fp_ran_at fp_run_at(const fp_model *model, fp_marking *marking, const uint8_t *text, size_t len) {
     fp_ran r = fp_run(*model, *marking, text, len);
     *marking = r.marking;
-    fp_ran_at a = {r.number, r.beside, r.fired};
+    fp_ran_at a = {r.number, r.beside, r.fired, r.at};
     return a;
 }
 

@@ -51,6 +51,7 @@ static void answers(void) {
     FIELD(fp_stepped, marking);
     SIZE(fp_ran);
     FIELD(fp_ran, fired);
+    FIELD(fp_ran, at);
     FIELD(fp_ran, marking);
     SIZE(fp_spread);
     FIELD(fp_spread, ways);

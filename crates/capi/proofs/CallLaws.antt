@@ -50,7 +50,7 @@ pub step-is : (r : Stepped) (p : Pair) {n : ℕ} {s : Stepped} → r ≡ s → r
 step-is r p e h f = let n = numbers p (stepPair (r .answer)) h in rw (n .0, n .1, f) (ap stepDone e)
 
 pub run-is : (r : Ran) (p : Pair) {s : Ran} → r ≡ s → refusalOf p ≡ stopPair (r .stop)
-    → record { number = p .number; beside = p .beside; fired = r .fired; marking = r .marking } ≡ runDone s
+    → record { number = p .number; beside = p .beside; fired = r .fired; at = r .at; marking = r .marking } ≡ runDone s
 run-is r p e h = let n = numbers p (stopPair (r .stop)) h in rw (n .0, n .1) (ap runDone e)
 
 pub shared-is : (a : Spread) (p : Pair) {n : ℕ} {s : Spread} → a ≡ s → refusalOf p ≡ spreadPair a → n ≡ spreadValue a

@@ -59,7 +59,7 @@ abbrev pub stepDone : Stepped → StepDone
 stepDone r = record { number = stepPair (r .answer) .number; beside = stepPair (r .answer) .beside; used = usedBy (r .answer); marking = r .marking }
 
 abbrev pub runDone : Ran → RunDone
-runDone r = record { number = stopPair (r .stop) .number; beside = stopPair (r .stop) .beside; fired = r .fired; marking = r .marking }
+runDone r = record { number = stopPair (r .stop) .number; beside = stopPair (r .stop) .beside; fired = r .fired; at = r .at; marking = r .marking }
 
 abbrev pub shared : Spread → Shared
 shared a = record { number = spreadPair a .number; beside = spreadPair a .beside; ways = spreadValue a }

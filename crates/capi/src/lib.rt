@@ -69,6 +69,7 @@ pub struct RunDone {
     pub number: usize,
     pub beside: usize,
     pub fired: usize,
+    pub at: usize,
     pub marking: Marking,
 }
 
@@ -189,6 +190,7 @@ pub extern "C" fn fp_run(model: Model, marking: Marking, text: &[u8]) -> RunDone
         number: pair.number as usize,
         beside: pair.beside,
         fired: ran.fired,
+        at: ran.at,
         marking: after,
     }
 }

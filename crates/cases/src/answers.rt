@@ -73,6 +73,8 @@ pub fn run(m: Model, k: Marking, text: &[u8]) {
     let r = engine::run(m, k, text);
     put(b"fired ");
     put_number(r.fired);
+    put(b", at ");
+    put_number(r.at);
     put(b", stop ");
     let stop = r.stop;
     put_pair(pairs::stop_pair(stop));

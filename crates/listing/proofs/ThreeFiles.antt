@@ -53,7 +53,7 @@ module _ (m : Model) (k : Marking) (s : Text) where
   unfolding weightsFile
   weights-short h = rw (le-leb (length s) fileLongest h, weightsFile)
 
-  pub trace-long : fileLongest < length s → ran 0 stop.TooLong k ≡ traceFile m k s
+  pub trace-long : fileLongest < length s → ran 0 0 stop.TooLong k ≡ traceFile m k s
   unfolding traceFile
   trace-long h = rw (lt-leb (length s) fileLongest h, traceFile)
 

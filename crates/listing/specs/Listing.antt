@@ -36,7 +36,7 @@ unfoldable pub weightsFile : Model → Marking → Text → WeightCheck
 weightsFile m k s = elim (leb (length s) fileLongest) [ true ↦ weightChecking m k s | false ↦ refusedWeights weight.TooLong ]
 
 unfoldable pub traceFile : Model → Marking → Text → Ran
-traceFile m k s = elim (leb (length s) fileLongest) [ true ↦ running m k s | false ↦ ran 0 stop.TooLong k ]
+traceFile m k s = elim (leb (length s) fileLongest) [ true ↦ running m k s | false ↦ ran 0 0 stop.TooLong k ]
 
 -- ---- the lines
 

@@ -88,22 +88,22 @@ unfolding stepped
 tried-stops k (fires used μ) h = absurd (h used refl)
 tried-stops k (stops a) h = (refl, refl)
 
-module _ (fuel : ℕ) (m : Model) (k : Marking) (n : ℕ) where
+module _ (fuel : ℕ) (m : Model) (k : Marking) (n at : ℕ) where
   -- at the end of the text
-  pub run-end : (s : Text) → length s ≡ 0 → runFrom fuel m k s n ≡ ran n stop.AtEnd k
+  pub run-end : (s : Text) → length s ≡ 0 → runFrom fuel m k s n at ≡ ran n at stop.AtEnd k
   run-end s e = go fuel s e
     where
-      go : (f : ℕ) (s : Text) → length s ≡ 0 → runFrom f m k s n ≡ ran n stop.AtEnd k
+      go : (f : ℕ) (s : Text) → length s ≡ 0 → runFrom f m k s n at ≡ ran n at stop.AtEnd k
       go zero s e = unfold runFrom in refl
       go (suc f) [] e = unfold runFrom onward in refl
       go (suc f) (b ∷ s) e = absurd (omega arith)
 
-  onward-fires : (rest : ℕ → eos.Marking → Ran) (s : Text) (t : Tried) (used : ℕ) (μ : eos.Marking) → 0 < length s → t ≡ fires used μ → onward rest n k s t ≡ rest used μ
+  onward-fires : (rest : ℕ → eos.Marking → Ran) (s : Text) (t : Tried) (used : ℕ) (μ : eos.Marking) → 0 < length s → t ≡ fires used μ → onward rest n at k s t ≡ rest used μ
   unfolding onward
   onward-fires rest [] t used μ h e = absurd (omega arith)
   onward-fires rest (b ∷ s) t used μ h e = rw e
 
-  onward-stops : (rest : ℕ → eos.Marking → Ran) (s : Text) (t : Tried) (a : StepAnswer) → 0 < length s → t ≡ stops a → onward rest n k s t ≡ ran n (stoppedBy a) k
+  onward-stops : (rest : ℕ → eos.Marking → Ran) (s : Text) (t : Tried) (a : StepAnswer) → 0 < length s → t ≡ stops a → onward rest n at k s t ≡ ran n at (stoppedBy a) k
   unfolding onward
   onward-stops rest [] t a h e = absurd (omega arith)
   onward-stops rest (b ∷ s) t a h e = rw e
@@ -111,38 +111,38 @@ module _ (fuel : ℕ) (m : Model) (k : Marking) (n : ℕ) where
   module _ (s : Text) (more : 0 < length s) where
     -- the step call on what is left fires: the run goes on behind its bytes, on the marking that it left
     pub run-fires : (used : ℕ) → heldStep roomLimit m k s .answer ≡ Fired used
-        → runFrom (suc fuel) m k s n ≡ runFrom fuel m (heldStep roomLimit m k s .marking) (drop used s) (n + 1)
+        → runFrom (suc fuel) m k s n at ≡ runFrom fuel m (heldStep roomLimit m k s .marking) (drop used s) (n + 1) (at + used)
     unfolding runFrom
     run-fires used h =
         let b = held-brings m k s used h in
-        onward-fires (λ u μ. runFrom fuel m (holdMarking μ) (drop u s) (n + 1)) s _ used _ more (brings-tried m k s used b)
-        ∙ ap (λ (r : Stepped). runFrom fuel m (r .marking) (drop used s) (n + 1)) (sym (brings-fires m k s used b))
+        onward-fires (λ u μ. runFrom fuel m (holdMarking μ) (drop u s) (n + 1) (at + u)) s _ used _ more (brings-tried m k s used b)
+        ∙ ap (λ (r : Stepped). runFrom fuel m (r .marking) (drop used s) (n + 1) (at + used)) (sym (brings-fires m k s used b))
 
     -- it is turned down: the run stops with its answer, on the marking that it left
     pub run-stops : ((used : ℕ) → heldStep roomLimit m k s .answer ≡ Fired used → ⊥)
-        → runFrom (suc fuel) m k s n ≡ ran n (stoppedBy (heldStep roomLimit m k s .answer)) (heldStep roomLimit m k s .marking)
+        → runFrom (suc fuel) m k s n at ≡ ran n at (stoppedBy (heldStep roomLimit m k s .answer)) (heldStep roomLimit m k s .marking)
     unfolding runFrom heldStep
     run-stops h =
         let t = tried roomLimit (modelOf m) (sizesFor m) (tokensOf (sizesFor m) k) s in
         let p = tried-stops k t h in
-        onward-stops (λ u μ. runFrom fuel m (holdMarking μ) (drop u s) (n + 1)) s t _ more (p .0)
-        ∙ ap (ran n (stoppedBy (stepped k t .answer))) (sym (p .1))
+        onward-stops (λ u μ. runFrom fuel m (holdMarking μ) (drop u s) (n + 1) (at + u)) s t _ more (p .0)
+        ∙ ap (ran n at (stoppedBy (stepped k t .answer))) (sym (p .1))
 
 -- a run keeps a held marking held
-from-keeps : (fuel : ℕ) (m : Model) (k : Marking) (s : Text) (n : ℕ) → Keeps m k → Keeps m (runFrom fuel m k s n .marking)
-from-keeps zero m k s n h = unfold runFrom in h
-from-keeps (suc f) m k s n h =
+from-keeps : (fuel : ℕ) (m : Model) (k : Marking) (s : Text) (n at : ℕ) → Keeps m k → Keeps m (runFrom fuel m k s n at .marking)
+from-keeps zero m k s n at h = unfold runFrom in h
+from-keeps (suc f) m k s n at h =
     by-index (length s) 0
     (λ p. by-turn (heldStep roomLimit m k s .answer)
     (λ used e.
-    subst (λ (r : Ran). Keeps m (r .marking)) (sym (run-fires f m k n s p used e))
-    (from-keeps f m (heldStep roomLimit m k s .marking) (drop used s) (n + 1) (step-keeps m k h s)))
-    (λ e. subst (λ (r : Ran). Keeps m (r .marking)) (sym (run-stops f m k n s p e)) (step-keeps m k h s)))
-    (λ p. subst (λ (r : Ran). Keeps m (r .marking)) (sym (run-end (suc f) m k n s (omega arith))) h)
+    subst (λ (r : Ran). Keeps m (r .marking)) (sym (run-fires f m k n at s p used e))
+    (from-keeps f m (heldStep roomLimit m k s .marking) (drop used s) (n + 1) (at + used) (step-keeps m k h s)))
+    (λ e. subst (λ (r : Ran). Keeps m (r .marking)) (sym (run-stops f m k n at s p e)) (step-keeps m k h s)))
+    (λ p. subst (λ (r : Ran). Keeps m (r .marking)) (sym (run-end (suc f) m k n at s (omega arith))) h)
 
 headed-keeps : (m : Model) (k : Marking) (s : Text) (o : Outcome (Unit {0})) → Keeps m k → Keeps m (headed m k s o .marking)
 unfolding headed
-headed-keeps m k s (got v next) h = from-keeps (length s) m k (drop next s) 0 h
+headed-keeps m k s (got v next) h = from-keeps (length s) m k (drop next s) 0 next h
 headed-keeps m k s (bad e) h = h
 
 pub run-keeps : (m : Model) (k : Marking) (s : Text) → Keeps m k → Keeps m (running m k s .marking)
@@ -153,16 +153,16 @@ run-keeps m k s h =
     (λ t. rw (t, running) h)
 
 -- the length of the text is fuel enough: with more, a run is the same
-pub run-fuel : (f g : ℕ) (m : Model) (k : Marking) (s : Text) (n : ℕ) → length s ≤ f → length s ≤ g → runFrom f m k s n ≡ runFrom g m k s n
-run-fuel zero g m k s n a b = run-end zero m k n s (omega arith) ∙ sym (run-end g m k n s (omega arith))
-run-fuel (suc f) zero m k s n a b = run-end (suc f) m k n s (omega arith) ∙ sym (run-end zero m k n s (omega arith))
-run-fuel (suc f) (suc g) m k s n a b =
+pub run-fuel : (f g : ℕ) (m : Model) (k : Marking) (s : Text) (n at : ℕ) → length s ≤ f → length s ≤ g → runFrom f m k s n at ≡ runFrom g m k s n at
+run-fuel zero g m k s n at a b = run-end zero m k n at s (omega arith) ∙ sym (run-end g m k n at s (omega arith))
+run-fuel (suc f) zero m k s n at a b = run-end (suc f) m k n at s (omega arith) ∙ sym (run-end zero m k n at s (omega arith))
+run-fuel (suc f) (suc g) m k s n at a b =
     by-index (length s) 0
     (λ h. by-turn (heldStep roomLimit m k s .answer)
     (λ used e.
     let u = fired-uses m k s used e in
-    run-fires f m k n s h used e
-    ∙ run-fuel f g m (heldStep roomLimit m k s .marking) (drop used s) (n + 1) (omega (arith, u .some-byte, length-drop used s)) (omega (arith, u .some-byte, length-drop used s))
-    ∙ sym (run-fires g m k n s h used e))
-    (λ e. run-stops f m k n s h e ∙ sym (run-stops g m k n s h e)))
-    (λ h. run-end (suc f) m k n s (omega arith) ∙ sym (run-end (suc g) m k n s (omega arith)))
+    run-fires f m k n at s h used e
+    ∙ run-fuel f g m (heldStep roomLimit m k s .marking) (drop used s) (n + 1) (at + used) (omega (arith, u .some-byte, length-drop used s)) (omega (arith, u .some-byte, length-drop used s))
+    ∙ sym (run-fires g m k n at s h used e))
+    (λ e. run-stops f m k n at s h e ∙ sym (run-stops g m k n at s h e)))
+    (λ h. run-end (suc f) m k n at s (omega arith) ∙ sym (run-end (suc g) m k n at s (omega arith)))

@@ -61,12 +61,12 @@ module _ (m : Model) (s : Text) (at : ℕ) (c : Come) where
 pub record Going (m : Model) (k : Marking) (s : Text) (from : ℕ) (c : Come) : Type 0 where
   pub kept : Keeps m (markingIn c)
   pub behind : c .far .fired ≤ c .far .at
-  pub left : runFrom (length s) m k (drop from s) 0 ≡ runFrom (length s - c .far .fired) m (markingIn c) (drop (c .far .at) s) (c .far .fired)
+  pub left : runFrom (length s) m k (drop from s) 0 from ≡ runFrom (length s - c .far .fired) m (markingIn c) (drop (c .far .at) s) (c .far .fired) (c .far .at)
 
 -- a run on its way goes on, and one that is not has its answer
 pub record Standing (m : Model) (k : Marking) (s : Text) (from : ℕ) (c : Come) : Type 0 where
   pub going : c .far .on ≡ true → Going m k s from c
-  pub ended : c .far .on ≡ false → reached c ≡ runFrom (length s) m k (drop from s) 0
+  pub ended : c .far .on ≡ false → reached c ≡ runFrom (length s) m k (drop from s) 0 from
 
 -- how many turns are left at most
 abbrev pub turnsIn : Bool → ℕ → ℕ
@@ -84,7 +84,7 @@ module _ (m : Model) (k : Marking) (s : Text) (from : ℕ) where
   goes-on : (c : Come) → c .far .on ≡ true → Going m k s from c → Standing m k s from c
   goes-on c on g = record { going = λ _. g; ended = λ off. absurd (false≢true (sym off ∙ on)) }
 
-  stopped : (c : Come) → c .far .on ≡ false → reached c ≡ runFrom (length s) m k (drop from s) 0 → Standing m k s from c
+  stopped : (c : Come) → c .far .on ≡ false → reached c ≡ runFrom (length s) m k (drop from s) 0 from → Standing m k s from c
   stopped c off e = record { going = λ on. absurd (false≢true (sym off ∙ on)); ended = λ _. e }
 
   module _ (c : Come) (g : Going m k s from c) where
@@ -95,8 +95,8 @@ module _ (m : Model) (k : Marking) (s : Text) (from : ℕ) where
     fired = c .far .fired
 
     -- the text is at its end
-    going-done : length s ≤ at → reached (turned at fired (markingIn c) (Off AtEnd)) ≡ runFrom (length s) m k (drop from s) 0
-    going-done h = sym (g .left ∙ run-end (length s - fired) m (markingIn c) fired (drop at s) (omega (arith, length-drop at s)))
+    going-done : length s ≤ at → reached (turned at fired (markingIn c) (Off AtEnd)) ≡ runFrom (length s) m k (drop from s) 0 from
+    going-done h = sym (g .left ∙ run-end (length s - fired) m (markingIn c) fired at (drop at s) (omega (arith, length-drop at s)))
 
     module _ (more : at < length s) (r : Stepped) (is : r ≡ heldStep roomLimit m (markingIn c) (drop at s)) where
       some-left : 0 < length (drop at s)
@@ -112,20 +112,20 @@ module _ (m : Model) (k : Marking) (s : Text) (from : ℕ) where
           record {
             kept = subst (λ (r : Stepped). Keeps m (r .marking)) (sym is) (step-keeps m (markingIn c) (g .kept) (drop at s));
             behind = omega (arith, g .behind, u .0);
-            left = g .left ∙ ap (λ (i : ℕ). runFrom i m (markingIn c) (drop at s) fired) fuel-is
-                ∙ run-fires (length s - (fired + 1)) m (markingIn c) fired (drop at s) some-left used (turn-fires m s at c more r is used e)
-                ∙ ap₂ (λ (r : Stepped) (l : Text). runFrom (length s - (fired + 1)) m (r .marking) l (fired + 1)) (sym is) (drop-drop used at s);
+            left = g .left ∙ ap (λ (i : ℕ). runFrom i m (markingIn c) (drop at s) fired at) fuel-is
+                ∙ run-fires (length s - (fired + 1)) m (markingIn c) fired at (drop at s) some-left used (turn-fires m s at c more r is used e)
+                ∙ ap₂ (λ (r : Stepped) (l : Text). runFrom (length s - (fired + 1)) m (r .marking) l (fired + 1) (at + used)) (sym is) (drop-drop used at s);
           }
 
       -- a step is turned down
-      going-stop : (a : Stop) → turnOf (r .answer) ≡ Off a → reached (turned at fired (r .marking) (Off a)) ≡ runFrom (length s) m k (drop from s) 0
+      going-stop : (a : Stop) → turnOf (r .answer) ≡ Off a → reached (turned at fired (r .marking) (Off a)) ≡ runFrom (length s) m k (drop from s) 0 from
       going-stop a e =
           let f = turn-off (r .answer) a e in
-          sym (g .left ∙ ap (λ (i : ℕ). runFrom i m (markingIn c) (drop at s) fired) fuel-is
-          ∙ run-stops (length s - (fired + 1)) m (markingIn c) fired (drop at s) some-left
+          sym (g .left ∙ ap (λ (i : ℕ). runFrom i m (markingIn c) (drop at s) fired at) fuel-is
+          ∙ run-stops (length s - (fired + 1)) m (markingIn c) fired at (drop at s) some-left
           (λ n h. fired-on (r .answer) a n e (ap (λ (r : Stepped). r .answer) is ∙ h))
-          ∙ ap (λ (r : Stepped). ran fired (stoppedBy (r .answer)) (r .marking)) (sym is)
-          ∙ ap (λ (b : Stop). ran fired b (r .marking)) f)
+          ∙ ap (λ (r : Stepped). ran fired at (stoppedBy (r .answer)) (r .marking)) (sym is)
+          ∙ ap (λ (b : Stop). ran fired at b (r .marking)) f)
 
     -- after a turn the run stands, with fewer turns left
     abbrev Fewer : Come → Type 0

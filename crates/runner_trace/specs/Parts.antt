@@ -62,7 +62,7 @@ markingIn c = record { len = c .far .len; rows = c .rows }
 
 -- what a run that goes no further answers
 abbrev pub reached : Come → Ran
-reached c = ran (c .far .fired) (c .far .stop) (markingIn c)
+reached c = ran (c .far .fired) (c .far .at) (c .far .stop) (markingIn c)
 
 abbrev pub turned : ℕ → ℕ → Marking → Turn → Come
 turned at n k t = record { far = progressOf at n (k .len) t; rows = k .rows }

@@ -38,32 +38,34 @@ stoppedBy step.NotHeld = NotHeld
 stoppedBy (step.Faulty e) = Faulty e
 stoppedBy (step.Turned cause beside) = Turned cause beside
 
-abbrev pub ran : ℕ → Stop → Marking → Ran
-ran n a k = record { fired = n; stop = a; marking = k }
+-- n steps fired, stopped at the byte `at` of the trace: the bytes that the header and the fired steps used, so the first byte of the step
+-- that was turned down, or the whole length at the end; 0 of a run that is refused before its first step, by its header too
+abbrev pub ran : ℕ → ℕ → Stop → Marking → Ran
+ran n at a k = record { fired = n; at = at; stop = a; marking = k }
 
 -- a run at what is left of the text: at its end it stops, a step that fires is followed by the rest of the run, and one that is turned
 -- down stops it
-unfoldable pub onward : (ℕ → eos.Marking → Ran) → ℕ → Marking → Text → Tried → Ran
-onward rest n k [] t = ran n AtEnd k
-onward rest n k (b ∷ s) (fires used μ) = rest used μ
-onward rest n k (b ∷ s) (stops a) = ran n (stoppedBy a) k
+unfoldable pub onward : (ℕ → eos.Marking → Ran) → ℕ → ℕ → Marking → Text → Tried → Ran
+onward rest n at k [] t = ran n at AtEnd k
+onward rest n at k (b ∷ s) (fires used μ) = rest used μ
+onward rest n at k (b ∷ s) (stops a) = ran n at (stoppedBy a) k
 
--- steps to the end of the text or the first stop, n of them fired before. Each step is lent what is left of the text. A step that fires
--- uses at least one byte, so the length of the text is fuel enough
-unfoldable pub runFrom : ℕ → Model → Marking → Text → ℕ → Ran
-runFrom zero m k s n = ran n AtEnd k
-runFrom (suc fuel) m k s n =
-    onward (λ used μ. runFrom fuel m (holdMarking μ) (drop used s) (n + 1)) n k s (tried roomLimit (modelOf m) (sizesFor m) (tokensOf (sizesFor m) k) s)
+-- steps to the end of the text or the first stop, n of them fired before and `at` bytes used. Each step is lent what is left of the text.
+-- A step that fires uses at least one byte, so the length of the text is fuel enough
+unfoldable pub runFrom : ℕ → Model → Marking → Text → ℕ → ℕ → Ran
+runFrom zero m k s n at = ran n at AtEnd k
+runFrom (suc fuel) m k s n at =
+    onward (λ used μ. runFrom fuel m (holdMarking μ) (drop used s) (n + 1) (at + used)) n at k s (tried roomLimit (modelOf m) (sizesFor m) (tokensOf (sizesFor m) k) s)
 
 -- the header `run=1`, then steps; a refused header is named by its line
 unfoldable pub headed : Model → Marking → Text → Outcome (Unit {0}) → Ran
-headed m k s (got v next) = runFrom (length s) m k (drop next s) 0
-headed m k s (bad e) = ran 0 (Faulty (spotOf s e)) k
+headed m k s (got v next) = runFrom (length s) m k (drop next s) 0 next
+headed m k s (bad e) = ran 0 0 (Faulty (spotOf s e)) k
 
 unfoldable pub runWhereHeld : Bool → Model → Marking → Text → Ran
 runWhereHeld true m k s = headed m k s (readHead (bytes "run=1\n") s 0)
-runWhereHeld false m k s = ran 0 NotHeld k
+runWhereHeld false m k s = ran 0 0 NotHeld k
 
--- 1, 14, the header, then steps. Refused before the first step: nothing fired, the marking as it was
+-- 1, 14, the header, then steps. Refused before the first step: nothing fired, no byte used, the marking as it was
 unfoldable pub running : Model → Marking → Text → Ran
-running m k s = elim (leb (length s) longest) [ true ↦ runWhereHeld (heldBoth m k) m k s | false ↦ ran 0 TooLong k ]
+running m k s = elim (leb (length s) longest) [ true ↦ runWhereHeld (heldBoth m k) m k s | false ↦ ran 0 0 TooLong k ]

@@ -35,9 +35,10 @@ pub enum Stop {
     Turned { cause: u8, beside: usize },
 }
 
-// How many steps a run fired, what stopped it, and the marking then.
+// How many steps a run fired, the byte of the trace where it stopped, what stopped it, and the marking then.
 pub struct Ran {
     pub fired: usize,
+    pub at: usize,
     pub stop: Stop,
     pub marking: Marking,
 }
@@ -163,7 +164,7 @@ fn steps_at(
 ) -> Progress
     requires { ⌜ Ready (now plan) sizes (now s) (from .at) (record { far = from; rows = now rows }) × (from .on ≡ true) × (from .fired ≡ 0) ⌝ }
     ensures { λ r. ⌜ reached (record { far = r; rows = now (rows .exit) })
-        ≡ runFrom (length (now (s .entry))) (modelIn (now (plan .entry))) (record { len = from .len; rows = now (rows .entry) }) (drop (from .at) (now (s .entry))) 0 ⌝ }
+        ≡ runFrom (length (now (s .entry))) (modelIn (now (plan .entry))) (record { len = from .len; rows = now (rows .entry) }) (drop (from .at) (now (s .entry))) 0 (from .at) ⌝ }
 {
     let mut p = from;
     let mut r = Reader { src: s, at: p.at };
@@ -178,7 +179,7 @@ fn steps_at(
 fn run_steps(plan: &[u8], sizes: [u8; 32], k: Marking, s: &[u8], from: usize) -> Ran
     requires { ⌜ (length (now plan) ≡ packedLong) × SizedModel (modelIn (now plan)) × (heldBoth (modelIn (now plan)) k ≡ true)
         × (sizes ≡ sizesIn (modelIn (now plan))) × (length (now s) ≤ longest) ⌝ }
-    ensures { λ r. ⌜ r ≡ runFrom (length (now (s .entry))) (modelIn (now (plan .entry))) k (drop from (now (s .entry))) 0 ⌝ }
+    ensures { λ r. ⌜ r ≡ runFrom (length (now (s .entry))) (modelIn (now (plan .entry))) k (drop from (now (s .entry))) 0 from ⌝ }
 {
     let mut rows = k.rows;
     let mut taken = [0u16; Marking::ROWS];
@@ -194,6 +195,7 @@ fn run_steps(plan: &[u8], sizes: [u8; 32], k: Marking, s: &[u8], from: usize) ->
     let stop = end.stop;
     Ran {
         fired: end.fired,
+        at: end.at,
         stop,
         marking: Marking { len: end.len, rows },
     }
@@ -201,10 +203,11 @@ fn run_steps(plan: &[u8], sizes: [u8; 32], k: Marking, s: &[u8], from: usize) ->
 
 // A run refused before its first step.
 pub fn run_refused(stop: Stop, k: Marking) -> Ran
-    ensures { λ r. ⌜ r ≡ ran 0 stop k ⌝ }
+    ensures { λ r. ⌜ r ≡ ran 0 0 stop k ⌝ }
 {
     Ran {
         fired: 0,
+        at: 0,
         stop,
         marking: k,
     }

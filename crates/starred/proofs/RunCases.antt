@@ -59,7 +59,7 @@ step-cases = (refl, refl)
 pub run-case :
     running (holdModel listing) (holdMarking start)
     (bytes "run=1\nfire=1\ntake=1\ntoken=1:1,0\ngive=1\ntoken=2:0,1\nfire=1\ntake=1\ntoken=1:0,0\ngive=1\ntoken=2:0,0\n")
-    ≡ ran 1 (stop.Turned 9 1) (holdMarking (token 0 (0 ∷ 0 ∷ []) ∷ token 1 (0 ∷ 1 ∷ []) ∷ []))
+    ≡ ran 1 51 (stop.Turned 9 1) (holdMarking (token 0 (0 ∷ 0 ∷ []) ∷ token 1 (0 ∷ 1 ∷ []) ∷ []))
 unfolding running runWhereHeld headed runFrom onward heldIn heldModel heldTypes heldMoves heldNets heldNet heldEvents heldEvent emptyEvent heldAct rightAct emptyPast monotonous
     touches takesPart heldRows rightRow holdModel holdNet holdNets holdEvent holdEvents tabled fill padded holdMarking modelOf netOf eventOf tokensOf sizesIn
     tried readThen stepJudged readTaking readStep readBlock readNetToken readToken tokenAt countsAt readHead readNumber behind lines.judged many need then listEnd items item

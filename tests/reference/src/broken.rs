@@ -54,6 +54,7 @@ deviations! {
     FiredMovesNothing: "a step that fires moves no rack";
     FirstStepOnly: "the first step is true, later ones are only nodded at";
     StopLinesOfTheTrace: "lines of a run's stop are counted from the trace's first";
+    StopBehindTheHeader: "the byte of a run's stop is counted from behind the header";
     RunUndone: "a run that stops has moved no rack";
     WeightsAllPass: "all weights pass";
     WeightsAllRefused: "all weights are refused";

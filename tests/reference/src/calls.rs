@@ -25,13 +25,14 @@ pub struct Stepped {
     pub used: usize,
 }
 
-/// A run: the steps fired before the stop.
+/// A run: the steps fired before the stop, and the byte of the trace where it stopped.
 #[repr(C)]
 #[derive(Clone, Copy, Debug, Default, PartialEq, Eq)]
 pub struct Ran {
     pub number: usize,
     pub beside: usize,
     pub fired: usize,
+    pub at: usize,
 }
 
 /// A text written: its bytes; 0 where none was.
@@ -153,12 +154,12 @@ pub fn step(held_model: &HeldModel, held: &mut HeldMarking, text: &[u8]) -> Step
 pub fn run(held_model: &HeldModel, held: &mut HeldMarking, text: &[u8]) -> Ran {
     let (model, mut marking) = match judged_marking(held_model, held, text) {
         Ok(parts) => parts,
-        Err(Refusal { number, beside }) => return Ran { number, beside, fired: 0 },
+        Err(Refusal { number, beside }) => return Ran { number, beside, fired: 0, at: 0 },
     };
     let ran = step::run(&model, &mut marking, text);
     hold_again(held, &marking);
     let Answer { number, beside } = Answer::of(&ran.stop);
-    Ran { number, beside, fired: ran.fired }
+    Ran { number, beside, fired: ran.fired, at: ran.at }
 }
 
 pub fn ways(tokens: usize, racks: usize) -> Spread {

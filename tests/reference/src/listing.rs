@@ -40,9 +40,9 @@ fn push_run(out: &mut Vec<u8>, model: &Model, mut marking: Marking, passed: Pass
     push_sum(out, passed.sum);
     push_line(out, "cover", usize::from(passed.cover));
     let start = marking.clone();
-    let Run { stop, fired } = match within_file(trace) {
+    let Run { stop, fired, .. } = match within_file(trace) {
         Ok(()) => run(model, &mut marking, trace),
-        Err(refusal) => Run { stop: Err(refusal), fired: 0 },
+        Err(refusal) => Run { stop: Err(refusal), fired: 0, at: 0 },
     };
     push_line(out, "fired", if broken(Broken::FiredInvented) { steps_of(trace) } else { fired });
     push_answer(out, "stop", stop.as_ref().err());

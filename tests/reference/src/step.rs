@@ -170,34 +170,45 @@ fn test_room(marking: &Marking, step: &Step) -> Result<(), Refusal> {
     Ok(())
 }
 
-/// A trace's run: why it stopped, and the steps fired before.
+/// A trace's run: why it stopped, the steps fired before, and the bytes that the header and they used; none where no step
+/// was tried.
 #[derive(Clone, Copy, Debug)]
 pub struct Run {
     pub stop: Result<(), Refusal>,
     pub fired: usize,
+    pub at: usize,
 }
 
 /// Runs a trace to its end, or to the first step that does not fire.
 pub fn run(model: &Model, marking: &mut Marking, text: &[u8]) -> Run {
     let before = broken(Broken::RunUndone).then(|| marking.clone());
-    let mut fired = 0;
-    let stop = run_steps(model, marking, text, &mut fired);
+    let mut steps = Vec::new();
+    let stop = run_steps(model, marking, text, &mut steps);
     if let (Some(before), Err(_)) = (before, stop) {
         *marking = before;
     }
-    Run { stop, fired }
+    let fired = steps.len().saturating_sub(1);
+    let skipped = usize::from(broken(Broken::StopBehindTheHeader));
+    Run { stop, fired, at: steps.iter().skip(skipped).sum() }
 }
 
-fn run_steps(model: &Model, marking: &mut Marking, text: &[u8], fired: &mut usize) -> Result<(), Refusal> {
+/// Runs the header and the steps, and notes the bytes that each used.
+fn run_steps(
+    model: &Model,
+    marking: &mut Marking,
+    text: &[u8],
+    used: &mut Vec<usize>,
+) -> Result<(), Refusal> {
     within_slice(text)?;
     let mut reader = Reader::new(text);
     reader.header("run")?;
+    used.push(reader.used());
     let mut rest = &text[reader.used()..];
     while !rest.is_empty() {
         let at = text.len() - rest.len();
-        let used = step(model, marking, rest).map_err(|refusal| stop(refusal, &text[..at]))?;
-        rest = &rest[used..];
-        *fired += 1;
+        let bytes = step(model, marking, rest).map_err(|refusal| stop(refusal, &text[..at]))?;
+        used.push(bytes);
+        rest = &rest[bytes..];
     }
     Ok(())
 }

@@ -84,8 +84,8 @@ returns-3 c =
     let p = h .before .before in
     let k = start (rest p) .args .k in
     let bad = t .enum-told .given .1 in
-    c .run-refused3 .ensures ∙ ap (λ (x : Stop). ran 0 x k) (c .before .stop-of .ensures)
-    ∙ ap (λ (x : Ended). ran 0 (stopIn (now (rest p .left .result)) x) k) bad
+    c .run-refused3 .ensures ∙ ap (λ (x : Stop). ran 0 0 x k) (c .before .stop-of .ensures)
+    ∙ ap (λ (x : Ended). ran 0 0 (stopIn (now (rest p .left .result)) x) k) bad
     ∙ trace-unheaded _ _ _ (p .before .before .if1 .left) (passed p) _ (bad-of _ _ _ (h .head-line .ensures) bad)
     ∙ on-rest (rest p)
 
@@ -129,7 +129,7 @@ returns-4 c =
     let p = h .before .before in
     let l = rest p in
     let next = d .head .given .0 .0 in
-    c .run-steps .ensures ∙ ap (λ (x : Model). runFrom (length (now (l .left .result))) x (start l .args .k) (drop next (now (l .left .result))) 0) (again f)
+    c .run-steps .ensures ∙ ap (λ (x : Model). runFrom (length (now (l .left .result))) x (start l .args .k) (drop next (now (l .left .result))) 0 next) (again f)
     ∙ trace-headed _ _ _ (p .before .before .if1 .left) (passed p) _ (head-got _ _ (sym (d .head .given .1) ∙ h .head-line .ensures))
     ∙ on-rest l
 

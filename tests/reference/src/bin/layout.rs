@@ -63,6 +63,7 @@ fn answers() {
     field!("fp_stepped.marking", StepDone, marking, HeldMarking);
     size!("fp_ran", RunDone);
     field!("fp_ran.fired", RunDone, run.fired, usize);
+    field!("fp_ran.at", RunDone, run.at, usize);
     field!("fp_ran.marking", RunDone, marking, HeldMarking);
     size!("fp_spread", Spread);
     field!("fp_spread.ways", Spread, ways, u64);
