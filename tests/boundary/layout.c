@@ -1,11 +1,25 @@
 /* The sizes and offsets of the header's structs, and a model that the library read, seen through them. The Rust program of the same name
  * prints the same lines from its own declarations and its own reading. */
-#include "furzepenny.h"
-
-#include <stdio.h>
+#include "files.h"
 
 #define SIZE(t) printf("%s %zu\n", #t, sizeof(t))
 #define FIELD(t, f) printf("%s.%s %zu %zu\n", #t, #f, offsetof(t, f), sizeof(((t *)0)->f))
+
+/* No struct has padding: it is as long as its fields. */
+#define OF(t, f) sizeof(((t *)0)->f)
+#define PAIR (2 * sizeof(size_t))
+_Static_assert(sizeof(fp_object_net) == PAIR + OF(fp_object_net, pre) + OF(fp_object_net, post), "fp_object_net");
+_Static_assert(sizeof(fp_event) == 2 + OF(fp_event, sync), "fp_event");
+_Static_assert(sizeof(fp_model) == 2 * PAIR + OF(fp_model, types) + OF(fp_model, pre) + OF(fp_model, post)
+                                       + OF(fp_model, objects) + OF(fp_model, events), "fp_model");
+_Static_assert(sizeof(fp_marking) == sizeof(size_t) + OF(fp_marking, rows), "fp_marking");
+_Static_assert(sizeof(fp_read_model_answer) == PAIR + sizeof(fp_model) + sizeof(fp_marking), "fp_read_model_answer");
+_Static_assert(sizeof(fp_read_marking_answer) == PAIR + sizeof(fp_marking), "fp_read_marking_answer");
+_Static_assert(sizeof(fp_written) == PAIR + sizeof(size_t), "fp_written");
+_Static_assert(sizeof(fp_weighed) == PAIR + 2 * sizeof(uint64_t) + sizeof(size_t), "fp_weighed");
+_Static_assert(sizeof(fp_stepped) == PAIR + sizeof(size_t) + sizeof(fp_marking), "fp_stepped");
+_Static_assert(sizeof(fp_ran) == 2 * PAIR + sizeof(fp_marking), "fp_ran");
+_Static_assert(sizeof(fp_spread) == PAIR + sizeof(uint64_t), "fp_spread");
 
 static void structs(void) {
     SIZE(fp_object_net);
@@ -65,14 +79,10 @@ static size_t mixed(const uint8_t *v, size_t n) {
     return sum;
 }
 
-static void model(const char *path) {
-    static uint8_t text[65536];
+static void model(const char *folder) {
+    static uint8_t text[FP_FILE];
     static fp_read_model_answer r;
-    FILE *f = fopen(path, "rb");
-    size_t len = f ? fread(text, 1, sizeof text, f) : 0;
-    if (f)
-        fclose(f);
-    r = fp_read_model(text, len);
+    r = fp_read_model(text, load(folder, "model", text));
     const fp_model *m = &r.model;
     printf("read %zu %zu\n", r.number, r.beside);
     printf("model %zu %zu %zu %zu\n", m->nets, m->places, m->moves, m->listed);

@@ -8,7 +8,7 @@ ghost use Rattle.runner_trace.specs.Running.{running};
 ghost use Rattle.keeper.specs.Answers.{weightChecking};
 ghost use Rattle.spread.specs.Call.{spreadCall};
 ghost use Rattle.listing.specs.Listing.{listingText};
-ghost use Rattle.capi.specs.Calls.{modelRead, markingRead, textWritten, writtenToC, weightsChecked, stepDone, runDone, shared};
+ghost use Rattle.capi.specs.Calls.{modelRead, markingRead, textWritten, writtenToC, weightsChecked, stepDone, runDone, shared, version};
 use engine::Marking;
 use engine::Model;
 use engine::WriteAnswer;
@@ -78,6 +78,13 @@ pub struct Shared {
     pub number: usize,
     pub beside: usize,
     pub ways: u64,
+}
+
+#[no_mangle]
+pub extern "C" fn fp_version() -> usize
+    ensures { λ r. ⌜ r ≡ version ⌝ }
+{
+    10000
 }
 
 #[no_mangle]
