@@ -1,5 +1,6 @@
 pub mod TraceSteps
 pub mod TurnLaws
 pub mod TraceLaws
+pub mod StopLaws
 pub mod Arrays
 pub mod Passing

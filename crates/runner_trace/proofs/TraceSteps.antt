@@ -59,7 +59,7 @@ turn-off (Faulty d) b e = off-is e
 turn-off (Turned cause beside) b e = off-is e
 
 -- a step fired or did not
-by-turn : {G : Type 0} (a : StepAnswer) → ((n : ℕ) → a ≡ Fired n → G) → (((n : ℕ) → a ≡ Fired n → ⊥) → G) → G
+pub by-turn : {G : Type 0} (a : StepAnswer) → ((n : ℕ) → a ≡ Fired n → G) → (((n : ℕ) → a ≡ Fired n → ⊥) → G) → G
 by-turn (Fired n) f g = f n refl
 by-turn TooLong f g = g (λ n e. fired-on TooLong _ n refl e)
 by-turn NotHeld f g = g (λ n e. fired-on NotHeld _ n refl e)
