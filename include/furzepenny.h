@@ -8,7 +8,7 @@
  * Held things. A held model and a held marking are passed and returned by value: the engine keeps no pointer, shares no memory and
  * allocates none. Any bytes may be passed as a held thing; one that no reading gives is refused. For a caller who keeps them behind
  * pointers each call that takes or returns one has a second form, whose name ends in _at; it is the call, with its answer laid where the
- * pointers say. The pointers are not null. What a refused call would return is not laid there: a refusal changes nothing.
+ * pointers say. The pointers are not null. A refused reading or step leaves what stands there as it was.
  *
  * Threads. The engine has no state; any number of threads may call it at once. Who shares a marking behind a pointer locks it.
  *
@@ -133,7 +133,7 @@ typedef struct fp_written {
 
 /* ==== Of every level. */
 
-/* FP_VERSION of the archive. Whose first number is another than the header's is not called further. */
+/* FP_VERSION of the archive. If its first number is not the header's, no other call may be made. */
 #define FP_STACK_VERSION (1 * 1024)
 size_t fp_version(void);
 

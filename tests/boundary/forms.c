@@ -1,5 +1,5 @@
 /* The forms in _at give what their calls give, on a folder's plant and where the call refuses; a refusal leaves what the pointers say. And
- * the longest text of a marking has as many bytes as the header says. */
+ * the longest text of a marking has as many bytes as the header says, and its listing no more. */
 #include "files.h"
 
 #include <string.h>
@@ -84,12 +84,23 @@ static void longest(void) {
             p += sprintf(p, ",%d", FP_COUNT);
         p += sprintf(p, "\n");
     }
-    fp_read_at a = fp_read_model_at(model_text, (size_t)(p - (char *)model_text), &model, &marking);
+    size_t len = (size_t)(p - (char *)model_text);
+    fp_read_at a = fp_read_model_at(model_text, len, &model, &marking);
     holds(a.number == FP_ACCEPTED, "the longest marking is read");
     fp_written w = fp_write_marking_at(&model, &marking, out, FP_MARKING_TEXT);
     holds(w.number == FP_ACCEPTED && w.bytes == FP_MARKING_TEXT, "FP_MARKING_TEXT");
     w = fp_write_marking_at(&model, &marking, out, FP_MARKING_TEXT - 1);
     holds(w.number == FP_BUFFER && w.beside == FP_MARKING_TEXT, "one byte less");
+    p = (char *)weights_text + sprintf((char *)weights_text, "inv=1\nouter=-1000");
+    for (int i = 1; i < FP_PLACES; i++)
+        p += sprintf(p, ",-1000");
+    p += sprintf(p, "\ninner=-1000");
+    for (int i = 1; i < FP_PLACES; i++)
+        p += sprintf(p, ",-1000");
+    p += sprintf(p, "\n");
+    const uint8_t run[] = {'r', 'u', 'n', '=', '1', '\n'};
+    w = fp_listing(model_text, len, weights_text, (size_t)(p - (char *)weights_text), run, sizeof run, out, sizeof out);
+    holds(w.number == FP_ACCEPTED && w.bytes > FP_MARKING_TEXT && w.bytes <= FP_LISTING_TEXT, "FP_LISTING_TEXT");
 }
 
 int main(int argc, char **argv) {
