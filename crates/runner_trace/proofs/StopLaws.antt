@@ -8,10 +8,11 @@ use lib.Seq.{drop-drop}
 use Rattle.text.specs.Bytes.{Text, bytes}
 use Rattle.text.specs.Lines.{got, readHead}
 use Rattle.text.proofs.LinesExactly.{head-exactly}
+use Rattle.model.specs.Limits.{roomLimit, longest}
 use Rattle.model.specs.declared.Model.{Model}
 use Rattle.model.proofs.SlotLaws.{by-index}
 use Rattle.marking.specs.declared.Marking.{Marking}
-use Rattle.reader.specs.Answers.{longest, heldBoth}
+use Rattle.reader.specs.Answers.{heldBoth}
 use Rattle.runner.specs.declared.StepAnswer.{StepAnswer}
 use Rattle.runner.specs.declared.StepAnswer.the-variants.{Fired, TooLong, NotHeld, Faulty, Turned}
 use Rattle.runner.specs.Answers.{heldStep}
@@ -27,7 +28,7 @@ use Rattle.runner_trace.proofs.TraceLaws.{trace-headed}
 pub record StopsAt (m : Model) (s : Text) (r : Ran) : Type 0 where
   pub within : r .at ≤ length s
   pub ended : r .stop ≡ stop.AtEnd → r .at ≡ length s
-  pub turned : r .at < length s → r .stop ≡ stoppedBy (heldStep m (r .marking) (drop (r .at) s) .answer)
+  pub turned : r .at < length s → r .stop ≡ stoppedBy (heldStep roomLimit m (r .marking) (drop (r .at) s) .answer)
 
 -- a step that was turned down does not end a run as the end of the text does
 not-ended : {G : Type 0} (a : StepAnswer) → ((n : ℕ) → a ≡ Fired n → ⊥) → stoppedBy a ≡ stop.AtEnd → G
@@ -41,13 +42,13 @@ module _ (m : Model) (s : Text) where
   at-end : (k : Marking) (n at : ℕ) → at ≡ length s → StopsAt m s (ran n at stop.AtEnd k)
   at-end k n at e = record { within = omega (arith, e); ended = λ _. e; turned = λ h. absurd (omega (arith, e)) }
 
-  turned-down : (k : Marking) (n at : ℕ) → at < length s → ((used : ℕ) → heldStep m k (drop at s) .answer ≡ Fired used → ⊥)
-      → StopsAt m s (ran n at (stoppedBy (heldStep m k (drop at s) .answer)) (heldStep m k (drop at s) .marking))
+  turned-down : (k : Marking) (n at : ℕ) → at < length s → ((used : ℕ) → heldStep roomLimit m k (drop at s) .answer ≡ Fired used → ⊥)
+      → StopsAt m s (ran n at (stoppedBy (heldStep roomLimit m k (drop at s) .answer)) (heldStep roomLimit m k (drop at s) .marking))
   turned-down k n at h e =
       record {
         within = omega arith;
-        ended = λ z. not-ended (heldStep m k (drop at s) .answer) e z;
-        turned = λ _. ap (λ (x : Marking). stoppedBy (heldStep m x (drop at s) .answer)) (sym (step-leaves m k (drop at s) e .0));
+        ended = λ z. not-ended (heldStep roomLimit m k (drop at s) .answer) e z;
+        turned = λ _. ap (λ (x : Marking). stoppedBy (heldStep roomLimit m x (drop at s) .answer)) (sym (step-leaves roomLimit m k (drop at s) e .0));
       }
 
   from-stops : (fuel : ℕ) (k : Marking) (n at : ℕ) → at ≤ length s → length s - at ≤ fuel → StopsAt m s (runFrom fuel m k (drop at s) n at)
@@ -56,10 +57,10 @@ module _ (m : Model) (s : Text) where
       by-index (length s) at
       (λ more.
       let some-left : 0 < length (drop at s) = omega (arith, length-drop at s) in
-      by-turn (heldStep m k (drop at s) .answer)
+      by-turn (heldStep roomLimit m k (drop at s) .answer)
       (λ used e.
       let u = fired-uses m k (drop at s) used e in
-      let k′ = heldStep m k (drop at s) .marking in
+      let k′ = heldStep roomLimit m k (drop at s) .marking in
       subst (StopsAt m s)
       (sym (run-fires fuel m k n at (drop at s) some-left used e ∙ ap (λ (l : Text). runFrom fuel m k′ l (n + 1) (at + used)) (drop-drop used at s)))
       (from-stops fuel k′ (n + 1) (at + used) (omega (arith, u .within, length-drop at s)) (omega (arith, u .some-byte))))
