@@ -209,7 +209,7 @@ static void run(void) {
     static fp_ran r;
     r = fp_run(model, marking, lent.bytes, lent.len);
     marking = r.marking;
-    printf("= %zu,%zu fired %zu\n", r.number, r.beside, r.fired);
+    printf("= %zu,%zu fired %zu at %zu\n", r.number, r.beside, r.fired, r.at);
 }
 
 static void written(fp_written w, size_t room) {
