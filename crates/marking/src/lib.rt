@@ -1,6 +1,7 @@
 // The held marking: net-tokens in canonical order, how they are read, held, tested and written. Definitions and laws.
 ghost use mathlib.Core.Path.{_≡_};
 ghost use Rattle.marking.specs.Held.{noMarking};
+use model::Model;
 use text::Ended;
 
 // One net-token: its place's number, from 1, and its counts. Unused room is 0.
@@ -9,7 +10,7 @@ pub struct NetToken {
     pub counts: [u16; 32],
 }
 
-// Up to 256 net-tokens in canonical order. A net-token is a row of 33 numbers: its place's number, from 1, and its counts. Unused room
+// Net-tokens in canonical order, as many as there is room for. A net-token is a row of 33 numbers: its place's number, from 1, and its counts. Unused room
 // is 0.
 #[repr(C)]
 pub struct Marking {
@@ -18,8 +19,8 @@ pub struct Marking {
 }
 
 impl Marking {
-    // The numbers of 256 rows of 33.
-    pub const ROWS: usize = 8448;
+    // The numbers of its rows, each of 33.
+    pub const ROWS: usize = Model::ROOM as usize * 33;
 
     // No net-token.
     pub fn empty() -> Marking

@@ -1,6 +1,6 @@
 -- 01's limits, and the rooms of the arrays that hold what they limit. Limits of the same number are told apart by what they count. In code
 -- they are constants of `Model`, `Event` and `Marking`.
-use Prim.Native.Nat.{ℕ}
+use Prim.Native.Nat.{ℕ, _*_}
 
 -- ---- limits
 
@@ -28,12 +28,12 @@ longest = 1048576
 
 -- the counts of an event: 8 nets of 32 transitions
 abbrev pub syncRoom : ℕ
-syncRoom = 256
+syncRoom = 8 * 32
 
 -- the inner places: 8 nets of 32
 abbrev pub innerRoom : ℕ
-innerRoom = 256
+innerRoom = 8 * 32
 
--- the numbers of a marking: 256 rows of 33
+-- the numbers of a marking: rows of 33, as many as it has room for
 abbrev pub rowsRoom : ℕ
-rowsRoom = 8448
+rowsRoom = roomLimit * 33

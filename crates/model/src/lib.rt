@@ -36,7 +36,7 @@ pub struct Event {
 
 impl Event {
     // The counts of 32 transitions for each of 8 nets.
-    pub const SYNC: usize = 256;
+    pub const SYNC: usize = 8 * 32;
 
     pub fn empty() -> Event
         ensures { λ r. ⌜ r ≡ noEvent ⌝ }
@@ -92,7 +92,7 @@ impl Model {
     pub const LONGEST: usize = 1048576;
 
     // The inner places: 32 of each of 8 nets.
-    pub const INSIDE: usize = 256;
+    pub const INSIDE: usize = 8 * 32;
 
     // The empty model: no places.
     pub fn empty() -> Model

@@ -14,28 +14,28 @@ use model::ObjectNet;
 // its counts.
 pub const TYPES: usize = 4;
 
-pub const PRE: usize = 36;
+pub const PRE: usize = TYPES + 32;
 
-pub const POST: usize = 1060;
+pub const POST: usize = PRE + 1024;
 
-pub const OBJECTS: usize = 2084;
+pub const OBJECTS: usize = POST + 1024;
 
 // The bytes of an object net, and where its arcs stand in them.
-pub const OBJECT: usize = 2050;
+pub const OBJECT: usize = OBJECT_POST + 1024;
 
 pub const OBJECT_PRE: usize = 2;
 
-pub const OBJECT_POST: usize = 1026;
+pub const OBJECT_POST: usize = OBJECT_PRE + 1024;
 
-pub const EVENTS: usize = 18484;
+pub const EVENTS: usize = OBJECTS + 8 * OBJECT;
 
 // The bytes of an event, and where its counts stand in them.
-pub const EVENT: usize = 258;
+pub const EVENT: usize = EVENT_SYNC + Event::SYNC;
 
 pub const EVENT_SYNC: usize = 2;
 
 // The bytes of a packed model.
-pub const PACKED: usize = 34996;
+pub const PACKED: usize = EVENTS + 64 * EVENT;
 
 // A number as a byte: 255 for all that are greater.
 fn byte(n: usize) -> u8

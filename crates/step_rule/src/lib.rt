@@ -1,5 +1,5 @@
 // What an event asks and gives, added up: the sides of its move or of idling, and those of its object nets' transitions. The model is laid
-// packed (crate packed). A side is nine rows of 32: the net-tokens on each place, and then for each object net the tokens on its places; unused
+// packed (`model_packed`). A side is nine rows of 32: the net-tokens on each place, and then for each object net the tokens on its places; unused
 // room is 0.
 ghost use mathlib.Core.Path.{_≡_};
 ghost use mathlib.Core.Bool.{true};
