@@ -1,5 +1,5 @@
 -- A held model packed, in one list of numbers, and the model that is read there.
-use Prim.Native.Nat.{ℕ, _+_, _*_}
+use Prim.Native.Nat.{ℕ}
 use mathlib.Core.List.{List, [], _∷_, _++_}
 use Prim.Native.Nat.{min}
 use lib.ListN.{take, drop}

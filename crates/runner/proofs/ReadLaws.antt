@@ -1,10 +1,10 @@
 -- What the lines of a step say, as the code keeps it: their step, or the fault that ended the reading.
 use Prim.Native.Nat.{ℕ}
-use mathlib.Core.Path.{_≡_, refl, ap, _∙_}
+use mathlib.Core.Path.{_≡_, ap, _∙_}
 use mathlib.Core.List.{List, map}
 use lib.ListN.{length}
 use Rattle.text.specs.Lines.{Outcome, got, bad}
-use Rattle.text.specs.Answers.{endedOf}
+use Rattle.text.specs.Answers.{endedOf, keptOr}
 use Rattle.text.specs.declared.Fault.{Fault}
 use Rattle.text.specs.declared.Ended.the-variants.{Past, Stopped}
 use Rattle.text.proofs.Loops.{got-of, bad-of}
@@ -26,17 +26,14 @@ pub record ReadRows (lines : StepLines) (taken given : List Row) (o : Outcome St
 
 module _ (lines : StepLines) (taken given : List Row) (o : Outcome Step) (e : record { lines = lines; taken = taken; given = given } ≡ stepRows o) where
   ended-is : lines .ended ≡ endedOf o
-  ended-is = ap (λ (r : StepRows). r .lines .ended) e ∙ go o
-    where
-      go : (o : Outcome Step) → stepRows o .lines .ended ≡ endedOf o
-      go (got t next) = unfold stepRows endedOf in refl
-      go (bad d) = unfold stepRows endedOf in refl
+  unfolding stepRows
+  ended-is = ap (λ (r : StepRows). r .lines .ended) e
 
   pub lines-bad : (d : Fault) → lines .ended ≡ Stopped d → o ≡ bad d
   lines-bad d k = bad-of o (lines .ended) d ended-is k
 
   pub lines-got : (next : ℕ) → lines .ended ≡ Past next → ReadRows lines taken given o next
-  unfolding stepRows
+  unfolding stepRows endedOf keptOr
   lines-got next k =
       let g = got-of o (lines .ended) next ended-is k in
       let f : record { lines = lines; taken = taken; given = given } ≡ stepRows (got (g .value) next) = e ∙ ap stepRows (g .is) in

@@ -23,9 +23,9 @@ use Rattle.marking.specs.Reading.{readNetToken, readBlock}
 use Rattle.reader.specs.Reading.{readEnd, readLines, readModelAt}
 use Rattle.marking.specs.Sizes.{sizesIn}
 use Rattle.reader.specs.Answers as reader
-use Rattle.reader.specs.Answers.{loaded, restored, heldBoth, modelFrom, markingFrom, heldIn}
+use Rattle.reader.specs.Answers.{loaded, restored, modelFrom, markingFrom, heldIn}
 use Rattle.step.specs.Reading.{readTaking, readStep}
-use Rattle.runner.specs.Answers.{stepJudged, readThen, tried, stepped, heldStep, whereHeld, stepping, steppingIn}
+use Rattle.runner.specs.Answers.{stepJudged, readThen, tried, stepped, heldStep, whereHeld, steppingIn}
 use Rattle.keeper.specs.Reading.{readInner, readWeightsAt}
 use Rattle.keeper.specs.Answers.{turnedOr, judgedWeights, weighed, weightsOr, weightsFrom}
 use Rattle.spread.specs.Call.{spreadCall}

@@ -21,7 +21,7 @@ use Rattle.model.specs.Acts.{heldAct}
 use Rattle.model.specs.Test.{emptyPast, heldTypes, heldMoves, heldNet, heldNets, heldEvent, emptyEvent, heldEvents, heldModel}
 use Rattle.marking.specs.Held.{sizesOf, holdMarking, tokensOf, rightRow, heldRows}
 use Rattle.marking.specs.Sizes.{sizesIn}
-use Rattle.reader.specs.Answers.{heldBoth, heldIn}
+use Rattle.reader.specs.Answers.{heldIn}
 use Rattle.marking.specs.Reading.{readNetToken, readBlock}
 use Rattle.step.specs.Reading.{readTaking, readStep}
 use Rattle.runner.specs.declared.StepAnswer.the-variants.{Turned}

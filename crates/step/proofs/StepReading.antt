@@ -1,12 +1,12 @@
 -- Laws of reading a step: the lines in a row, each of which may be refused.
 use Prim.Native.Nat.{ℕ, _-_, _≤_}
-use mathlib.Core.Path.{_≡_, refl, ap, _∙_}
+use mathlib.Core.Path.{_≡_, ap, _∙_}
 use mathlib.Core.List.{List, map}
 use lib.ListN.{length}
 use Rattle.text.specs.Bytes.{Text, bytes}
 use Rattle.text.specs.Lines.{Outcome, got, bad, then, inRange, readNumber}
 use Rattle.text.specs.declared.Fault.{Fault}
-use Rattle.text.specs.Answers.{endedOf}
+use Rattle.text.specs.Answers.{endedOf, keptOr}
 use Rattle.text.specs.declared.Ended.the-variants.{Past, Stopped}
 use Rattle.text.proofs.Loops.{got-of, bad-of}
 use Rattle.text.proofs.TestLaws.{within-is}
@@ -29,13 +29,13 @@ event-from-one key s events at v next e = within-is 1 events v (number-exactly k
 -- a refusal has no event and no net-token
 pub taking-refused : (o : Outcome Taking) (d : Fault) (lines : TakeLines) (taken : List ℕ)
     → lines ≡ noTaking (Stopped d) → o ≡ bad d → record { lines = lines; taken = rowsIn (lines .take) taken } ≡ takeRows o
-unfolding takeRows
+unfolding takeRows endedOf keptOr
 taking-refused o d lines taken e f = rw (e, f)
 
 pub rows-refused : (o : Outcome Step) (d : Fault) (lines : StepLines) (taken given : List ℕ)
     → lines ≡ noStep (Stopped d) → o ≡ bad d
     → record { lines = lines; taken = rowsIn (lines .take) taken; given = rowsIn (lines .give) given } ≡ stepRows o
-unfolding stepRows
+unfolding stepRows endedOf keptOr
 rows-refused o d lines taken given e f = rw (e, f)
 
 -- ---- up to what is taken
@@ -56,7 +56,7 @@ module _ (lim : Limits) (z : Sizes) (events : ℕ) (s : Text) (at : ℕ) where
     pub taking-read : (take : TokenLines) (taken : List ℕ) (x₂ : ℕ) → ReadLines take (rowsIn (take .count) taken) (readBlock (bytes "take=") lim z s x₁) x₂
         → record { lines = record { ended = take .ended; event = event - 1; take = take .count }; taken = rowsIn (take .count) taken }
         ≡ takeRows (readTaking lim z events s at)
-    unfolding readTaking then takeRows
+    unfolding readTaking then takeRows endedOf keptOr
     taking-read take taken x₂ t = rw (fired, t .is, t .past, t .rows-are, t .number)
 
 -- ---- the answer taken apart, and what is given
@@ -71,17 +71,14 @@ pub record ReadTaking (lines : TakeLines) (rows : List Row) (o : Outcome Taking)
 
 module _ (lines : TakeLines) (rows : List Row) (o : Outcome Taking) (e : record { lines = lines; taken = rows } ≡ takeRows o) where
   taking-ended : lines .ended ≡ endedOf o
-  taking-ended = ap (λ (r : TakeRows). r .lines .ended) e ∙ go o
-    where
-      go : (o : Outcome Taking) → takeRows o .lines .ended ≡ endedOf o
-      go (got t next) = unfold takeRows endedOf in refl
-      go (bad d) = unfold takeRows endedOf in refl
+  unfolding takeRows
+  taking-ended = ap (λ (r : TakeRows). r .lines .ended) e
 
   pub taking-bad : (d : Fault) → lines .ended ≡ Stopped d → o ≡ bad d
   taking-bad d k = bad-of o (lines .ended) d taking-ended k
 
   pub taking-got : (next : ℕ) → lines .ended ≡ Past next → ReadTaking lines rows o next
-  unfolding takeRows
+  unfolding takeRows endedOf keptOr
   taking-got next k =
       let g = got-of o (lines .ended) next taking-ended k in
       let f : record { lines = lines; taken = rows } ≡ takeRows (got (g .value) next) = e ∙ ap takeRows (g .is) in
@@ -113,5 +110,5 @@ module _ (lim : Limits) (z : Sizes) (events : ℕ) (s : Text) (at : ℕ) where
           given = rowsIn (give .count) given;
         }
         ≡ stepRows (readStep lim z events s at)
-    unfolding readStep then stepRows
+    unfolding readStep then stepRows endedOf keptOr
     step-read give given x₂ g = rw (t .is, g .is, g .past, t .rows-are, g .rows-are, t .event-is, t .number, g .number)

@@ -9,7 +9,7 @@ use lib.Seq.{paste, append-snoc}
 use Rattle.text.specs.Bytes.{Text}
 use Rattle.text.specs.Lines.{Outcome, got, bad, then, many, inRange, readNumber}
 use Rattle.text.specs.Repeat.{fill, filled}
-use Rattle.text.specs.Answers.{endedOf}
+use Rattle.text.specs.Answers.{endedOf, keptOr}
 use Rattle.text.specs.declared.Fault.{Fault}
 use Rattle.text.specs.declared.Ended.{Ended}
 use Rattle.text.specs.declared.Ended.the-variants.{Past, Stopped}
@@ -76,12 +76,12 @@ module _ (lim : Limits) (z : Sizes) (s : Text) where
 
       -- a line that is refused ends the reading
       pub going-bad : (d : Fault) → i < n → reads at ≡ bad d → noRows (Stopped d) ≡ tokenRows (many reads n from)
-      unfolding tokenRows
+      unfolding tokenRows endedOf keptOr
       going-bad d h e = rw (g .left ∙ loop-bad put reads i n at (g .tokens) h d e)
 
       -- after n lines the rows are theirs
       pub going-done : i ≤ n → n ≤ i → record { lines = record { ended = Past at; count = n }; rows = rowsIn n rows } ≡ tokenRows (many reads n from)
-      unfolding tokenRows
+      unfolding tokenRows endedOf keptOr
       going-done h k =
           let m : n ≡ i = omega arith in
           rw (g .left ∙ loop-done put reads i n at (g .tokens) k, m, g .rows-are, g .long)
@@ -91,7 +91,7 @@ module _ (lim : Limits) (z : Sizes) (s : Text) where
 module _ (key : Text) (z : Sizes) (s : Text) (at : ℕ) where
   -- their number is refused
   pub tokens-refused : (d : Fault) → readNumber key (inRange 0 lineLimit) s at ≡ bad d → noRows (Stopped d) ≡ tokenRows (readBlock key (limits lineLimit countLimit) z s at)
-  unfolding readBlock then tokenRows
+  unfolding readBlock then tokenRows endedOf keptOr
   tokens-refused d e = rw (sym (counted key lineLimit z s at (bad d) (sym e)))
 
   -- their number is read, and they follow
@@ -112,17 +112,14 @@ pub record ReadLines (lines : TokenLines) (rows : List Row) (o : Outcome eos.Mar
 
 module _ (lines : TokenLines) (rows : List Row) (o : Outcome eos.Marking) (e : record { lines = lines; rows = rows } ≡ tokenRows o) where
   ended-is : lines .ended ≡ endedOf o
-  ended-is = ap (λ (r : TokenRows). r .lines .ended) e ∙ go o
-    where
-      go : (o : Outcome eos.Marking) → tokenRows o .lines .ended ≡ endedOf o
-      go (got ts next) = unfold tokenRows endedOf in refl
-      go (bad d) = unfold tokenRows endedOf in refl
+  unfolding tokenRows
+  ended-is = ap (λ (r : TokenRows). r .lines .ended) e
 
   pub lines-bad : (d : Fault) → lines .ended ≡ Stopped d → o ≡ bad d
   lines-bad d k = bad-of o (lines .ended) d ended-is k
 
   pub lines-got : (next : ℕ) → lines .ended ≡ Past next → ReadLines lines rows o next
-  unfolding tokenRows
+  unfolding tokenRows endedOf keptOr
   lines-got next k =
       let g = got-of o (lines .ended) next ended-is k in
       let f : record { lines = lines; rows = rows } ≡ tokenRows (got (g .value) next) = e ∙ ap tokenRows (g .is) in

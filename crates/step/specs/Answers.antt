@@ -2,9 +2,9 @@
 -- their lines.
 use mathlib.Core.List.{List, [], map}
 use lib.ListN.{length}
-use Rattle.text.specs.Lines.{Outcome, got, bad}
+use Rattle.text.specs.Lines.{Outcome}
+use Rattle.text.specs.Answers.{endedOf, keptOr}
 use Rattle.text.specs.declared.Ended.{Ended}
-use Rattle.text.specs.declared.Ended.the-variants.{Past, Stopped}
 use Rattle.eos.specs.Model as eos
 use Rattle.eos.specs.Firing.{Step}
 use Rattle.marking.specs.Rows.{Row}
@@ -28,8 +28,7 @@ pub record TokenRows : Type 0 where
   pub rows : List Row
 
 unfoldable pub tokenRows : Outcome eos.Marking → TokenRows
-tokenRows (got ts next) = record { lines = record { ended = Past next; count = length ts }; rows = map tokenRow ts }
-tokenRows (bad e) = record { lines = record { ended = Stopped e; count = 0 }; rows = [] }
+tokenRows o = record { lines = record { ended = endedOf o; count = keptOr 0 length o }; rows = keptOr [] (map tokenRow) o }
 
 -- what a step's lines say up to those that it takes, as the code keeps it
 pub record TakeRows : Type 0 where
@@ -37,8 +36,10 @@ pub record TakeRows : Type 0 where
   pub taken : List Row
 
 unfoldable pub takeRows : Outcome Taking → TakeRows
-takeRows (got t next) = record { lines = record { ended = Past next; event = t .event; take = length (t .taken) }; taken = map tokenRow (t .taken) }
-takeRows (bad e) = record { lines = noTaking (Stopped e); taken = [] }
+takeRows o = record {
+  lines = record { ended = endedOf o; event = keptOr 0 (λ t. t .event) o; take = keptOr 0 (λ t. length (t .taken)) o };
+  taken = keptOr [] (λ t. map tokenRow (t .taken)) o;
+}
 
 -- what a step's lines say, as the code keeps it
 pub record StepRows : Type 0 where
@@ -47,9 +48,13 @@ pub record StepRows : Type 0 where
   pub given : List Row
 
 unfoldable pub stepRows : Outcome Step → StepRows
-stepRows (got t next) = record {
-  lines = record { ended = Past next; event = t .event; take = length (t .taken); give = length (t .given) };
-  taken = map tokenRow (t .taken);
-  given = map tokenRow (t .given);
+stepRows o = record {
+  lines = record {
+    ended = endedOf o;
+    event = keptOr 0 (λ t. t .event) o;
+    take = keptOr 0 (λ t. length (t .taken)) o;
+    give = keptOr 0 (λ t. length (t .given)) o;
+  };
+  taken = keptOr [] (λ t. map tokenRow (t .taken)) o;
+  given = keptOr [] (λ t. map tokenRow (t .given)) o;
 }
-stepRows (bad e) = record { lines = noStep (Stopped e); taken = []; given = [] }

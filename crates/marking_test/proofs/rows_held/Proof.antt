@@ -2,10 +2,9 @@
 use borrow.Author.Needs.{needs}
 use Rattle.marking_test.proofs.rows_held.Statement.{statement}
 use Rattle.marking_test.proofs.rows_held.Tie as tie
-use mathlib.Core.Path.{_≡_, sym, _∙_}
+use mathlib.Core.Path.{sym, _∙_}
 use native.Mathlib.Omega.{arith}
 use borrow.Author.Tests.{not-true, not-false}
-use lib.ListN.{length}
 use Rattle.marking.proofs.HeldRowTests.{held-many, held-disordered, held-beyond, held-rest}
 
 returns : tie.Need-returns
