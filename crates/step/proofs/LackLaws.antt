@@ -13,14 +13,11 @@ use Rattle.eos.specs.Vector.{eqV}
 use Rattle.eos.specs.Multiset.{bit, count, Within}
 use Rattle.eos.specs.Causes.{numbered}
 use Rattle.eos.proofs.Basics.{true-is, some-not}
-use Rattle.eos.proofs.VectorLaws.{eqV-eq, eqV-refl}
-use Rattle.eos.proofs.MultisetLaws.{Likeness, bit-self, length-less}
+use Rattle.eos.proofs.VectorLaws.{eqV-eq, vectors}
+use Rattle.eos.proofs.MultisetLaws.{bit-self, length-less}
 use Rattle.marking.specs.Rows.{Row, rowsIn}
 use Rattle.marking.proofs.RowLaws.{length-rows, row-at}
 use Rattle.step.specs.Verdict.{lackingRows}
-
-pub alike : Likeness eqV
-alike = record { same = eqV-eq; self = eqV-refl }
 
 -- ---- rows counted one after the other
 
@@ -62,7 +59,7 @@ module _ (rows : List Row) (n : ℕ) (l : List ℕ) (i : ℕ) where
       ≡ suc (count eqV (take 33 (drop (i * 33) l)) (rowsIn i l))
   count-so-far h =
       let r = take 33 (drop (i * 33) l) in
-      omega (arith, bit-self eqV alike r, before-count r n i l [] (omega arith))
+      omega (arith, bit-self eqV vectors r, before-count r n i l [] (omega arith))
 
   -- the marking has row i as often as it stands up to there
   abbrev pub hasRow : Bool
@@ -98,7 +95,7 @@ lacking-within rows i seen (r ∷ l) h e x = go (leb (count eqV r (r ∷ seen)) 
     more k y = split (eqV y r) refl
       where
         split : (b : Bool) → eqV y r ≡ b → bit b + count eqV y seen ≤ count eqV y rows
-        split true q = rw (eqV-eq y r (true-is q)) (omega (arith, k, bit-self eqV alike r))
+        split true q = rw (eqV-eq y r (true-is q)) (omega (arith, k, bit-self eqV vectors r))
         split false q = omega (arith, h y)
 
     go : (b : Bool) → leb (count eqV r (r ∷ seen)) (count eqV r rows) ≡ b → cond b (lackingRows rows (suc i) (r ∷ seen) l) (some i) ≡ none
@@ -114,4 +111,4 @@ none-lacking (some i) e = absurd (omega arith)
 -- a marking that lacks none of the rows taken has at least as many
 pub lacking-fewer : (rows l : List Row) → numbered (lackingRows rows 0 [] l) ≡ 0 → length l ≤ length rows
 lacking-fewer rows l e =
-    omega (arith, length-less eqV alike l rows (λ x. omega (arith, lacking-within rows 0 [] l (λ y. omega arith) (none-lacking _ e) x)))
+    omega (arith, length-less eqV vectors l rows (λ x. omega (arith, lacking-within rows 0 [] l (λ y. omega arith) (none-lacking _ e) x)))
