@@ -14,3 +14,4 @@ pub mod HeldRowTests
 pub mod LinesLaid
 pub mod WriteLaws
 pub mod SizeLaws
+pub mod SizedLaws

@@ -2,3 +2,4 @@ pub mod BringLaws
 pub mod AgreeLaws
 pub mod PremiseLaws
 pub mod WholeRunLaws
+pub mod GivenCalls

@@ -65,10 +65,10 @@ Printed s m k =
     × (k ≡ holdMarking (eos.canonical (l .start)))
 
 -- what is refused is not accepted
-long≢accepted : TooLong ≡ Accepted → ⊥
+pub long≢accepted : TooLong ≡ Accepted → ⊥
 long≢accepted e = let z : _≡_ {A = ℕ} 0 1 = cc in omega arith
 
-faulty≢accepted : {d : Spot} → Faulty d ≡ Accepted → ⊥
+pub faulty≢accepted : {d : Spot} → Faulty d ≡ Accepted → ⊥
 faulty≢accepted e = let z : _≡_ {A = ℕ} 0 1 = cc in omega arith
 
 -- equal models and starts are accepted alike

@@ -2,5 +2,6 @@ pub mod ReadsWhatItSays
 pub mod ReadingLaws
 pub mod WriteAnswers
 pub mod HeldExactly
+pub mod GivenLaws
 pub mod RefusedLeaves
 pub mod Passing

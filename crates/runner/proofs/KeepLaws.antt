@@ -1,18 +1,17 @@
 -- A step on a held marking of a held model leaves a held marking: what stays was held, and what is given was read within the limits.
-use Prim.Native.Nat.{ℕ, _≤_}
-use mathlib.Core.Path.{_≡_, refl, subst, sym}
+use Prim.Native.Nat.{_≤_}
+use mathlib.Core.Path.{_≡_}
 use mathlib.Core.List.{map}
 use mathlib.Core.Bool.{true}
-use mathlib.Core.Option.{Option, none, some}
+use mathlib.Core.Option.{none}
 use native.Mathlib.Omega.{arith}
 use lib.Dec.{leb→le}
 use lib.ListN.{length, length-map}
 use Rattle.text.specs.Bytes.{Text}
-use Rattle.text.specs.Lines.{Outcome, got, bad}
 use Rattle.text.proofs.TestLaws.{and-both}
 use Rattle.eos.specs.Model as eos
 use Rattle.eos.specs.Firing.{Step, after}
-use Rattle.eos.specs.Causes.{Cause, refusal}
+use Rattle.eos.specs.Causes.{refusal}
 use Rattle.eos.proofs.OrderLaws.{sort-again}
 use Rattle.eos.proofs.FiringLaws.{tokenOrder, fires-yes}
 use Rattle.eos.proofs.CauseLaws.{no-cause-fires}
@@ -32,11 +31,11 @@ use Rattle.reader.specs.Answers.{heldBoth, heldIn}
 use Rattle.reader.proofs.ReadingLaws.{both-model}
 use Rattle.marking.proofs.SizeLaws.{held-roomy}
 use Rattle.step.specs.Verdict.{hasRoom}
-use Rattle.runner.specs.declared.Stepped.{Stepped}
-use Rattle.runner.specs.Answers.{stepJudged, readThen, stepped, heldStep}
+use Rattle.runner.specs.Answers.{heldStep}
 use Rattle.runner.proofs.StandsLaws.{Stands, any-range, after-every}
-use Rattle.runner.proofs.RuledLaws.{RightStep, read-right, length-canonical}
-use Rattle.runner.proofs.StepAnswers.{both-stands, reading, held-reads}
+use Rattle.runner.proofs.RuledLaws.{RightStep, length-canonical}
+use Rattle.runner.proofs.StepAnswers.{both-stands}
+use Rattle.runner.proofs.LeavesLaws.{step-hands-on}
 
 -- a held marking, in an array of 8,448 numbers
 pub record Keeps (m : Model) (k : Marking) : Type 0 where
@@ -65,16 +64,5 @@ module _ (m : Model) (k : Marking) (kept : Keeps m k) where
         long = laid-long (map tokenRow ν) (rows-wide ν) (omega (arith, length-map ν tokenRow));
       }
 
-  judged-keeps : (t : Step) (next : ℕ) → RightStep (sizesFor m) (m .listed) t → (o : Option Cause) → refusal (hasRoom roomLimit) (modelOf m) t μ ≡ o
-      → Keeps m (stepped k (stepJudged μ t next o) .marking)
-  unfolding stepJudged stepped
-  judged-keeps t next r none e = after-keeps t r e
-  judged-keeps t next r (some c) e = kept
-
-  read-keeps : (s : Text) (o : Outcome Step) → reading m k s ≡ o → Keeps m (stepped k (readThen roomLimit (modelOf m) μ s o) .marking)
-  unfolding readThen stepped
-  read-keeps s (got t next) e = judged-keeps t next (read-right (sizesFor m) (m .listed) s t next e) (refusal (hasRoom roomLimit) (modelOf m) t μ) refl
-  read-keeps s (bad d) e = kept
-
   pub step-keeps : (s : Text) → Keeps m (heldStep roomLimit m k s .marking)
-  step-keeps s = subst (λ (r : Stepped). Keeps m (r .marking)) (sym (held-reads m k s roomLimit)) (read-keeps s (reading m k s) refl)
+  step-keeps s = step-hands-on m k (Keeps m) kept after-keeps s

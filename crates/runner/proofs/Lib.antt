@@ -3,7 +3,9 @@ pub mod StandsLaws
 pub mod ReadLaws
 pub mod RuledLaws
 pub mod StepAnswers
+pub mod LeavesLaws
 pub mod KeepLaws
+pub mod GivenSteps
 pub mod FiresExactly
 pub mod RefusedStep
 pub mod Passing

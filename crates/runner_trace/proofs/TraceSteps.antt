@@ -2,6 +2,7 @@
 use Prim.Native.Nat.{ℕ, zero, suc, _+_, _≤_, _<_}
 use mathlib.Core.Path.{_≡_, refl, ap, sym, subst, _∙_}
 use mathlib.Core.List.{[], _∷_}
+use mathlib.Core.Bool.{Bool, true, false}
 use native.Mathlib.Omega.{arith}
 use lib.Dec.{leb}
 use lib.ListN.{length, drop, length-append, length-drop}
@@ -17,6 +18,8 @@ use Rattle.model.proofs.SlotLaws.{by-index}
 use Rattle.marking.specs.Held.{holdMarking, tokensOf}
 use Rattle.marking.specs.declared.Marking.{Marking}
 use Rattle.reader.specs.Reading.{bounds}
+use Rattle.reader.specs.Answers.{heldBoth}
+use Rattle.reader.proofs.GivenLaws.{Given}
 use Rattle.marking.specs.Sizes.{sizesFor}
 use Rattle.step.specs.Printed.{stepText}
 use Rattle.step.proofs.StepExactly.{step-exactly}
@@ -31,6 +34,7 @@ use Rattle.runner.specs.Answers.{Tried, fires, stops, tried, stepped, heldStep}
 use Rattle.runner_trace.specs.Parts.{turnOf}
 use Rattle.runner_trace.specs.Running.{stoppedBy, ran, onward, runFrom, headed, runWhereHeld, running}
 use Rattle.runner.proofs.KeepLaws.{Keeps, step-keeps}
+use Rattle.runner.proofs.GivenSteps.{held-given}
 use Rattle.runner.proofs.FiresExactly.{held-brings, brings-tried, brings-fires}
 
 -- ---- a step's answer, as a run takes it
@@ -128,29 +132,43 @@ module _ (fuel : ℕ) (m : Model) (k : Marking) (n at : ℕ) where
         onward-stops (λ u μ. runFrom fuel m (holdMarking μ) (drop u s) (n + 1) (at + u)) s t _ more (p .0)
         ∙ ap (ran n at (stoppedBy (stepped k t .answer))) (sym (p .1))
 
+-- what a step hands on from marking to marking, a run does
+module _ (m : Model) (P : Marking → Type 0) (step : (k : Marking) → P k → (s : Text) → P (heldStep roomLimit m k s .marking)) where
+  from-hands-on : (fuel : ℕ) (k : Marking) (s : Text) (n at : ℕ) → P k → P (runFrom fuel m k s n at .marking)
+  from-hands-on zero k s n at h = unfold runFrom in h
+  from-hands-on (suc f) k s n at h =
+      by-index (length s) 0
+      (λ p. by-turn (heldStep roomLimit m k s .answer)
+      (λ used e.
+      subst (λ (r : Ran). P (r .marking)) (sym (run-fires f m k n at s p used e))
+      (from-hands-on f (heldStep roomLimit m k s .marking) (drop used s) (n + 1) (at + used) (step k h s)))
+      (λ e. subst (λ (r : Ran). P (r .marking)) (sym (run-stops f m k n at s p e)) (step k h s)))
+      (λ p. subst (λ (r : Ran). P (r .marking)) (sym (run-end (suc f) m k n at s (omega arith))) h)
+
+  headed-hands-on : (k : Marking) (s : Text) (o : Outcome (Unit {0})) → P k → P (headed m k s o .marking)
+  unfolding headed
+  headed-hands-on k s (got v next) h = from-hands-on (length s) k (drop next s) 0 next h
+  headed-hands-on k s (bad e) h = h
+
+  tested-hands-on : (b : Bool) (k : Marking) (s : Text) → P k → P (runWhereHeld b m k s .marking)
+  unfolding runWhereHeld
+  tested-hands-on true k s h = headed-hands-on k s (readHead (bytes "run=1\n") s 0) h
+  tested-hands-on false k s h = h
+
+  run-hands-on : (k : Marking) (s : Text) → P k → P (running m k s .marking)
+  unfolding running
+  run-hands-on k s h =
+      by-test (leb (length s) longest)
+      (λ t. rw (t, running) (tested-hands-on (heldBoth m k) k s h))
+      (λ t. rw (t, running) h)
+
 -- a run keeps a held marking held
-from-keeps : (fuel : ℕ) (m : Model) (k : Marking) (s : Text) (n at : ℕ) → Keeps m k → Keeps m (runFrom fuel m k s n at .marking)
-from-keeps zero m k s n at h = unfold runFrom in h
-from-keeps (suc f) m k s n at h =
-    by-index (length s) 0
-    (λ p. by-turn (heldStep roomLimit m k s .answer)
-    (λ used e.
-    subst (λ (r : Ran). Keeps m (r .marking)) (sym (run-fires f m k n at s p used e))
-    (from-keeps f m (heldStep roomLimit m k s .marking) (drop used s) (n + 1) (at + used) (step-keeps m k h s)))
-    (λ e. subst (λ (r : Ran). Keeps m (r .marking)) (sym (run-stops f m k n at s p e)) (step-keeps m k h s)))
-    (λ p. subst (λ (r : Ran). Keeps m (r .marking)) (sym (run-end (suc f) m k n at s (omega arith))) h)
-
-headed-keeps : (m : Model) (k : Marking) (s : Text) (o : Outcome (Unit {0})) → Keeps m k → Keeps m (headed m k s o .marking)
-unfolding headed
-headed-keeps m k s (got v next) h = from-keeps (length s) m k (drop next s) 0 next h
-headed-keeps m k s (bad e) h = h
-
 pub run-keeps : (m : Model) (k : Marking) (s : Text) → Keeps m k → Keeps m (running m k s .marking)
-unfolding running runWhereHeld
-run-keeps m k s h =
-    by-test (leb (length s) longest)
-    (λ t. rw (t, running, h .held) (headed-keeps m k s (readHead (bytes "run=1\n") s 0) h))
-    (λ t. rw (t, running) h)
+run-keeps m k s h = run-hands-on m (Keeps m) (step-keeps m) k s h
+
+-- and what it leaves of a marking that some accepted reading gives, some accepted reading gives too
+pub run-given : (m : Model) (k : Marking) (s : Text) → Given m k → Given m (running m k s .marking)
+run-given m k s h = run-hands-on m (Given m) (held-given m) k s h
 
 -- the length of the text is fuel enough: with more, a run is the same
 pub run-fuel : (f g : ℕ) (m : Model) (k : Marking) (s : Text) (n at : ℕ) → length s ≤ f → length s ≤ g → runFrom f m k s n at ≡ runFrom g m k s n at
