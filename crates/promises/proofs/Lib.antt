@@ -3,3 +3,4 @@ pub mod AgreeLaws
 pub mod PremiseLaws
 pub mod WholeRunLaws
 pub mod GivenCalls
+pub mod ReadBackLaws

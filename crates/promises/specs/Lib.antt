@@ -1,1 +1,2 @@
 pub mod WholeRun
+pub mod ReadBack
