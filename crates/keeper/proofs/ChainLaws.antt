@@ -17,6 +17,7 @@ use Rattle.text.specs.declared.Ended.the-variants.{Past, Stopped}
 use Rattle.text.specs.declared.WeightRow.{WeightRow}
 use Rattle.text.proofs.Loops.{Got, got-of, bad-of, head-got}
 use Rattle.eos.specs.Weights.{Weights}
+use Rattle.model.specs.Limits.{weightLimit}
 use Rattle.model.specs.Held.{tabled, modelOf}
 use Rattle.model.specs.declared.Model.{Model}
 use Rattle.reader.specs.Reading.{readEnd}
@@ -72,7 +73,7 @@ module _ (m : Model) (long : length (m .types) ≡ 32) (few : m .places ≤ 32) 
   inners at = manyAt (readNetWeights (m .objects) s) 0 (m .nets) at
 
   abbrev outers : ℕ → Outcome (List ℤ)
-  outers at = readWeights (bytes "outer=") (m .places) (modest 1000) s at
+  outers at = readWeights (bytes "outer=") (m .places) (modest weightLimit) s at
 
   head-bad : (d : Fault) → readHead (bytes "inv=1\n") s at ≡ bad d → file ≡ bad d
   unfolding readWeightsAt then

@@ -18,6 +18,7 @@ use Rattle.text.specs.declared.WeightRow.{WeightRow}
 use Rattle.text.proofs.Loops.{Got, got-of, bad-of, turn-at, bad-at}
 use Rattle.eos.specs.Model as eos
 use Rattle.eos.specs.Weights.{Weights}
+use Rattle.model.specs.Limits.{weightLimit}
 use Rattle.model.specs.Held.{noNet, putRow, netOf, modelOf}
 use Rattle.model.specs.declared.ObjectNet.{ObjectNet}
 use Rattle.model.specs.declared.Model.{Model}
@@ -95,9 +96,9 @@ inners-read h (bad d) a b at p q = let z : _≡_ {A = ℕ} 0 1 = cc in absurd (o
 
 -- a net's line, looked up with any net for those past the last
 pub net-line : (objects : List ObjectNet) (s : Text) (i at : ℕ) (d : ObjectNet) → getD objects i d ≡ getD objects i noNet → (r : WeightRow)
-    → r ≡ weightRowOf (readWeights (bytes "inner=") (getD objects i d .places) (modest 1000) s at) → r ≡ weightRowOf (readNetWeights objects s i at)
+    → r ≡ weightRowOf (readWeights (bytes "inner=") (getD objects i d .places) (modest weightLimit) s at) → r ≡ weightRowOf (readNetWeights objects s i at)
 unfolding readNetWeights
-net-line objects s i at d e r h = h ∙ ap (λ (o : ObjectNet). weightRowOf (readWeights (bytes "inner=") (o .places) (modest 1000) s at)) e
+net-line objects s i at d e r h = h ∙ ap (λ (o : ObjectNet). weightRowOf (readWeights (bytes "inner=") (o .places) (modest weightLimit) s at)) e
 
 -- ---- a held model's lines
 

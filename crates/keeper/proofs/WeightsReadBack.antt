@@ -22,6 +22,7 @@ use Rattle.text.proofs.ChainExactly.{exactly-by, first-makes, last-makes}
 use Rattle.text.proofs.Unique.{reads-back, was-printed}
 use Rattle.eos.specs.Model as eos
 use Rattle.eos.specs.Weights.{Weights, Shaped}
+use Rattle.model.specs.Limits.{weightLimit}
 use Rattle.model.proofs.SlotLaws.{by-index}
 use Rattle.reader.specs.Reading.{readEnd}
 use Rattle.keeper.specs.Printed.{weightFileText}
@@ -32,7 +33,7 @@ use Rattle.keeper.specs.Reading.{readInner, readWeightsAt, readWeightFil
 abbrev readLines : eos.Model → Text → ℕ → Outcome Weights
 readLines m s at =
     then (readHead (bytes "inv=1\n") s at) λ _ x₁.
-    then (readWeights (bytes "outer=") (eos.places m) (modest 1000) s x₁) λ o x₂.
+    then (readWeights (bytes "outer=") (eos.places m) (modest weightLimit) s x₁) λ o x₂.
     then (manyAt (readInner m s) 0 (length (m .nets)) x₂) λ i x₃. need true 0 x₂ (got (record { outward = o; inward = i }) x₃)
 
 then-then : {A B C : Type 0} (o : Outcome A) (f : A → ℕ → Outcome B) (g : B → ℕ → Outcome C) → then (then o f) g ≡ then o (λ a x. then (f a x) g)
@@ -47,21 +48,21 @@ module _ (m : eos.Model) where
 
   inner-exactly : (s : Text) (n : ℕ) → Exactly s (readInner m s n) (weightsText (bytes "inner=")) (rightInner m n)
   unfolding readInner rightInner
-  inner-exactly s n = weights-exactly (bytes "inner=") (eos.net m n .size) (modest 1000) s
+  inner-exactly s n = weights-exactly (bytes "inner=") (eos.net m n .size) (modest weightLimit) s
 
   lines-exactly : (s : Text) → Exactly s (readLines m s) weightFileText (rightWeights m)
   unfolding weightFileText rightWeights
   lines-exactly s =
       exactly-by
       (first-makes (head-exactly (bytes "inv=1\n") s)
-      (λ v. first-makes (weights-exactly (bytes "outer=") (eos.places m) (modest 1000) s)
+      (λ v. first-makes (weights-exactly (bytes "outer=") (eos.places m) (modest weightLimit) s)
       (λ o. last-makes (manyAt-exactly s (readInner m s) (weightsText (bytes "inner=")) (rightInner m) (inner-exactly s) 0 (length (m .nets)))
       (λ i. true) 0 (λ i. record { outward = o; inward = i }) (λ w. w .inward) (λ i h. refl))
       (λ w. w .outward) (λ o w h r. ap (λ (w : Weights). w .outward) (r .2)))
       (λ w. tt) (λ v w h r. refl))
-      (λ w h. and-both (eqb (length (w .outward)) (eos.places m) && every (modest 1000) (w .outward)) _ (h .1 .0) (h .1 .1 .0))
+      (λ w h. and-both (eqb (length (w .outward)) (eos.places m) && every (modest weightLimit) (w .outward)) _ (h .1 .0) (h .1 .1 .0))
       (λ w h.
-      let p = and-true (eqb (length (w .outward)) (eos.places m) && every (modest 1000) (w .outward)) _ h in
+      let p = and-true (eqb (length (w .outward)) (eos.places m) && every (modest weightLimit) (w .outward)) _ h in
       (refl, (p .0, (p .1, refl, refl))))
 
   -- what is read from a position on is right
@@ -87,7 +88,7 @@ module _ (m : eos.Model) where
   pub right-shaped : (w : Weights) → rightWeights m w ≡ true → Shaped m w
   unfolding rightWeights rightInner
   right-shaped w h =
-      let p = and-true (eqb (length (w .outward)) (eos.places m) && every (modest 1000) (w .outward)) _ h in
+      let p = and-true (eqb (length (w .outward)) (eos.places m) && every (modest weightLimit) (w .outward)) _ h in
       let q = and-true (eqb (length (w .inward)) (length (m .nets))) _ (p .1) in
       let long = eqb-true (length (w .inward)) (length (m .nets)) (q .0) in
       record {

@@ -11,6 +11,7 @@ use Rattle.text.specs.Repeat.{fill}
 use Rattle.text.specs.Capped.{above, below}
 use Rattle.text.specs.Answers.{endedOf, keptOr, padded}
 use Rattle.eos.specs.Weights.{Weights, Shaped}
+use Rattle.model.specs.Limits.{weightLimit}
 use Rattle.model.specs.Held.{noNet, modelOf}
 use Rattle.model.specs.declared.ObjectNet.{ObjectNet}
 use Rattle.model.specs.declared.Model.{Model}
@@ -25,7 +26,7 @@ linesOf o = record { ended = endedOf o; weights = keptOr noWeights holdWeights o
 
 -- the weights of net n of these nets
 unfoldable pub readNetWeights : List ObjectNet → Text → ℕ → ℕ → Outcome (List ℤ)
-readNetWeights objects s n at = readWeights (bytes "inner=") (getD objects n noNet .places) (modest 1000) s at
+readNetWeights objects s n at = readWeights (bytes "inner=") (getD objects n noNet .places) (modest weightLimit) s at
 
 -- a row behind the first one
 abbrev pub putNext : (List ℤ → List ℕ) → ℕ → List ℤ → List ℕ → List ℕ

@@ -34,11 +34,6 @@ pub struct HeldWeights {
     pub below: [u16; 288],
 }
 
-impl HeldWeights {
-    // 01's limit either side of 0.
-    pub const MOST: u16 = 1000;
-}
-
 // How the reading of a weight file ended, and the weights; a refusal holds none.
 pub struct WeightLines {
     pub ended: Ended,

@@ -48,7 +48,7 @@ fn inner_lines(
     let mut i = 0;
     while i < nets {
         let size = objects[i].places;
-        let r = weight_line(s, at, b"inner=", size, HeldWeights::MOST);
+        let r = weight_line(s, at, b"inner=", size, Model::WEIGHT);
         let e = r.ended;
         let Ended::Past { next } = e else {
             return no_lines(e);
@@ -87,7 +87,7 @@ pub fn weight_lines(m: Model, s: &[u8], at: usize) -> WeightLines
     let Ended::Past { next: x1 } = head else {
         return no_lines(head);
     };
-    let o = weight_line(s, x1, b"outer=", m.places, HeldWeights::MOST);
+    let o = weight_line(s, x1, b"outer=", m.places, Model::WEIGHT);
     let e = o.ended;
     let Ended::Past { next: x2 } = e else {
         return no_lines(e);

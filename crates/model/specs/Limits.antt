@@ -20,6 +20,10 @@ coverLimit = 256
 abbrev pub countLimit : ℕ
 countLimit = 65535
 
+-- a weight, either side of 0
+abbrev pub weightLimit : ℕ
+weightLimit = 1000
+
 -- the bytes of a text
 abbrev pub longest : ℕ
 longest = 1048576

@@ -88,6 +88,9 @@ impl Model {
 
     pub const COUNT: u16 = 65535;
 
+    // A weight, either side of 0.
+    pub const WEIGHT: u16 = 1000;
+
     // The bytes of the longest text that is read.
     pub const LONGEST: usize = 1048576;
 
