@@ -16,3 +16,4 @@ pub mod WeightsReadBack
 pub mod CheckLaws
 pub mod Passing
 pub mod WeightsExactly
+pub mod SumBound
