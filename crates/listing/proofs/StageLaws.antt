@@ -23,11 +23,11 @@ use Rattle.keeper.specs.declared.WeightCheck.{WeightCheck}
 use Rattle.listing.specs.Listing.{modelFile, weightsFile, traceFile, pairText, accepted, pairThen, sumText, coverText, runText, afterModel, listingText}
 
 -- a pair that is 0,0, and one that is not
-pair-goes : (key : Text) (r : Refusal) (rest : Text) → accepted r ≡ true → pairThen key r rest ≡ pairText key r ++ rest
+pub pair-goes : (key : Text) (r : Refusal) (rest : Text) → accepted r ≡ true → pairThen key r rest ≡ pairText key r ++ rest
 unfolding pairThen
 pair-goes key r rest h = rw (h, pairThen)
 
-pair-ends : (key : Text) (r : Refusal) (rest : Text) → accepted r ≡ false → pairThen key r rest ≡ pairText key r
+pub pair-ends : (key : Text) (r : Refusal) (rest : Text) → accepted r ≡ false → pairThen key r rest ≡ pairText key r
 unfolding pairThen
 pair-ends key r rest h = rw (h, pairThen) (append-nil (pairText key r))
 

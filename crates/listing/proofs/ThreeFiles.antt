@@ -23,7 +23,7 @@ use Rattle.marking.specs.Sizes.{sizesFor}
 use Rattle.reader.specs.Answers.{readPair, noReading, loaded, modelReading, heldBoth, modelFrom}
 use Rattle.reader.specs.declared.ReadAnswer.the-variants as read
 use Rattle.reader.specs.declared.ModelReading.{ModelReading}
-use Rattle.reader.proofs.HeldExactly.{accepted-held}
+use Rattle.reader.proofs.GivenLaws.{Given, given-held}
 use Rattle.runner_trace.specs.Running.{ran, running}
 use Rattle.runner_trace.specs.declared.Stop.the-variants as stop
 use Rattle.runner.proofs.KeepLaws.{Keeps}
@@ -97,22 +97,23 @@ reading-accepted s h =
     (λ t. rw (t, modelFrom) (loaded-accepted s (readModel s) (rw (t, modelFrom) at h)))
     (λ t. long-weights-refused (rw (t, modelFrom) at h))
 
-reading-held : (s : Text) → accepted (readPair (modelReading s .answer)) ≡ true → heldBoth (modelReading s .model) (modelReading s .start) ≡ true
-reading-held s h =
+reading-given : (s : Text) → accepted (readPair (modelReading s .answer)) ≡ true → Given (modelReading s .model) (modelReading s .start)
+reading-given s h =
     let r = modelReading s in
-    accepted-held s (r .model) (r .start) (ap {B = ModelReading} (λ a. record { answer = a; model = r .model; start = r .start }) (reading-accepted s h))
+    (s, ap {B = ModelReading} (λ a. record { answer = a; model = r .model; start = r .start }) (reading-accepted s h))
 
-file-held : (s : Text) → accepted (readPair (modelFile s .answer)) ≡ true → heldBoth (modelFile s .model) (modelFile s .start) ≡ true
+-- an accepted reading gives it and its start
+pub file-given : (s : Text) → accepted (readPair (modelFile s .answer)) ≡ true → Given (modelFile s .model) (modelFile s .start)
 unfolding modelFile
-file-held s h =
+file-given s h =
     by-test (leb (length s) fileLongest)
-    (λ t. rw (t, modelFile) (reading-held s (rw (t, modelFile) at h)))
+    (λ t. rw (t, modelFile) (reading-given s (rw (t, modelFile) at h)))
     (λ t. long-weights-refused (rw (t, modelFile) at h))
 
--- it and its start are held
+-- so they are held
 pub model-held : (s : Text) (l : ModelReading) → l ≡ modelFile s → (p : Refusal) → p ≡ readPair (l .answer) → accepted p ≡ true
     → heldBoth (l .model) (l .start) ≡ true
-model-held s l is p says h = rw is (file-held s (rw (says, is) at h))
+model-held s l is p says h = rw is (given-held (modelFile s .model) (modelFile s .start) (file-given s (rw (says, is) at h)))
 
 -- ---- weights whose pair is 0,0 passed
 
