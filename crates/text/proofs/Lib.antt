@@ -19,6 +19,8 @@ pub mod LinesExactly
 pub mod TokenExactly
 pub mod AnyList
 pub mod Refused
+pub mod Refusals
+pub mod LinesRefused
 pub mod Unique
 pub mod Cases
 pub mod SetsLaws
