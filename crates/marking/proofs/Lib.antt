@@ -5,6 +5,7 @@ pub mod RowLaws
 pub mod RowWalk
 pub mod KeptLaws
 pub mod BlockExactly
+pub mod BlockRefused
 pub mod RowOrder
 pub mod CountLaws
 pub mod HoldMarking

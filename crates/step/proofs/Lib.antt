@@ -18,5 +18,6 @@ pub mod RowsBehind
 pub mod TokenLoop
 pub mod StepReading
 pub mod StepExactly
+pub mod StepRefused
 pub mod MoveLaws
 pub mod ChangeLaws

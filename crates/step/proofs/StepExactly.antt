@@ -31,14 +31,14 @@ module _ (lim : Limits) (z : Sizes) (events : ℕ) (s : Text) where
   again t = λ i. record { event = index-again (t .event) i; taken = t .taken; given = t .given }
 
   -- the lines of a step one after the other
-  abbrev inARow : ℕ → Outcome Step
+  abbrev pub inARow : ℕ → Outcome Step
   inARow at =
       then (readNumber (bytes "fire=") (inRange 1 events) s at) λ e x₁.
       then (readBlock (bytes "take=") lim z s x₁) λ taken x₂.
       then (readBlock (bytes "give=") lim z s x₂) λ given x₃.
       got (record { event = e - 1; taken = taken; given = given }) x₃
 
-  in-a-row : inARow ≡ readStep lim z events s
+  pub in-a-row : inARow ≡ readStep lim z events s
   unfolding readStep readTaking then
   in-a-row =
       fun-ext (λ at.
