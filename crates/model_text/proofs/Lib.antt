@@ -8,6 +8,9 @@ pub mod PartLaws
 pub mod FrameLaws
 pub mod PlantLaws
 pub mod NetExactly
+pub mod NetRefused
 pub mod EventExactly
+pub mod EventRefused
 pub mod PlantExactly
+pub mod PlantRefused
 pub mod ModelLength

@@ -32,13 +32,16 @@ sides-exactly size fine s =
     let q = and-true (listOf size byte (t .pre)) (listOf size byte (t .post)) (p .0) in
     (q .0, (q .1, p .1, refl)))
 
--- the lines of transitions that have no further rule
+-- of a transition that has no further rule
+pub plain-exactly : (size : ℕ) (s : Text) → Exactly s (readSides size (λ t. true) s) sidesText (rightSides size)
+plain-exactly size s =
+    let e : (λ t. rightSides size t && true) ≡ rightSides size = fun-ext λ t. B.and-true (rightSides size t) in
+    subst (Exactly s (readSides size (λ t. true) s) sidesText) e (sides-exactly size (λ t. true) s)
+
+-- the lines of such transitions
 steps-exactly : (size n : ℕ) (s : Text)
     → Exactly s (many (readSides size (λ t. true) s) n) (texts sidesText) (λ ts. eqb (length ts) n && every (rightSides size) ts)
-steps-exactly size n s =
-    let e : (λ t. rightSides size t && true) ≡ rightSides size = fun-ext λ t. B.and-true (rightSides size t) in
-    many-exactly s (readSides size (λ t. true) s) sidesText (rightSides size)
-    (subst (Exactly s (readSides size (λ t. true) s) sidesText) e (sides-exactly size (λ t. true) s)) n
+steps-exactly size n s = many-exactly s (readSides size (λ t. true) s) sidesText (rightSides size) (plain-exactly size s) n
 
 -- the lines of an object net
 pub net-exactly : (s : Text) → Exactly s (readNet s) netText rightNet
