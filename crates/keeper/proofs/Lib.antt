@@ -13,6 +13,7 @@ pub mod EveryLaws
 pub mod ZeroLaws
 pub mod JudgeLaws
 pub mod WeightsReadBack
+pub mod WeightsRefused
 pub mod CheckLaws
 pub mod Passing
 pub mod WeightsExactly

@@ -46,7 +46,7 @@ module _ (m : eos.Model) where
   unfolding readWeightsAt need then
   from-lines s at = simp then-then
 
-  inner-exactly : (s : Text) (n : ℕ) → Exactly s (readInner m s n) (weightsText (bytes "inner=")) (rightInner m n)
+  pub inner-exactly : (s : Text) (n : ℕ) → Exactly s (readInner m s n) (weightsText (bytes "inner=")) (rightInner m n)
   unfolding readInner rightInner
   inner-exactly s n = weights-exactly (bytes "inner=") (eos.net m n .size) (modest weightLimit) s
 

@@ -1,4 +1,5 @@
 pub mod ReadsWhatItSays
+pub mod TextRefused
 pub mod ReadingLaws
 pub mod WriteAnswers
 pub mod HeldExactly
