@@ -5,6 +5,7 @@ pub mod VectorLaws
 pub mod VectorSums
 pub mod FiringLaws
 pub mod CauseLaws
+pub mod FirstLaws
 pub mod WeightLaws
 pub mod BoundLaws
 pub mod RunLaws

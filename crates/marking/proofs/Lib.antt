@@ -16,3 +16,4 @@ pub mod LinesLaid
 pub mod WriteLaws
 pub mod SizeLaws
 pub mod SizedLaws
+pub mod BlockFaults

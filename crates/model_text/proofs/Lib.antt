@@ -14,3 +14,4 @@ pub mod EventRefused
 pub mod PlantExactly
 pub mod PlantRefused
 pub mod ModelLength
+pub mod PlantFaults

@@ -21,3 +21,4 @@ pub mod StepExactly
 pub mod StepRefused
 pub mod MoveLaws
 pub mod ChangeLaws
+pub mod StepFaults

@@ -21,6 +21,8 @@ pub mod AnyList
 pub mod Refused
 pub mod Refusals
 pub mod LinesRefused
+pub mod FaultLaws
+pub mod LineCounts
 pub mod Unique
 pub mod Cases
 pub mod SetsLaws
