@@ -23,11 +23,12 @@ use Rattle.runner_trace.specs.Running.{stoppedBy, ran, runFrom, running}
 use Rattle.runner_trace.proofs.TraceSteps.{by-turn, fired-uses, run-end, run-fires, run-stops}
 use Rattle.runner_trace.proofs.TraceLaws.{trace-headed}
 
--- the byte is one of the trace or its end; at the end the whole trace was used; before it, the step call on what is left, on the marking
--- then, is turned down as the run was stopped
+-- the byte is one of the trace or its end; the run stopped at the end exactly where the whole trace was used; before it, the step call on
+-- what is left, on the marking then, is turned down as the run was stopped
 pub record StopsAt (m : Model) (s : Text) (r : Ran) : Type 0 where
   pub within : r .at ≤ length s
   pub ended : r .stop ≡ stop.AtEnd → r .at ≡ length s
+  pub done : r .at ≡ length s → r .stop ≡ stop.AtEnd
   pub turned : r .at < length s → r .stop ≡ stoppedBy (heldStep roomLimit m (r .marking) (drop (r .at) s) .answer)
 
 -- a step that was turned down does not end a run as the end of the text does
@@ -40,7 +41,7 @@ not-ended (Turned cause beside) h e = let z : _≡_ {A = ℕ} 0 1 = cc in absurd
 
 module _ (m : Model) (s : Text) where
   at-end : (k : Marking) (n at : ℕ) → at ≡ length s → StopsAt m s (ran n at stop.AtEnd k)
-  at-end k n at e = record { within = omega (arith, e); ended = λ _. e; turned = λ h. absurd (omega (arith, e)) }
+  at-end k n at e = record { within = omega (arith, e); ended = λ _. e; done = λ _. refl; turned = λ h. absurd (omega (arith, e)) }
 
   turned-down : (k : Marking) (n at : ℕ) → at < length s → ((used : ℕ) → heldStep roomLimit m k (drop at s) .answer ≡ Fired used → ⊥)
       → StopsAt m s (ran n at (stoppedBy (heldStep roomLimit m k (drop at s) .answer)) (heldStep roomLimit m k (drop at s) .marking))
@@ -48,6 +49,7 @@ module _ (m : Model) (s : Text) where
       record {
         within = omega arith;
         ended = λ z. not-ended (heldStep roomLimit m k (drop at s) .answer) e z;
+        done = λ z. absurd (omega (arith, z));
         turned = λ _. ap (λ (x : Marking). stoppedBy (heldStep roomLimit m x (drop at s) .answer)) (sym (step-leaves roomLimit m k (drop at s) e .0));
       }
 
