@@ -4,3 +4,9 @@ pub mod PremiseLaws
 pub mod WholeRunLaws
 pub mod GivenCalls
 pub mod ReadBackLaws
+pub mod NumberLaws
+pub mod FileFaults
+pub mod TestNumbers
+pub mod CallNumbers
+pub mod RunNumbers
+pub mod BesideLaws

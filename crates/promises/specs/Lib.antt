@@ -1,2 +1,3 @@
 pub mod WholeRun
 pub mod ReadBack
+pub mod Numbers
