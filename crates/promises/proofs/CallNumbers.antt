@@ -34,6 +34,7 @@ use Rattle.runner.proofs.StepAnswers.{held-reads, step-long, step-unheld, step-
 use Rattle.keeper.specs.Reading.{readWeightFile}
 use Rattle.keeper.specs.Answers.{weightPair, weightCausePair, passedWeights, turnedOr, judgedWeights, weightChecking}
 use Rattle.keeper.specs.declared.WeightCheck.{WeightCheck}
+use Rattle.keeper.specs.declared.WeightAnswer.the-variants.{Passed}
 use Rattle.keeper.proofs.CheckLaws.{from-long, from-unheld, from-bad, from-got}
 use Rattle.promises.specs.WholeRun.{racks}
 use Rattle.promises.specs.Numbers.{Among, modelNumbers, markingNumbers, weightNumbers, stepNumbers, Lent, Numbered, untested, stepTests, weightTests}
@@ -237,3 +238,11 @@ module _ (m : Model) (k : Marking) (s : Text) where
     low = two-three;
     high = six-seven;
   })
+
+  -- number 0 is weights that passed
+  pub weight-passed : weightPair (weightChecking m k s .answer) .number ≡ 0 → weightChecking m k s .answer ≡ Passed
+  unfolding judgedWeights turnedOr
+  weight-passed z =
+      let (w, a, n, b, c) = weight-number .good .0 z in
+      let q = renamed-none (weightCausePair last) (weightRefusal (modelOf m) a) (sym (weight-first last (modelOf m) a) ∙ clear-exactly (weightTests last (modelOf m) a) .1 c) in
+      ap (λ (c : WeightCheck). c .answer) (from-got m k s 0 (w .short) (w .is-held) a n b) ∙ rw q

@@ -10,3 +10,4 @@ pub mod TestNumbers
 pub mod CallNumbers
 pub mod RunNumbers
 pub mod BesideLaws
+pub mod ToCLaws

@@ -1,3 +1,4 @@
 pub mod WholeRun
 pub mod ReadBack
 pub mod Numbers
+pub mod ToC
