@@ -1,5 +1,6 @@
 -- What stands beside the causes 6 to 12: a line of the file or of the step, a net, an event.
 use Prim.Native.Nat.{ℕ, suc, _+_}
+use mathlib.Core.Bool.{Bool, true}
 use mathlib.Core.Path.{_≡_, refl, ap, _∙_}
 use mathlib.Core.List.{_++_, append-assoc}
 use native.Mathlib.Omega.{arith}
@@ -10,8 +11,10 @@ use Rattle.text.specs.Printed.{texts, numberText, weightsText}
 use Rattle.text.proofs.LineCounts.{lines-append, texts-lines, number-line, weights-line, token-line}
 use Rattle.eos.specs.Model as eos
 use Rattle.eos.specs.Firing.{Step}
+use Rattle.eos.specs.Causes.{Refusal}
 use Rattle.eos.specs.Weights.{Weights}
 use Rattle.eos.proofs.FirstLaws.{first-exactly}
+use Rattle.model.specs.Limits.{longest}
 use Rattle.model.specs.Held.{modelOf}
 use Rattle.model.specs.declared.Model.{Model}
 use Rattle.model.proofs.SlotLaws.{length-listed}
@@ -21,18 +24,21 @@ use Rattle.marking.specs.Printed.{netTokenText, blockText}
 use Rattle.marking.specs.Sizes.{sizesFor}
 use Rattle.marking.specs.declared.Marking.{Marking}
 use Rattle.reader.specs.Reading.{bounds}
+use Rattle.reader.specs.Answers.{heldBoth}
 use Rattle.step.specs.Reading.{readStep}
 use Rattle.step.specs.Printed.{stepText}
 use Rattle.step.proofs.StepExactly.{step-exactly}
 use Rattle.runner.specs.Answers.{stepPair, stepping}
+use Rattle.runner_trace.specs.Running.{stopPair, running}
 use Rattle.keeper.specs.Reading.{readWeightFile}
 use Rattle.keeper.specs.Printed.{weightFileText}
 use Rattle.keeper.specs.Answers.{weightPair, weightChecking}
 use Rattle.keeper.proofs.WeightsReadBack.{weights-were-printed, right-shaped}
 use Rattle.promises.specs.WholeRun.{racks}
-use Rattle.promises.specs.Numbers.{Among, stepNumbers, weightNumbers, StepBeside, StepLines, WeightBeside}
+use Rattle.promises.specs.Numbers.{Among, stepNumbers, weightNumbers, Numbered, stepTests, StepBeside, StepLines, WeightBeside}
 use Rattle.promises.proofs.TestNumbers.{step-right, weight-right}
 use Rattle.promises.proofs.CallNumbers.{step-number, weight-number}
+use Rattle.promises.proofs.RunNumbers.{run-stopped, run-number}
 
 -- ---- a step
 
@@ -69,13 +75,29 @@ events-are : (m : Model) → length (modelOf m .events) ≡ m .listed
 unfolding modelOf
 events-are m = length-listed _ 0 (m .listed)
 
--- a step turned down with 8 to 12 was read, and beside the number stands a line of it or a net
+-- the step was read, and beside the number stands a line of it or a net
+abbrev pub Beside : Model → Text → Refusal → Type 0
+Beside m s r =
+    (t : Step) × (next : ℕ) × (readStep bounds (sizesFor m) (m .listed) s 0 ≡ got t next) × StepBeside (m .nets) (length (t .taken)) r × StepLines s t
+
+beside-of : (m : Model) (k : Marking) (s : Text) (held : Bool) (r : Refusal)
+    → Numbered stepNumbers longest s held (readStep bounds (sizesFor m) (m .listed) s 0) (stepTests (modelOf m) (racks m k)) r
+    → Among (stepNumbers .tests) (r .number) → Beside m s r
+beside-of m k s held r n h =
+    let (w, t, next, b, f) = n .test r h .0 refl in
+    (t, next, b, rw (nets-are m) at (step-right (modelOf m) (racks m k) t r (first-exactly _ _ .1 f) .1), step-lines bounds (sizesFor m) (m .listed) s t next b)
+
+-- a step turned down with 8 to 12
 pub step-beside : (m : Model) (k : Marking) (s : Text) → Among (stepNumbers .tests) (stepPair (stepping m k s .answer) .number)
-    → (t : Step) × (next : ℕ) × (readStep bounds (sizesFor m) (m .listed) s 0 ≡ got t next)
-    × StepBeside (m .nets) (length (t .taken)) (stepPair (stepping m k s .answer)) × StepLines s t
-step-beside m k s h =
-    let (w, t, next, b, f) = step-number m k s .test (stepPair (stepping m k s .answer)) h .0 refl in
-    (t, next, b, rw (nets-are m) at (step-right (modelOf m) (racks m k) t _ (first-exactly _ _ .1 f) .1), step-lines bounds (sizesFor m) (m .listed) s t next b)
+    → Beside m s (stepPair (stepping m k s .answer))
+step-beside m k s h = beside-of m k s (heldBoth m k) (stepPair (stepping m k s .answer)) (step-number m k s) h
+
+-- a run stopped by such a step
+pub run-beside : (m : Model) (k : Marking) (s : Text) → Among (stepNumbers .tests) (stopPair (running m k s .stop) .number)
+    → Beside m (drop (running m k s .at) s) (stopPair (running m k s .stop))
+run-beside m k s h =
+    let (w, next, b, l) = run-stopped m k s h in
+    beside-of m (running m k s .marking) (drop (running m k s .at) s) true (stopPair (running m k s .stop)) (run-number m k s .as-a-step w next b l) h
 
 -- ---- weights
 

@@ -61,7 +61,7 @@ six-seven n (inl e) = (omega arith, omega arith)
 six-seven n (inr (inl e)) = (omega arith, omega arith)
 six-seven n (inr (inr e)) = absurd e
 
-eight-twelve : (n : ℕ) → Among (8 ∷ 9 ∷ 10 ∷ 11 ∷ 12 ∷ []) n → (6 ≤ n) × (n ≤ 12)
+pub eight-twelve : (n : ℕ) → Among (8 ∷ 9 ∷ 10 ∷ 11 ∷ 12 ∷ []) n → (6 ≤ n) × (n ≤ 12)
 eight-twelve n (inl e) = (omega arith, omega arith)
 eight-twelve n (inr (inl e)) = (omega arith, omega arith)
 eight-twelve n (inr (inr (inl e))) = (omega arith, omega arith)

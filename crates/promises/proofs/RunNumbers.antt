@@ -1,5 +1,5 @@
 -- The numbers of a run, of a writing and of the spread.
-use Prim.Native.Nat.{ℕ, _≤_, _<_}
+use Prim.Native.Nat.{ℕ, zero, suc, _+_, _≤_, _<_}
 use mathlib.Core.Path.{_≡_, refl, ap, sym, _∙_}
 use mathlib.Core.Logic.{inl, inr}
 use mathlib.Core.Bool.{Bool, true, false, true≢false}
@@ -12,24 +12,29 @@ use Rattle.text.specs.Lines.{Outcome, got, bad, need, readHead}
 use Rattle.text.specs.declared.Fault.{Fault}
 use Rattle.text.proofs.Basics.{by-test, by-le}
 use Rattle.text.proofs.Exactly.{bad≢got}
+use Rattle.text.proofs.LinesExactly.{head-exactly}
+use Rattle.eos.specs.Model as eos
 use Rattle.eos.specs.Causes.{Refusal}
 use Rattle.model.specs.Limits.{longest, roomLimit}
 use Rattle.model.specs.declared.Model.{Model}
+use Rattle.marking.specs.Held.{holdMarking}
 use Rattle.marking.specs.Printed.{markingText}
 use Rattle.marking.specs.declared.Marking.{Marking}
 use Rattle.reader.specs.Answers.{pair, writePair, heldBoth, Answered, layWhole, markingWriting}
 use Rattle.reader.proofs.WriteAnswers.{whole-fits, whole-short}
-use Rattle.runner.specs.Answers.{stepPair, heldStep}
+use Rattle.runner.specs.Answers.{Tried, fires, stops, stepPair, heldStep}
 use Rattle.runner.specs.declared.StepAnswer.{StepAnswer}
 use Rattle.runner.specs.declared.StepAnswer.the-variants as step
-use Rattle.runner_trace.specs.Running.{stopPair, stoppedBy, headed, runWhereHeld, running}
+use Rattle.runner_trace.specs.Running.{stopPair, stoppedBy, onward, runFrom, headed, runWhereHeld, running}
 use Rattle.runner_trace.specs.declared.Stop.the-variants as stop
+use Rattle.runner_trace.specs.declared.Ran.{Ran}
+use Rattle.runner_trace.proofs.TraceLaws.{trace-headed}
 use Rattle.runner_trace.proofs.StopLaws.{StopsAt, run-stops-at}
 use Rattle.spread.specs.Call.{spreadPair, spreadCall}
 use Rattle.promises.specs.WholeRun.{racks}
-use Rattle.promises.specs.Numbers.{Among, Lent, RunNumbered, WriteNumbered, SpreadNumbered}
+use Rattle.promises.specs.Numbers.{Among, stepNumbers, Lent, RunNumbered, WriteNumbered, SpreadNumbered}
 use Rattle.promises.proofs.NumberLaws.{num, side}
-use Rattle.promises.proofs.CallNumbers.{held-number, held-fired}
+use Rattle.promises.proofs.CallNumbers.{eight-twelve, held-number, held-fired}
 
 -- ---- a run
 
@@ -48,6 +53,20 @@ header-pair line s e h =
     by-test (starts line (drop 0 s))
     (λ t. absurd (bad≢got (sym (rw t at h))))
     (λ t. let z = rw t at h in let w : e ≡ record { why = 2; at = 0; byte = 0 } = cc in rw w)
+
+-- a run goes on from where it begins
+onward-behind : (rest : ℕ → eos.Marking → Ran) (n at : ℕ) (k : Marking) (s : Text) (t : Tried) → ((used : ℕ) (μ : eos.Marking) → at ≤ rest used μ .at)
+    → at ≤ onward rest n at k s t .at
+unfolding onward
+onward-behind rest n at k [] t h = omega arith
+onward-behind rest n at k (b ∷ s) (fires used μ) h = h used μ
+onward-behind rest n at k (b ∷ s) (stops a) h = omega arith
+
+from-behind : (fuel : ℕ) (m : Model) (k : Marking) (s : Text) (n at : ℕ) → at ≤ runFrom fuel m k s n at .at
+unfolding runFrom
+from-behind zero m k s n at = omega arith
+from-behind (suc fuel) m k s n at =
+    onward-behind _ n at k s _ (λ used μ. omega (arith, from-behind fuel m (holdMarking μ) (drop used s) (n + 1) (at + used)))
 
 module _ (m : Model) (k : Marking) (s : Text) where
   abbrev Open : Type 0
@@ -73,10 +92,21 @@ module _ (m : Model) (k : Marking) (s : Text) where
       let z : r ≡ pair (e .why) (lineAt s (e .at)) = rw (le-leb (length s) longest (w .short), running, w .is-held, b) in
       z ∙ header-pair (bytes "run=1\n") s e b
 
+  header-at : Open → (e : Fault) → head ≡ bad e → running m k s .at ≡ 0
+  unfolding running runWhereHeld headed
+  header-at w e b = rw (le-leb (length s) longest (w .short), running, w .is-held, b)
+
   -- behind the header
   module _ (w : Open) (next : ℕ) (b : head ≡ got tt next) where
-    stops : StopsAt m s (running m k s)
-    stops = run-stops-at m s k (w .short) (w .is-held) next b
+    stops-at : StopsAt m s (running m k s)
+    stops-at = run-stops-at m s k (w .short) (w .is-held) next b
+
+    -- the run stopped at no byte of the header
+    past-header : 0 < running m k s .at
+    past-header =
+        let r = head-exactly (bytes "run=1\n") s .back 0 tt next b .reaches .next-is in
+        let e = ap (λ (x : Ran). x .at) (trace-headed m k s (w .short) (w .is-held) next b) in
+        omega (arith, r, e, from-behind (length s) m k (drop next s) 0 next)
 
     abbrev left : Text
     left = drop (running m k s .at) s
@@ -88,21 +118,21 @@ module _ (m : Model) (k : Marking) (s : Text) where
     few-left = omega (arith, w .short, length-drop (running m k s .at) s)
 
     run-step : running m k s .at < length s → r ≡ stepPair answer
-    run-step h = ap stopPair (stops .turned h) ∙ stopped-pair answer
+    run-step h = ap stopPair (stops-at .turned h) ∙ stopped-pair answer
 
     run-done : running m k s .at ≡ length s → r ≡ pair 0 0
-    run-done h = ap stopPair (stops .done h)
+    run-done h = ap stopPair (stops-at .done h)
 
     -- where it stopped before the end, no step was fired
     turned-down : running m k s .at < length s → stepPair answer .number ≡ 0 → ⊥
     turned-down h z =
         let f = held-fired m (running m k s .marking) left few-left z in
-        omega (arith, stops .ended (stops .turned h ∙ ap stoppedBy (f .1)))
+        omega (arith, stops-at .ended (stops-at .turned h ∙ ap stoppedBy (f .1)))
 
     run-zero : r .number ≡ 0 → running m k s .at ≡ length s
     run-zero z =
         by-le (length s) (running m k s .at)
-        (λ h. omega (arith, h, stops .within))
+        (λ h. omega (arith, h, stops-at .within))
         (λ h. absurd (turned-down h (sym (num (run-step h)) ∙ z)))
 
   -- a run ends in one of five ways
@@ -122,8 +152,21 @@ module _ (m : Model) (k : Marking) (s : Text) where
       read w (bad e) b = f w e b (run-header w e b)
       read w (got v next) b =
           by-le (length s) (running m k s .at)
-          (λ h. let q : running m k s .at ≡ length s = omega (arith, h, stops w next b .within) in p w next b q (run-done w next b q))
+          (λ h. let q : running m k s .at ≡ length s = omega (arith, h, stops-at w next b .within) in p w next b q (run-done w next b q))
           (λ h. t w next b (left w next b) (running m k s .marking) (few-left w next b) (run-step w next b h) (λ z. omega (arith, run-zero w next b z)))
+
+  -- a run with a number of 8 to 12 stopped behind its header and before the end
+  pub run-stopped : Among (stepNumbers .tests) (r .number) → Open × (next : ℕ) × (head ≡ got tt next) × (running m k s .at < length s)
+  run-stopped h =
+      let high = eight-twelve (r .number) h in
+      by-way (λ o q. absurd (omega (arith, high, num q))) (λ o u q. absurd (omega (arith, high, num q))) (λ w e b q. absurd (omega (arith, high, num q)))
+      (λ w n b t j c q z. (w, n, b, before w n b z)) (λ w n b a q. absurd (omega (arith, high, num q)))
+    where
+      before : (w : Open) (n : ℕ) (b : head ≡ got tt n) → (r .number ≡ 0 → ⊥) → running m k s .at < length s
+      before w n b z =
+          by-le (length s) (running m k s .at)
+          (λ h. absurd (z (num (run-done w n b (omega (arith, h, stops-at w n b .within))))))
+          (λ h. h)
 
   pub run-number : RunNumbered m k s r
   run-number = record {
@@ -141,7 +184,12 @@ module _ (m : Model) (k : Marking) (s : Text) where
           (λ w n b a q. absurd (omega (arith, h, num q))),
       λ (o, u). num (run-unheld o u),
     );
-    header = run-header;
+    header = (
+      λ (h, z).
+          by-way (λ o q. absurd (omega (arith, num h, num q))) (λ o u q. absurd (omega (arith, num h, num q))) (λ w e b q. (w, e, b))
+          (λ w n b t j c q y. absurd (omega (arith, z, past-header w n b))) (λ w n b a q. absurd (omega (arith, num h, num q))),
+      λ (w, e, b). (run-header w e b, header-at w e b),
+    );
     good = (
       λ h.
           by-way (λ o q. absurd (omega (arith, h, num q))) (λ o u q. absurd (omega (arith, h, num q))) (λ w e b q. absurd (omega (arith, h, num q)))
@@ -150,6 +198,7 @@ module _ (m : Model) (k : Marking) (s : Text) where
       λ (w, n, b, a). num (run-done w n b a),
     );
     step = run-step;
+    as-a-step = λ w next b h. rw (run-step w next b h) (held-number m (running m k s .marking) (left w next b) (few-left w next b));
     listed =
         by-way (λ o q. inr (inl (num q))) (λ o u q. inr (inr (inl (num q)))) (λ w e b q. inr (inr (inr (inl (num q)))))
         (λ w n b t j c q z. rw (num q) (held-number m j t c .listed))

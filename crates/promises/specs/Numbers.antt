@@ -17,12 +17,17 @@ use Rattle.eos.specs.Firing.{Step, outerTaken, outerGiven, innerTaken, innerGiv
 use Rattle.eos.specs.Causes.{Refusal, First, Clear, unless, at, failing, lacking}
 use Rattle.eos.specs.Weights.{Weights, effect, isZero, allZero}
 use Rattle.model.specs.Limits.{longest, roomLimit}
+use Rattle.model.specs.Held.{modelOf}
 use Rattle.model.specs.declared.Model.{Model}
 use Rattle.marking.specs.Printed.{netTokenText}
+use Rattle.marking.specs.Sizes.{sizesFor}
 use Rattle.marking.specs.declared.Marking.{Marking}
+use Rattle.reader.specs.Reading.{bounds}
 use Rattle.reader.specs.Answers.{pair, heldBoth}
+use Rattle.step.specs.Reading.{readStep}
 use Rattle.runner.specs.Answers.{stepPair, heldStep}
 use Rattle.runner_trace.specs.Running.{running}
+use Rattle.promises.specs.WholeRun.{racks}
 
 -- n is one of these
 abbrev pub Among : List ℕ → ℕ → Type 0
@@ -132,16 +137,19 @@ pub record WeightBeside (last events : ℕ) (r : Refusal) : Type 0 where
 
 -- ---- a run
 
--- the number of a run over a trace. A bad header is 2 beside 1. Behind it, 0 exactly at the end of the trace; before the end, what the step
--- answers on what is left from the byte where the run stopped, on the marking then
+-- the number of a run over a trace. A bad header is 2 beside 1, at byte 0. Behind it, 0 exactly at the end of the trace; before the end,
+-- what the step answers on what is left from the byte where the run stopped, on the marking then, so a number as a step has
 pub record RunNumbered (m : Model) (k : Marking) (s : Text) (r : Refusal) : Type 0 where
   pub one : (r .number ≡ 1) ↔ (longest < length s)
   pub fourteen : (r .number ≡ 14) ↔ ((length s ≤ longest) × (heldBoth m k ≡ false))
-  pub header : Lent longest s (heldBoth m k) → (e : Fault) → readHead (bytes "run=1\n") s 0 ≡ bad e → r ≡ pair 2 1
+  pub header : ((r ≡ pair 2 1) × (running m k s .at ≡ 0)) ↔ (Lent longest s (heldBoth m k) × (e : Fault) × (readHead (bytes "run=1\n") s 0 ≡ bad e))
   pub good : (r .number ≡ 0)
       ↔ (Lent longest s (heldBoth m k) × (next : ℕ) × (readHead (bytes "run=1\n") s 0 ≡ got tt next) × (running m k s .at ≡ length s))
   pub step : Lent longest s (heldBoth m k) → (next : ℕ) → readHead (bytes "run=1\n") s 0 ≡ got tt next → running m k s .at < length s
       → r ≡ stepPair (heldStep roomLimit m (running m k s .marking) (drop (running m k s .at) s) .answer)
+  pub as-a-step : Lent longest s (heldBoth m k) → (next : ℕ) → readHead (bytes "run=1\n") s 0 ≡ got tt next → running m k s .at < length s
+      → let left = drop (running m k s .at) s in
+      Numbered stepNumbers longest left true (readStep bounds (sizesFor m) (m .listed) left 0) (stepTests (modelOf m) (racks m (running m k s .marking))) r
   pub listed : Among (allOf stepNumbers) (r .number)
   pub nothing : Among (0 ∷ 1 ∷ 14 ∷ []) (r .number) → r .beside ≡ 0
 
