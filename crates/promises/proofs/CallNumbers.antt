@@ -77,7 +77,7 @@ untested-none a c e = let z : _≡_ {A = ℕ} 0 1 = cc in absurd (omega arith)
 -- ---- reading a model
 
 module _ (s : Text) where
-  model-goes : Goes modelNumbers longest s true (readModel s) untested (readPair (modelReading s .answer))
+  pub model-goes : Goes modelNumbers longest s true (readModel s) untested (readPair (modelReading s .answer))
   unfolding modelFrom loaded
   model-goes = record {
     long = λ h. rw (lt-leb (length s) longest h, modelFrom);
@@ -87,14 +87,17 @@ module _ (s : Text) where
     passed = λ w a n b e. rw (le-leb (length s) longest (w .short), modelFrom, b);
   }
 
-  pub model-number : Numbered modelNumbers longest s true (readModel s) untested (readPair (modelReading s .answer))
-  model-number = numbered modelNumbers longest s true (readModel s) untested _ model-goes (record {
+  pub model-caused : (most : ℕ) (r : Refusal) → Caused modelNumbers most s true (readModel s) untested r
+  model-caused most r = record {
     unheld = λ h. absurd (true≢false h);
     lines = model-faults (Among (modelNumbers .lines)) (inl refl) s (inr (inl refl)) (inr (inr (inl refl))) (inr (inr (inr (inl refl))));
     tests-are = λ a c e. untested-none a c e;
     low = two-five;
     high = λ n h. absurd h;
-  })
+  }
+
+  pub model-number : Numbered modelNumbers longest s true (readModel s) untested (readPair (modelReading s .answer))
+  model-number = numbered modelNumbers longest s true (readModel s) untested _ model-goes (model-caused longest _)
 
 -- ---- reading a marking
 
@@ -221,7 +224,7 @@ module _ (m : Model) (k : Marking) (s : Text) where
       ∙ weight-judged (weightRefusal (modelOf m) a) (passedWeights coverLimit a (weigh (modelOf m) a (racks m k))) refl
       ∙ ap orGood (sym (weight-first last (modelOf m) a))
 
-  weights-goes : Goes weightNumbers longest s (heldBoth m k) (readWeightFile (modelOf m) s) (weightTests last (modelOf m)) (weightPair (weightChecking m k s .answer))
+  pub weights-goes : Goes weightNumbers longest s (heldBoth m k) (readWeightFile (modelOf m) s) (weightTests last (modelOf m)) (weightPair (weightChecking m k s .answer))
   weights-goes = record {
     long = λ h. ap (λ (c : WeightCheck). weightPair (c .answer)) (sym (from-long m k s 0 h));
     unheld = λ few h. ap (λ (c : WeightCheck). weightPair (c .answer)) (sym (from-unheld m k s 0 few h));
@@ -230,14 +233,17 @@ module _ (m : Model) (k : Marking) (s : Text) where
     passed = λ w a n b e. weight-got w a n b ∙ ap orGood e;
   }
 
-  pub weight-number : Numbered weightNumbers longest s (heldBoth m k) (readWeightFile (modelOf m) s) (weightTests last (modelOf m)) (weightPair (weightChecking m k s .answer))
-  weight-number = numbered weightNumbers longest s (heldBoth m k) (readWeightFile (modelOf m) s) (weightTests last (modelOf m)) _ weights-goes (record {
+  pub weights-caused : (most : ℕ) (r : Refusal) → Caused weightNumbers most s (heldBoth m k) (readWeightFile (modelOf m) s) (weightTests last (modelOf m)) r
+  weights-caused most r = record {
     unheld = λ _. inl refl;
     lines = weight-file-faults (Among (weightNumbers .lines)) (inl refl) s (inr (inl refl)) (modelOf m);
     tests-are = λ a c e. weight-right last (modelOf m) a c e .0;
     low = two-three;
     high = six-seven;
-  })
+  }
+
+  pub weight-number : Numbered weightNumbers longest s (heldBoth m k) (readWeightFile (modelOf m) s) (weightTests last (modelOf m)) (weightPair (weightChecking m k s .answer))
+  weight-number = numbered weightNumbers longest s (heldBoth m k) (readWeightFile (modelOf m) s) (weightTests last (modelOf m)) _ weights-goes (weights-caused longest _)
 
   -- number 0 is weights that passed
   pub weight-passed : weightPair (weightChecking m k s .answer) .number ≡ 0 → weightChecking m k s .answer ≡ Passed

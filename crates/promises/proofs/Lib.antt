@@ -11,3 +11,4 @@ pub mod CallNumbers
 pub mod RunNumbers
 pub mod BesideLaws
 pub mod ToCLaws
+pub mod FileNumbers
