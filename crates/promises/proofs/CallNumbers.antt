@@ -15,7 +15,8 @@ use Rattle.eos.specs.Model as eos
 use Rattle.eos.specs.Firing.{Step}
 use Rattle.eos.specs.Causes.{Refusal, Cause, first, refusal}
 use Rattle.eos.specs.Weights.{Weights, WeightCause, weightRefusal, weigh}
-use Rattle.eos.proofs.FirstLaws.{clear-exactly}
+use Rattle.eos.proofs.Basics.{some-not}
+use Rattle.eos.proofs.FirstLaws.{renamed, renamed-none, clear-exactly}
 use Rattle.model.specs.Limits.{longest, roomLimit, coverLimit}
 use Rattle.model.specs.Held.{modelOf}
 use Rattle.model.specs.Test.{heldModel}
@@ -40,7 +41,7 @@ use Rattle.promises.specs.WholeRun.{racks}
 use Rattle.promises.specs.Numbers.{Among, modelNumbers, markingNumbers, weightNumbers, stepNumbers, Lent, Numbered, untested, stepTests, weightTests}
 use Rattle.promises.proofs.NumberLaws.{Goes, Caused, numbered}
 use Rattle.promises.proofs.FileFaults.{marking-faults, weight-file-faults, model-faults}
-use Rattle.promises.proofs.TestNumbers.{renamed, renamed-none, step-first, step-right, weight-first, weight-right}
+use Rattle.promises.proofs.TestNumbers.{step-first, step-right, weight-first, weight-right}
 
 -- ---- lists of numbers
 
@@ -72,7 +73,7 @@ eight-twelve n (inr (inr (inr (inr (inr e))))) = absurd e
 -- no test, no cause
 untested-none : {A G : Type 0} (a : A) (c : Refusal) → first (untested a) ≡ some c → G
 unfolding first
-untested-none a c e = let z : _≡_ {A = ℕ} 0 1 = cc in absurd (omega arith)
+untested-none a c e = some-not (sym e)
 
 -- ---- reading a model
 

@@ -2,9 +2,9 @@
 use Prim.Native.Nat.{ℕ, suc, _+_, _<_}
 use mathlib.Core.Path.{_≡_, refl, ap, ap₂, _∙_}
 use mathlib.Core.Logic.{_⊎_, inl, inr}
-use mathlib.Core.Bool.{Bool, true, false, not}
-use mathlib.Core.List.{List, [], _∷_, map}
-use mathlib.Core.Option.{Option, none, some}
+use mathlib.Core.Bool.{Bool, not}
+use mathlib.Core.List.{[], _∷_, map}
+use mathlib.Core.Option.{some}
 use native.Mathlib.Omega.{arith}
 use lib.Dec.{leb}
 use lib.ListN.{length}
@@ -12,65 +12,12 @@ use Rattle.eos.specs.Model as eos
 use Rattle.eos.specs.Firing.{Step, outerTaken, outerGiven, innerTaken, innerGiven, after}
 use Rattle.eos.specs.Causes.{Refusal, Cause, taking, giving, short, unequal, missing, crowded, first, unless, at, failing, lacking, causes, refusal}
 use Rattle.eos.specs.Weights.{Weights, effect, isZero, allZero, weightless, unbalanced, weightRefusal}
-use Rattle.eos.proofs.FirstLaws.{failing-least, lacking-within}
+use Rattle.eos.proofs.FirstLaws.{renamed, first-renamed, unless-renamed, at-renamed, first-each, unless-each, at-each, failing-least, lacking-within}
 use Rattle.model.specs.Limits.{roomLimit}
 use Rattle.reader.specs.Answers.{pair}
 use Rattle.step.specs.Verdict.{hasRoom, causePair}
 use Rattle.keeper.specs.Answers.{weightCausePair}
 use Rattle.promises.specs.Numbers.{Among, stepNumbers, weightNumbers, stepTests, StepBeside, weightTests, WeightBeside}
-
--- ---- tests with other causes
-
-module _ {C D : Type 0} (f : C → D) where
-  abbrev pub renamed : Option C → Option D
-  renamed none = none
-  renamed (some c) = some (f c)
-
-  pub renamed-none : (o : Option C) → renamed o ≡ none → o ≡ none
-  renamed-none none e = refl
-  renamed-none (some c) e = let z : _≡_ {A = ℕ} 0 1 = cc in absurd (omega arith)
-
-  first-renamed : (l : List (Option C)) → first (map renamed l) ≡ renamed (first l)
-  unfolding first
-  first-renamed [] = refl
-  first-renamed (none ∷ l) = first-renamed l
-  first-renamed (some c ∷ l) = refl
-
-  unless-renamed : (b : Bool) (c : C) → unless b (f c) ≡ renamed (unless b c)
-  unfolding unless
-  unless-renamed true c = refl
-  unless-renamed false c = refl
-
-  at-renamed : (c : ℕ → C) (o : Option ℕ) → at (λ n. f (c n)) o ≡ renamed (at c o)
-  unfolding at
-  at-renamed c none = refl
-  at-renamed c (some n) = refl
-
--- ---- what holds of the cause of every test holds of the first
-
-module _ {C : Type 0} (P : C → Type 0) where
-  abbrev Each : List (Option C) → Type 0
-  Each [] = Unit {0}
-  Each (o ∷ l) = ((c : C) → o ≡ some c → P c) × Each l
-
-  none-not : {c : C} → none ≡ some c → P c
-  none-not e = let z : _≡_ {A = ℕ} 0 1 = cc in absurd (omega arith)
-
-  first-each : (l : List (Option C)) → Each l → (c : C) → first l ≡ some c → P c
-  unfolding first
-  first-each [] h c e = none-not e
-  first-each (none ∷ l) h c e = first-each l (h .1) c e
-  first-each (some a ∷ l) h c e = h .0 c e
-
-  unless-each : (b : Bool) (a : C) → P a → (c : C) → unless b a ≡ some c → P c
-  unfolding unless
-  unless-each true a p c e = none-not e
-  unless-each false a p c e = let z : a ≡ c = cc in rw z at p
-
-  at-each : (f : ℕ → C) (o : Option ℕ) → ((n : ℕ) → o ≡ some n → P (f n)) → (c : C) → at f o ≡ some c → P c
-  unfolding at
-  at-each f none h c e = none-not e
-  at-each f (some n) h c e = let z : f n ≡ c = cc in rw z at (h n refl)
 
 -- ---- a step
 
