@@ -8,4 +8,5 @@ pub mod KeepLaws
 pub mod GivenSteps
 pub mod FiresExactly
 pub mod RefusedStep
+pub mod StepFaulty
 pub mod Passing
