@@ -62,7 +62,7 @@ cover-fits true = cover-length 1 (omega arith)
 cover-fits false = cover-length 0 (omega arith)
 
 -- the net-tokens held: the text of the marking, with a key that is a byte shorter
-block-fits : (μ : eos.Marking) → length (markingText μ) ≤ 60000 → length (blockText (bytes "held=") μ) ≤ 60000
+block-fits : (μ : eos.Marking) → length (markingText μ) ≤ 51466 → length (blockText (bytes "held=") μ) ≤ 51466
 unfolding markingText blockText
 block-fits μ h =
     omega (
@@ -103,13 +103,13 @@ module _ (m : Model) (k : Marking) (given : Given m k) where
       (λ t. rw (t, weightsFile) (given-sum-within m k given s))
       (λ t. rw (t, weightsFile) (omega arith, omega arith))
 
-  tokens-fit : (j : Marking) → Given m j → length (blockText (bytes "held=") (tokensOf (sizesFor m) j)) ≤ 60000
+  tokens-fit : (j : Marking) → Given m j → length (blockText (bytes "held=") (tokensOf (sizesFor m) j)) ≤ 51466
   unfolding heldIn
   tokens-fit j g =
       block-fits (tokensOf (sizesFor m) j)
       (held-length (sizesFor m) (held-roomy m held) (omega (arith, most-places m (held-is m held))) j (given-marking m j g) (and-true (heldModel m) _ (given-held m j g) .1))
 
-  run-fits : (s : Text) → length (runText m (traceFile m k s)) ≤ 60057
+  run-fits : (s : Text) → length (runText m (traceFile m k s)) ≤ 51523
   unfolding runText
   run-fits s =
       let r = traceFile m k s in
@@ -126,14 +126,14 @@ module _ (m : Model) (k : Marking) (given : Given m k) where
         tokens-fit (r .marking) (trace-given s),
       )
 
-  after-fits : (weights trace : Text) → length (afterModel m k weights trace) ≤ 60124
+  after-fits : (weights trace : Text) → length (afterModel m k weights trace) ≤ 51590
   unfolding afterModel
   after-fits weights trace =
       let c = weightsFile m k weights in
       let sum = sumText (c .sum) in
       let cover = coverText (c .cover) in
       let run = runText m (traceFile m k trace) in
-      let rest : length (sum ++ (cover ++ run)) ≤ 60091 =
+      let rest : length (sum ++ (cover ++ run)) ≤ 51557 =
       omega (
         arith,
         length-append sum (cover ++ run),
@@ -142,7 +142,7 @@ module _ (m : Model) (k : Marking) (given : Given m k) where
         cover-fits (c .cover),
         run-fits trace,
       ) in
-      pair-fits (bytes "weights=") (weightPair (c .answer)) (sum ++ (cover ++ run)) 60091 (weights-small m nets-few events-few k weights) (λ t. rest)
+      pair-fits (bytes "weights=") (weightPair (c .answer)) (sum ++ (cover ++ run)) 51557 (weights-small m nets-few events-few k weights) (λ t. rest)
 
 -- ---- the listing
 
@@ -153,7 +153,7 @@ module _ (model weights trace : Text) where
       let l = modelFile model in
       omega (
         arith,
-        pair-fits (bytes "model=") (readPair (l .answer)) (afterModel (l .model) (l .start) weights trace) 60124 (model-small model)
+        pair-fits (bytes "model=") (readPair (l .answer)) (afterModel (l .model) (l .start) weights trace) 51590 (model-small model)
             (λ t. after-fits (l .model) (l .start) (file-given model t) weights trace),
       )
 

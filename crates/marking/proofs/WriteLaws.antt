@@ -16,7 +16,8 @@ use Rattle.text.specs.Printed.{decimal, texts, numberText, tokenText}
 use Rattle.text.specs.Answers.{endedOf, keptOr}
 use Rattle.text.specs.declared.Ended.the-variants.{Past}
 use Rattle.text.proofs.TestLaws.{within-is, every-at}
-use Rattle.text.proofs.TextLengths.{texts-length, end-length}
+use Rattle.text.proofs.DecimalLaws.{length-below}
+use Rattle.text.proofs.TextLengths.{texts-length, ended-length}
 use Rattle.text.proofs.Standing.{Stands}
 use Rattle.text.proofs.SetsLaws.{sets-append}
 use Rattle.text.proofs.LaidLaws.{Laid, number-line-length}
@@ -39,30 +40,30 @@ use Rattle.marking.proofs.LinesLaid.{few-digits, line-length}
 noToken : eos.NetToken
 noToken = record { place = 0; inside = [] }
 
-module _ (z : Sizes) (roomy : Roomy z) (places : z .places ≤ 65535) where
-  token-length : (t : eos.NetToken) → Right (λ v. leb v 65535) z t → length (netTokenText t) ≤ 205
+module _ (z : Sizes) (roomy : Roomy z) (places : z .places ≤ 99) where
+  token-length : (t : eos.NetToken) → Right (λ v. leb v 65535) z t → length (netTokenText t) ≤ 201
   unfolding netTokenText tokenText
   token-length t r =
-      let short = end-length decimal 0 5 (t .inside) 32 (omega (arith, r .size, roomy (suc (t .place)))) (λ i p.
+      let short = ended-length decimal 0 5 (t .inside) 31 (omega (arith, r .size, roomy (suc (t .place)))) (λ i p.
       few-digits (getD (t .inside) i 0) (omega (arith, leb-true (getD (t .inside) i 0) 65535 (every-at (λ v. leb v 65535) (t .inside) i 0 (r .counts) p)))) in
-      omega (arith, line-length (suc (t .place)) (t .inside), few-digits (suc (t .place)) (omega (arith, r .place)), short)
+      omega (arith, line-length (suc (t .place)) (t .inside), length-below 1 (suc (t .place)) (omega (arith, r .place)), short)
 
-  pub marking-length : (μ : eos.Marking) → rightBlock (limits 256 65535) z μ ≡ true → length (markingText μ) ≤ 60000
+  pub marking-length : (μ : eos.Marking) → rightBlock (limits 256 65535) z μ ≡ true → length (markingText μ) ≤ 51466
   unfolding markingText blockText rightBlock
   marking-length μ h =
       let p = and-true (leb (length μ) 256) _ h in
       let few = leb-true (length μ) 256 (p .0) in
-      let lines = texts-length netTokenText noToken 205 μ 256 few (λ i q. token-length (getD μ i noToken)
+      let lines = texts-length netTokenText noToken 201 μ 256 few (λ i q. token-length (getD μ i noToken)
       (right-is (limits 256 65535) z (getD μ i noToken) (every-at (rightNetToken (limits 256 65535) z) μ i noToken (p .1) q))) in
       omega (
         arith,
         length-append (numberText (bytes "start=") (length μ)) (texts netTokenText μ),
         number-line-length (bytes "start=") (length μ),
-        few-digits (length μ) (omega arith),
+        length-below 2 (length μ) (omega arith),
         lines,
       )
 
-  pub held-length : (k : Marking) → SizedMarking k → heldMarking roomLimit z k ≡ true → length (markingText (tokensOf z k)) ≤ 60000
+  pub held-length : (k : Marking) → SizedMarking k → heldMarking roomLimit z k ≡ true → length (markingText (tokensOf z k)) ≤ 51466
   held-length k sz h = marking-length (tokensOf z k) (held-tokens z roomy k sz h .0 .right)
 
 -- ---- the text of the rows that hold it

@@ -14,5 +14,5 @@ pub record ReadsBack (m : Model) (k : Marking) (out : List ℕ) : Type 0 where
   -- where the writer answers n bytes, the first n of the lent bytes after it are accepted, and give the same marking
   pub back : (n : ℕ) → markingWriting m k out .answer ≡ Written n
       → markingReading m (take n (markingWriting m k out .bytes)) ≡ record { answer = Accepted; marking = k }
-  -- and 60,000 lent bytes are enough
-  pub fits : 60000 ≤ length out → (n : ℕ) × (markingWriting m k out .answer ≡ Written n)
+  -- and 51,466 lent bytes are enough
+  pub fits : 51466 ≤ length out → (n : ℕ) × (markingWriting m k out .answer ≡ Written n)

@@ -1,4 +1,4 @@
--- What was written reads back, at the call: the bytes that the writer says it wrote. And a buffer of 60,000 bytes is enough.
+-- What was written reads back, at the call: the bytes that the writer says it wrote. And a buffer of 51,466 bytes is enough.
 use Prim.Native.Nat.{ℕ, _≤_}
 use mathlib.Core.Path.{_≡_, refl, ap, sym, _∙_}
 use mathlib.Core.Bool.{true}
@@ -64,8 +64,8 @@ module _ (m : Model) (k : Marking) (out : List ℕ) where
         ap (λ (a : Answered). take n (a .bytes)) w ∙ laid-stands text out n (ap (λ (a : Answered). a .answer) (sym w) ∙ e) in
         ap (markingReading m) s ∙ written-reads-back m k sized h
 
-    -- a held marking is written into any buffer of 60,000 bytes
-    pub writing-fits : heldBoth m k ≡ true → 60000 ≤ length out → (n : ℕ) × (markingWriting m k out .answer ≡ Written n)
+    -- a held marking is written into any buffer of 51,466 bytes
+    pub writing-fits : heldBoth m k ≡ true → 51466 ≤ length out → (n : ℕ) × (markingWriting m k out .answer ≡ Written n)
     unfolding heldIn
     writing-fits h long =
         let a = and-true (heldModel m) _ h in

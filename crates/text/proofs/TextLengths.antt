@@ -39,6 +39,13 @@ module _ {A : Type 0} (text : A → Text) (none : A) (most : ℕ) where
   end-length [] n h each = omega arith
   end-length (a ∷ l) n h each = omega (arith, items-length (a ∷ l) n h each)
 
+  -- where there is room for a thing at least, its end is counted
+  pub ended-length : (l : List A) (n : ℕ) → length l ≤ suc n → ((i : ℕ) → i < length l → length (text (getD l i none)) ≤ most)
+      → length (endText text l) ≤ suc n * suc most
+  unfolding endText
+  ended-length [] n h each = omega (arith, suc-mul n (suc most))
+  ended-length (a ∷ l) n h each = items-length (a ∷ l) (suc n) h each
+
 -- the line of a number of at most k + 1 digits
 pub number-length : (key : Text) (k n : ℕ) → n < 10 ^ suc k → length (numberText key n) ≤ length key + (k + 2)
 unfolding numberText
