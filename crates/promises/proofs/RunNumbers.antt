@@ -15,19 +15,22 @@ use Rattle.text.proofs.Exactly.{bad≢got}
 use Rattle.text.proofs.LinesExactly.{head-exactly}
 use Rattle.eos.specs.Model as eos
 use Rattle.eos.specs.Causes.{Refusal}
-use Rattle.model.specs.Limits.{longest, roomLimit}
+use Rattle.model.specs.Limits.{longest, roomLimit, rowsRoom}
 use Rattle.model.specs.declared.Model.{Model}
 use Rattle.marking.specs.Held.{holdMarking}
 use Rattle.marking.specs.Printed.{markingText}
 use Rattle.marking.specs.declared.Marking.{Marking}
 use Rattle.reader.specs.Answers.{pair, writePair, heldBoth, Answered, layWhole, markingWriting}
 use Rattle.reader.proofs.WriteAnswers.{whole-fits, whole-short}
-use Rattle.runner.specs.Answers.{Tried, fires, stops, stepPair, heldStep}
+use Rattle.runner.specs.Answers.{Tried, fires, stops, stepPair, heldStep, stepping}
+use Rattle.runner.specs.declared.Stepped.{Stepped}
 use Rattle.runner.specs.declared.StepAnswer.{StepAnswer}
 use Rattle.runner.specs.declared.StepAnswer.the-variants as step
+use Rattle.runner.proofs.StepAnswers.{step-held}
 use Rattle.runner_trace.specs.Running.{stopPair, stoppedBy, onward, runFrom, headed, runWhereHeld, running}
 use Rattle.runner_trace.specs.declared.Stop.the-variants as stop
 use Rattle.runner_trace.specs.declared.Ran.{Ran}
+use Rattle.runner_trace.proofs.TraceSteps.{run-keeps}
 use Rattle.runner_trace.proofs.TraceLaws.{trace-headed}
 use Rattle.runner_trace.proofs.StopLaws.{StopsAt, run-stops-at}
 use Rattle.spread.specs.Call.{spreadPair, spreadCall}
@@ -119,6 +122,12 @@ module _ (m : Model) (k : Marking) (s : Text) where
 
     run-step : running m k s .at < length s → r ≡ stepPair answer
     run-step h = ap stopPair (stops-at .turned h) ∙ stopped-pair answer
+
+    -- on a marking as every one in code is, that is the step call
+    pub run-call : length (k .rows) ≡ rowsRoom → running m k s .at < length s → r ≡ stepPair (stepping m (running m k s .marking) left .answer)
+    run-call long h =
+        let kept = run-keeps m k s (record { held = w .is-held; long = long }) in
+        run-step h ∙ ap (λ (x : Stepped). stepPair (x .answer)) (step-held m (running m k s .marking) left few-left (kept .held))
 
     run-done : running m k s .at ≡ length s → r ≡ pair 0 0
     run-done h = ap stopPair (stops-at .done h)
