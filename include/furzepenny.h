@@ -1,19 +1,22 @@
 /* Furzepenny: the calls of the proved engine, for C and C++.
  *
- * Platform. x86-64 with the System V calling convention, as on Linux. The archive needs memcpy, memmove and memset, and nothing else.
+ * Platform. x86-64 with the System V calling convention, as on Linux; C99 or later, or C++. The archive needs memcpy, memmove and memset, and nothing else.
  *
  * Texts and buffers. A text is lent as its bytes and their number, a buffer likewise; a null pointer goes with the number 0 alone. Texts are
- * only read: they may overlap, and need no byte 0 at their end. A buffer must not overlap a text that is lent to the same call.
+ * only read: they may overlap, and need no byte 0 at their end. Of a string of C its strlen is lent, without its byte 0, which would be a
+ * byte of the text. A buffer must not overlap a text that is lent to the same call.
  *
  * Held things. A held model and a held marking are passed and returned by value: the engine keeps no pointer, shares no memory and
  * allocates none. Any bytes may be passed as a held thing; one that no reading gives is refused. For a caller who keeps them behind
  * pointers each call that takes or returns one has a second form, whose name ends in _at; it is the call, with its answer laid where the
- * pointers say. The pointers are not null. A refused reading or step leaves what stands there as it was.
+ * pointers say; the rest of the answer is a struct, whose name may end in _at too. The pointers are not null. A refused reading or step
+ * leaves what stands there as it was.
  *
  * Threads. The engine has no state; any number of threads may call it at once. Who shares a marking behind a pointer locks it.
  *
  * Stack. The engine uses no heap; what a call needs is on the stack, and too little is a crash. FP_STACK_... is enough for the call of
- * that name and for its form in _at, what is passed and returned by value included; FP_STACK is enough for any.
+ * that name and for its form in _at, what is passed and returned by value included, from a function that makes one such call; FP_STACK is
+ * enough for any. A function with several calls by value may have room for the answer of each in its frame: that comes on top.
  *
  * Structs have no padding: each is as long as its fields together.
  *
@@ -66,11 +69,11 @@ extern "C" {
 #define FP_TOKENS 256          /* net-tokens of a marking; racks taken by a step, and given by it */
 #define FP_ARC 255             /* an arc's number; the count of a transition in an event */
 #define FP_COUNT 65535         /* a net-token's count on an inner place */
-#define FP_WEIGHT 1000         /* a weight, above 0 and below 0 */
+#define FP_WEIGHT 1000         /* a weight, so far from 0 at most, on either side */
 #define FP_TEXT 1048576        /* bytes of a text */
 #define FP_FILE 65536          /* bytes of a text of fp_listing */
 #define FP_MARKING_TEXT 51466  /* bytes of the longest text that fp_write_marking writes */
-#define FP_LISTING_TEXT 51536  /* no text that fp_listing writes has more bytes */
+#define FP_LISTING_TEXT 65536  /* bytes into which every text that fp_listing writes fits */
 #define FP_SPREAD_TOKENS 31    /* tokens of fp_ways */
 #define FP_SPREAD_RACKS 16     /* racks of fp_ways */
 #define FP_STACK (512 * 1024)  /* bytes of stack, for any call */
