@@ -11,11 +11,11 @@ use lib.ListN.{length, getD, List·getD-eq-default}
 use borrow.Author.Tests.{eqb-true}
 use Rattle.text.specs.Bytes.{Text, bytes}
 use Rattle.text.proofs.Basics.{and-true}
-use Rattle.text.specs.Lines.{Outcome, got, bad, then, need, every, readHead, readWeights, modest}
+use Rattle.text.specs.Lines.{Outcome, got, then, need, every, readHead, readWeights, modest}
 use Rattle.text.specs.Repeat.{manyAt}
 use Rattle.text.specs.Printed.{weightsText}
 use Rattle.text.proofs.TestLaws.{and-both, everyAt-at}
-use Rattle.text.proofs.Exactly.{Exactly}
+use Rattle.text.proofs.Exactly.{Exactly, then-then}
 use Rattle.text.proofs.LinesExactly.{head-exactly, weights-exactly}
 use Rattle.text.proofs.ManyExactly.{manyAt-exactly}
 use Rattle.text.proofs.ChainExactly.{exactly-by, first-makes, last-makes}
@@ -35,11 +35,6 @@ readLines m s at =
     then (readHead (bytes "inv=1\n") s at) λ _ x₁.
     then (readWeights (bytes "outer=") (eos.places m) (modest weightLimit) s x₁) λ o x₂.
     then (manyAt (readInner m s) 0 (length (m .nets)) x₂) λ i x₃. need true 0 x₂ (got (record { outward = o; inward = i }) x₃)
-
-then-then : {A B C : Type 0} (o : Outcome A) (f : A → ℕ → Outcome B) (g : B → ℕ → Outcome C) → then (then o f) g ≡ then o (λ a x. then (f a x) g)
-unfolding then
-then-then (got a x) f g = refl
-then-then (bad e) f g = refl
 
 module _ (m : eos.Model) where
   from-lines : (s : Text) (at : ℕ) → readWeightsAt m s at ≡ then (readLines m s at) (readEnd s)

@@ -6,7 +6,7 @@ use mathlib.Core.List.{List, [], _∷_}
 use mathlib.Core.Option.{Option, none, some}
 use native.Mathlib.Omega.{arith}
 use native.Mathlib.Nat.{zero-add}
-use lib.Dec.{leb, eqb}
+use lib.Dec.{leb, eqb, lit<}
 use lib.ListN.{length, take, drop, length-drop, length-take}
 use borrow.Author.Tests.{leb-true}
 use Rattle.text.specs.Bytes.{Text, bytes, lf, newlines}
@@ -26,6 +26,8 @@ use Rattle.marking.specs.Sizes.{sizesFor}
 use Rattle.marking.specs.declared.Marking.{Marking}
 use Rattle.reader.specs.Reading.{bounds, Loaded, readModel}
 use Rattle.reader.specs.Answers.{readPair, loaded, heldBoth, modelFrom}
+use Rattle.step.proofs.StepFaults.{step-faults}
+use Rattle.text.proofs.FaultLaws.{Faults, head-faults}
 use Rattle.step.specs.Reading.{readStep}
 use Rattle.step.specs.Verdict.{hasRoom, causePair}
 use Rattle.runner.specs.Answers.{Tried, fires, stops, stepJudged, readThen, tried}
@@ -35,7 +37,7 @@ use Rattle.runner_trace.specs.declared.Ran.{Ran}
 use Rattle.keeper.specs.Reading.{readWeightFile}
 use Rattle.keeper.specs.Answers.{weightPair, weightCausePair, passedWeights, turnedOr, judgedWeights, weighed, weightsOr, weightsFrom}
 use Rattle.listing.specs.Listing.{fileLongest, modelFile, weightsFile, traceFile}
-use Rattle.listing.proofs.FaultSizes.{Digit, head-digit, step-digit, model-digit, file-digit}
+use Rattle.listing.proofs.FileFaults.{weight-file-faults, model-faults}
 
 -- numbers that fit the line of a pair
 abbrev pub Small : Refusal → Type 0
@@ -56,7 +58,11 @@ spot-small s few e h = (omega arith, omega (arith, newlines-few (take (e .at) s)
 
 -- ---- a model's answer
 
-loaded-small : (s : Text) → length s ≤ fileLongest → (o : Outcome Loaded) → Digit o → Small (readPair (loaded s o .answer))
+-- a cause of one digit
+abbrev Digit : ℕ → Type 0
+Digit why = why < 10
+
+loaded-small : (s : Text) → length s ≤ fileLongest → (o : Outcome Loaded) → Faults Digit o → Small (readPair (loaded s o .answer))
 unfolding loaded
 loaded-small s few (got l x) d = (omega arith, omega arith)
 loaded-small s few (bad e) d = spot-small s few e d
@@ -66,7 +72,7 @@ unfolding modelFile modelFrom
 model-small s =
     by-test (leb (length s) fileLongest)
     (λ t. by-test (leb (length s) longest)
-    (λ u. rw (t, modelFile, u, modelFrom) (loaded-small s (leb-true (length s) fileLongest t) (readModel s) (model-digit s 0)))
+    (λ u. rw (t, modelFile, u, modelFrom) (loaded-small s (leb-true (length s) fileLongest t) (readModel s) (model-faults Digit (lit< tt) s (lit< tt) (lit< tt) (lit< tt))))
     (λ u. rw (t, modelFile, u, modelFrom) (omega arith, omega arith)))
     (λ t. rw (t, modelFile) (omega arith, omega arith))
 
@@ -147,7 +153,7 @@ module _ (m : eos.Model) (nets : length (m .nets) ≤ 8) (events : length (m .ev
   turned-small w z none h = (omega arith, omega arith)
   turned-small w z (some c) h = h
 
-  weighed-small : (μ : eos.Marking) (s : Text) → length s ≤ fileLongest → (o : Outcome Weights) → Digit o → Small (weightPair (weighed coverLimit m μ s o .answer))
+  weighed-small : (μ : eos.Marking) (s : Text) → length s ≤ fileLongest → (o : Outcome Weights) → Faults Digit o → Small (weightPair (weighed coverLimit m μ s o .answer))
   unfolding weighed judgedWeights
   weighed-small μ s few (got w x) d = turned-small w (weigh m w μ) (weightRefusal m w) (cause-small w)
   weighed-small μ s few (bad e) d = spot-small s few e d
@@ -157,7 +163,7 @@ module _ (m : Model) (nets : length (modelOf m .nets) ≤ 8) where
     tested-small : (b : Bool) (s : Text) → length s ≤ fileLongest → Small (weightPair (weightsOr b m k s 0 .answer))
     unfolding weightsOr
     tested-small true s few =
-        weighed-small (modelOf m) nets events (tokensOf (sizesFor m) k) s few (readWeightFile (modelOf m) s) (file-digit s (modelOf m) 0)
+        weighed-small (modelOf m) nets events (tokensOf (sizesFor m) k) s few (readWeightFile (modelOf m) s) (weight-file-faults Digit (lit< tt) s (lit< tt) (modelOf m))
     tested-small false s few = (omega arith, omega arith)
 
     pub weights-small : (s : Text) → Small (weightPair (weightsFile m k s .answer))
@@ -208,7 +214,7 @@ module _ (m : Model) (nets : length (modelOf m .nets) ≤ 8) where
   judged-small t μ next none h = tt
   judged-small t μ next (some c) h = h
 
-  read-small : (z : Sizes) (μ : eos.Marking) (s : Text) → length s ≤ fileLongest → (o : Outcome Step) → readStep bounds z (length (d .events)) s 0 ≡ o → Digit o
+  read-small : (z : Sizes) (μ : eos.Marking) (s : Text) → length s ≤ fileLongest → (o : Outcome Step) → readStep bounds z (length (d .events)) s 0 ≡ o → Faults Digit o
       → Stops (readThen roomLimit d μ s o)
   unfolding readThen
   read-small z μ s few (got t next) e h =
@@ -217,7 +223,7 @@ module _ (m : Model) (nets : length (modelOf m .nets) ≤ 8) where
 
   tried-small : (z : Sizes) (μ : eos.Marking) (s : Text) → length s ≤ fileLongest → Stops (tried roomLimit d z μ s)
   unfolding tried
-  tried-small z μ s few = read-small z μ s few (readStep bounds z (length (d .events)) s 0) refl (step-digit bounds z s (length (d .events)) 0)
+  tried-small z μ s few = read-small z μ s few (readStep bounds z (length (d .events)) s 0) refl (step-faults Digit (lit< tt) (lit< tt) bounds z (length (d .events)) s 0)
 
   abbrev Ends : ℕ → Ran → Type 0
   Ends most r = Small (stopPair (r .stop)) × (r .fired ≤ most)
@@ -240,7 +246,7 @@ module _ (m : Model) (nets : length (modelOf m .nets) ≤ 8) where
       (λ used μ. ends-as (n + 1 + f) (n + suc f) (runFrom f m (holdMarking μ) (drop used s) (n + 1) (p + used)) (omega arith)
       (from-small f (holdMarking μ) (drop used s) (n + 1) (p + used) (omega (arith, length-drop used s))))
 
-  headed-small : (k : Marking) (s : Text) → length s ≤ fileLongest → (o : Outcome (Unit {0})) → Digit o → Ends fileLongest (headed m k s o)
+  headed-small : (k : Marking) (s : Text) → length s ≤ fileLongest → (o : Outcome (Unit {0})) → Faults Digit o → Ends fileLongest (headed m k s o)
   unfolding headed
   headed-small k s few (got v next) h =
       ends-as (0 + length s) fileLongest (runFrom (length s) m k (drop next s) 0 next) (omega arith) (from-small (length s) k (drop next s) 0 next (omega (arith, length-drop next s)))
@@ -248,7 +254,7 @@ module _ (m : Model) (nets : length (modelOf m .nets) ≤ 8) where
 
   run-small : (b : Bool) (k : Marking) (s : Text) → length s ≤ fileLongest → Ends fileLongest (runWhereHeld b m k s)
   unfolding runWhereHeld
-  run-small true k s few = headed-small k s few (readHead (bytes "run=1\n") s 0) (head-digit (bytes "run=1\n") s 0)
+  run-small true k s few = headed-small k s few (readHead (bytes "run=1\n") s 0) (head-faults Digit (lit< tt) (bytes "run=1\n") s 0)
   run-small false k s few = ((omega arith, omega arith), omega arith)
 
   pub trace-small : (k : Marking) (s : Text) → Ends fileLongest (traceFile m k s)

@@ -2,6 +2,6 @@ pub mod ThreeFiles
 pub mod ListingLines
 pub mod ListingLaid
 pub mod StageLaws
-pub mod FaultSizes
+pub mod FileFaults
 pub mod AnswerSizes
 pub mod ListingFits

@@ -20,7 +20,7 @@ abbrev pub indexOf : Act → ℕ
 indexOf (move k) = suc k
 indexOf (idle p) = suc p
 
--- what a kind and an index stand for
+-- the act that a kind and an index stand for; those of no act stand for one too, and `heldAct` refuses them
 abbrev pub actOf : ℕ → ℕ → Act
 actOf zero i = move (pred i)
 actOf (suc zero) i = move (pred i)

@@ -11,6 +11,7 @@ use Rattle.text.specs.Answers.{endedOf, keptOr, padded}
 use Rattle.text.specs.declared.Fault.{Fault}
 use Rattle.text.specs.declared.Ended.{Ended}
 use Rattle.text.specs.declared.Ended.the-variants.{Past, Stopped}
+use Rattle.text.proofs.Exactly.{then-then}
 use Rattle.text.proofs.Loops.{Got, got-of, bad-of}
 use Rattle.eos.specs.Model as eos
 use Rattle.model.specs.Rules as rules
@@ -29,11 +30,6 @@ use Rattle.model_text.proofs.PartLaws.{Sound, outline-sound, Bounded, s
 use Rattle.model_text.proofs.FrameLaws.{step-few, steps-nth, fine-is, frame-is}
 
 -- ---- the three parts in a row are the lines of a model
-
-then-then : {A B C : Type 0} (o : Outcome A) (f : A → ℕ → Outcome B) (g : B → ℕ → Outcome C) → then (then o f) g ≡ then o (λ a x. then (f a x) g)
-unfolding then
-then-then (got a x) f g = refl
-then-then (bad e) f g = refl
 
 then-of : {A B : Type 0} (a : A) (x : ℕ) (f : A → ℕ → Outcome B) → then (got a x) f ≡ f a x
 unfolding then

@@ -40,7 +40,7 @@ use Rattle.keeper.proofs.CheckLaws.{from-long, from-unheld, from-bad, from-got}
 use Rattle.promises.specs.WholeRun.{racks}
 use Rattle.promises.specs.Numbers.{Among, modelNumbers, markingNumbers, weightNumbers, stepNumbers, Lent, Numbered, untested, stepTests, weightTests}
 use Rattle.promises.proofs.NumberLaws.{Goes, Caused, numbered}
-use Rattle.promises.proofs.FileFaults.{marking-faults, weight-file-faults, model-faults}
+use Rattle.listing.proofs.FileFaults.{marking-faults, weight-file-faults, model-faults}
 use Rattle.promises.proofs.TestNumbers.{step-first, step-right, weight-first, weight-right}
 
 -- ---- lists of numbers

@@ -5,7 +5,6 @@ pub mod WholeRunLaws
 pub mod GivenCalls
 pub mod ReadBackLaws
 pub mod NumberLaws
-pub mod FileFaults
 pub mod TestNumbers
 pub mod CallNumbers
 pub mod RunNumbers

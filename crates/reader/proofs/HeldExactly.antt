@@ -118,7 +118,7 @@ length-sum : (μ : eos.Marking) → length μ ≡ sumOf _+_ 0 (λ t. 1) μ
 length-sum [] = refl
 length-sum (t ∷ μ) = omega (arith, length-sum μ)
 
-length-canonical : (μ : eos.Marking) → length (eos.canonical μ) ≡ length μ
+pub length-canonical : (μ : eos.Marking) → length (eos.canonical μ) ≡ length μ
 length-canonical μ = length-sum (eos.canonical μ) ∙ sum-sort eos.before tokenOrder _+_ 0 ℕ+ (λ t. 1) μ ∙ sym (length-sum μ)
 
 -- right net-tokens, put in canonical order, can be held

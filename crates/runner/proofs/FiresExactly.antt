@@ -32,7 +32,7 @@ use Rattle.runner.specs.Answers.{fires, stepJudged, readThen, tried, ste
 use Rattle.runner.proofs.StepAnswers.{reading, tried-reads, held-reads, step-held}
 
 -- a step that the text brings and that fires (000, Definition 3), with room for the net-tokens after it. By `step-exactly` of crate
--- steps, `read` says that the text begins with the printed lines of the step, right in key, syntax, list length and range, and that
+-- `step`, `read` says that the text begins with the printed lines of the step, right in key, syntax, list length and range, and that
 -- they end at `next`
 pub record Brings (m : Model) (k : Marking) (s : Text) (next : ℕ) : Type 0 where
   pub step : Step

@@ -30,10 +30,11 @@ use Rattle.marking.proofs.SizeLaws.{held-roomy}
 use Rattle.reader.specs.Reading.{bounds}
 use Rattle.reader.specs.Answers.{heldIn}
 use Rattle.reader.proofs.GivenLaws.{Given, given-held, given-model, given-marking, tokens-given}
+use Rattle.reader.proofs.HeldExactly.{length-canonical}
 use Rattle.step.specs.Verdict.{hasRoom}
 use Rattle.runner.specs.Answers.{heldStep, stepping}
 use Rattle.runner.proofs.StandsLaws.{after-every}
-use Rattle.runner.proofs.RuledLaws.{RightStep, length-canonical}
+use Rattle.runner.proofs.RuledLaws.{RightStep}
 use Rattle.runner.proofs.LeavesLaws.{step-hands-on, call-hands-on}
 
 module _ (m : Model) (k : Marking) (given : Given m k) where

@@ -29,11 +29,12 @@ use Rattle.reader.specs.Reading.{bounds}
 use Rattle.marking.specs.Sizes.{sizesFor}
 use Rattle.reader.specs.Answers.{heldBoth, heldIn}
 use Rattle.reader.proofs.ReadingLaws.{both-model}
+use Rattle.reader.proofs.HeldExactly.{length-canonical}
 use Rattle.marking.proofs.SizeLaws.{held-roomy}
 use Rattle.step.specs.Verdict.{hasRoom}
 use Rattle.runner.specs.Answers.{heldStep}
 use Rattle.runner.proofs.StandsLaws.{Stands, any-range, after-every}
-use Rattle.runner.proofs.RuledLaws.{RightStep, length-canonical}
+use Rattle.runner.proofs.RuledLaws.{RightStep}
 use Rattle.runner.proofs.StepAnswers.{both-stands}
 use Rattle.runner.proofs.LeavesLaws.{step-hands-on}
 

@@ -1,4 +1,3 @@
-pub mod MarkingRoom
 pub mod StandsLaws
 pub mod ReadLaws
 pub mod RuledLaws

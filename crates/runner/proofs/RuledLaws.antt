@@ -1,7 +1,7 @@
 -- A step that was read is judged on its rows, and changes those of the marking, as the theory says of its net-tokens.
 use Prim.Native.Nat.{ℕ, _+_, _-_, _≤_, _<_}
-use mathlib.Core.Path.{_≡_, refl, ap, sym, subst, _∙_}
-use mathlib.Core.List.{List, [], _∷_, _++_, map}
+use mathlib.Core.Path.{_≡_, refl, ap, subst, _∙_}
+use mathlib.Core.List.{List, _++_, map}
 use mathlib.Core.Bool.{true}
 use mathlib.Core.Option.{Option, none, some}
 use native.Mathlib.Omega.{arith}
@@ -16,9 +16,8 @@ use Rattle.eos.specs.Multiset as M
 use Rattle.eos.specs.Model as eos
 use Rattle.eos.specs.Firing.{Step, StepOf, after}
 use Rattle.eos.specs.Causes.{Cause, first, refusal}
-use Rattle.eos.proofs.MultisetLaws.{sumOf, ℕ+, length-less}
-use Rattle.eos.proofs.OrderLaws.{sum-sort}
-use Rattle.eos.proofs.FiringLaws.{alike, tokenOrder, fires-yes}
+use Rattle.eos.proofs.MultisetLaws.{length-less}
+use Rattle.eos.proofs.FiringLaws.{alike, fires-yes}
 use Rattle.eos.proofs.CauseLaws.{no-cause-fires}
 use Rattle.marking.specs.Rows.{Row, rowsIn, laid}
 use Rattle.model.specs.Rules.{rightModel}
@@ -34,6 +33,7 @@ use Rattle.marking.specs.Reading.{Limits, free, rightNetToken, rightBlock}
 use Rattle.marking.specs.declared.Marking.{Marking}
 use Rattle.marking.proofs.HoldMarking.{all-right}
 use Rattle.reader.specs.Reading.{bounds}
+use Rattle.reader.proofs.HeldExactly.{length-canonical}
 use Rattle.marking.specs.Sizes.{sizesFor}
 use Rattle.marking.proofs.SizeLaws.{held-roomy, sizes-same}
 use Rattle.step.specs.Rule.{Rule, holdRule}
@@ -75,13 +75,6 @@ read-right z events s t next e =
     }
 
 -- ---- how many net-tokens there are
-
-length-sum : (μ : eos.Marking) → length μ ≡ sumOf _+_ 0 (λ t. 1) μ
-length-sum [] = refl
-length-sum (t ∷ μ) = omega (arith, length-sum μ)
-
-pub length-canonical : (μ : eos.Marking) → length (eos.canonical μ) ≡ length μ
-length-canonical μ = length-sum (eos.canonical μ) ∙ sum-sort eos.before tokenOrder _+_ 0 ℕ+ (λ t. 1) μ ∙ sym (length-sum μ)
 
 -- after a step whose net-tokens are in the marking
 pub after-long : (t : Step) (μ : eos.Marking) → M.Within eos.like (t .taken) μ

@@ -19,7 +19,7 @@ use Rattle.marking.specs.Sizes.{sizesIn}
 use Rattle.reader.specs.Answers.{heldBoth}
 use Rattle.runner.specs.Answers.{heldStep, stepping}
 use Rattle.reader.proofs.ReadingLaws.{both-model}
-use Rattle.runner.proofs.MarkingRoom.{rows-room}
+use Rattle.marking.proofs.SizedLaws.{marking-sized}
 use Rattle.runner.proofs.StepAnswers.{step-long, step-unheld, step-held}
 
 abbrev start : tie.After-left → tie.Start
@@ -83,7 +83,7 @@ step-on-requires c κs =
       ap (λ (x : Model). heldBoth x (s .args .k)) e ∙ passed p,
       z .sizes .ensures ∙ ap sizesIn (sym e),
       p .before .before .if1 .left,
-      rows-room (s .args .k) _ (s .good .1 .0),
+      marking-sized (s .args .k) _ (s .good .1 .0) .long,
     )
 
 returns-3 : tie.Need-returns-3

@@ -7,6 +7,7 @@ use Rattle.text.specs.Lines.{readHead, readWeights, modest}
 use Rattle.text.specs.Repeat.{manyAt}
 use Rattle.text.proofs.FaultLaws.{Faults, then-faults, need-faults, manyAt-faults, head-faults, weights-faults}
 use Rattle.eos.specs.Model as eos
+use Rattle.model.specs.Limits.{weightLimit}
 use Rattle.model_text.specs.Reading.{readPlant}
 use Rattle.model_text.proofs.PlantFaults.{plant-faults}
 use Rattle.marking.specs.Held.{Sizes, sizesOf}
@@ -26,14 +27,14 @@ module _ (P : ℕ → Type 0) (two : P 2) (s : Text) where
 
     inner-faults : (m : eos.Model) (n at : ℕ) → Faults P (readInner m s n at)
     unfolding readInner
-    inner-faults m n at = weights-faults P two three (bytes "inner=") (eos.net m n .size) (modest 1000) s at
+    inner-faults m n at = weights-faults P two three (bytes "inner=") (eos.net m n .size) (modest weightLimit) s at
 
     pub weight-file-faults : (m : eos.Model) → Faults P (readWeightFile m s)
     unfolding readWeightsAt
     weight-file-faults m =
         then-faults P (readHead (bytes "inv=1\n") s 0) _ (head-faults P two (bytes "inv=1\n") s 0)
         (λ _ x₁.
-        then-faults P (readWeights (bytes "outer=") (eos.places m) (modest 1000) s x₁) _ (weights-faults P two three (bytes "outer=") (eos.places m) (modest 1000) s x₁)
+        then-faults P (readWeights (bytes "outer=") (eos.places m) (modest weightLimit) s x₁) _ (weights-faults P two three (bytes "outer=") (eos.places m) (modest weightLimit) s x₁)
         (λ o x₂.
         then-faults P (manyAt (readInner m s) 0 (length (m .nets)) x₂) _ (manyAt-faults P (readInner m s) (inner-faults m) 0 (length (m .nets)) x₂)
         (λ i x₃. end-faults (record { outward = o; inward = i }) x₃)))
