@@ -29,7 +29,7 @@ use Rattle.weigh.specs.Sums.{total, product}
 use Rattle.weigh.proofs.TotalLaws.{total-same}
 use Rattle.keeper.proofs.SplitLaws.{dotN, dotsN}
 use Rattle.keeper.proofs.DotLaws.{dotN-⊕, dotN-zeros, dotN-unit, dotsN-total, dotN-inner, dotN-row, row-nth}
-use Rattle.keeper.proofs.WeightFileLines.{net-is}
+use Rattle.keeper.proofs.ShapeLaws.{net-is}
 use Rattle.keeper.proofs.HeldRows.{Kept, event-test, few-nets, few-places, outer-long, inner-long, net-long, net-small, outer-at, inner-at}
 
 -- ---- the nets' part of an event
@@ -81,7 +81,7 @@ module _ (m : Model) (w : Weights) (kept : Kept m w) (k : ℕ) (listed : k < m .
         → side (getD (eos.net (modelOf m) n .transitions) t eos.noTransition) ≡ rowIn (net n .places) (nets n) t
     unfolding netOf
     transition-is n t p q =
-        ap (λ (o : eos.ObjectNet). side (getD (o .transitions) t eos.noTransition)) (net-is m [] n p)
+        ap (λ (o : eos.ObjectNet). side (getD (o .transitions) t eos.noTransition)) (net-is m n p)
         ∙ ap side (listed-at (sidesIn (net n .places) (net n .pre) (net n .post)) (net n .transitions) t eos.noTransition q) ∙ net-side n t
 
     module _ (f : ℤ → ℕ) where

@@ -19,7 +19,7 @@ use Rattle.model.proofs.TableLaws.{row-at, tabled-row}
 use Rattle.model.proofs.HeldTests.{held-is, most-nets, most-places, most-events, events-at, EventIn, event-in}
 use Rattle.marking.proofs.SizeLaws.{nets-small}
 use Rattle.keeper.specs.Held.{weightLists}
-use Rattle.keeper.proofs.WeightFileLines.{nets-long, places-long, net-is}
+use Rattle.keeper.proofs.ShapeLaws.{nets-long, places-long, net-is}
 
 -- ---- a table of rows
 
@@ -48,14 +48,14 @@ module _ (m : Model) (w : Weights) (k : Kept m w) where
   few-places = most-places m (held-is m (k .held))
 
   pub outer-long : length (w .outward) ≡ m .places
-  outer-long = k .shaped .outward ∙ places-long m [] (k .types) few-places
+  outer-long = k .shaped .outward ∙ places-long m (k .types) few-places
 
   pub inner-long : length (w .inward) ≡ m .nets
-  inner-long = k .shaped .inward ∙ nets-long m []
+  inner-long = k .shaped .inward ∙ nets-long m
 
   pub net-long : (n : ℕ) → n < m .nets → length (getD (w .inward) n []) ≡ getD (m .objects) n noNet .places
   unfolding netOf
-  net-long n h = k .shaped .each n ∙ ap (λ (o : eos.ObjectNet). o .size) (net-is m [] n h)
+  net-long n h = k .shaped .each n ∙ ap (λ (o : eos.ObjectNet). o .size) (net-is m n h)
 
   pub net-small : (n : ℕ) → getD (m .objects) n noNet .places ≤ 32
   net-small n = nets-small m (k .held) (k .objects) n

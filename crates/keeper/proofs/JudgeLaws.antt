@@ -31,7 +31,7 @@ use Rattle.keeper.specs.declared.WeightAnswer.the-variants.{Passed, Turn
 use Rattle.keeper.specs.declared.Sum.{Sum}
 use Rattle.keeper.specs.declared.WeightCheck.{WeightCheck}
 use Rattle.keeper.proofs.SplitLaws.{sub-above, sub-below, sub-abs}
-use Rattle.keeper.proofs.WeightFileLines.{nets-long}
+use Rattle.keeper.proofs.ShapeLaws.{nets-long}
 use Rattle.keeper.proofs.HeldRows.{Kept}
 use Rattle.keeper.proofs.MarkingLaws.{few-tokens, place-in}
 use Rattle.keeper.proofs.WeighLaws.{weigh-is}
@@ -115,7 +115,7 @@ module _ (most : ℕ) (m : Model) (w : Weights) (μ : eos.Marking) where
   unfolding judgedWeights turnedOr weightRefusal first unless
   turned-zero h =
       let e : m .nets + 2 ≡ 2 + m .nets = omega arith in
-      rw (h, nets-long m [], e)
+      rw (h, nets-long m, e)
 
   module _ (some-weight : allZero w ≡ false) where
     pub turned-event : (r : ℕ) → r ≡ numbered first-unbalanced → (r ≡ 0 → ⊥) → refusedWeights (Turned 7 r) ≡ judgedWeights most (modelOf m) μ w

@@ -1,6 +1,7 @@
 pub mod Differences
 pub mod SplitLaws
 pub mod DotLaws
+pub mod ShapeLaws
 pub mod WeightFileLines
 pub mod ChainLaws
 pub mod CoverLaws

@@ -1,7 +1,12 @@
--- What the weight check answers, as the walks over the reader of a file take it.
-use Rattle.text_reader.proofs.ReaderWalks.{Passed, struct}
-use Rattle.keeper.proofs.WeightCheck as C
-use Rattle.keeper.proofs.WeightCheck.Laws as C′
+-- How many weights the lines of a weight file have, and what they answer, as the walks over the reader of a file take it.
+use Rattle.text_reader.proofs.Copied.{Plain, struct}
+use Rattle.keeper.proofs.WeightShape as S
+use Rattle.keeper.proofs.WeightShape.Laws as S′
+use Rattle.keeper.proofs.WeightLines as L
+use Rattle.keeper.proofs.WeightLines.Laws as L′
 
-abbrev pub check : Passed
-check = struct C.the-type C′.the-laws C′.the-copy
+abbrev pub shape : Plain
+shape = struct S.the-type S′.the-laws S′.the-copy
+
+abbrev pub lines : Plain
+lines = struct L.the-type L′.the-laws L′.the-copy

@@ -35,7 +35,7 @@ use Rattle.reader.specs.Reading.{bounds}
 use Rattle.reader.specs.Answers.{heldBoth, heldIn}
 use Rattle.reader.proofs.GivenLaws.{Given, given-model, given-marking}
 use Rattle.keeper.specs.Reading.{readWeightFile, rightInner, rightWeights}
-use Rattle.keeper.specs.Answers.{sumOf, passedWeights, turnedOr, judgedWeights, weighed, weightsOr, weightsFrom, weightChecking}
+use Rattle.keeper.specs.Answers.{sumOf, passedWeights, turnedOr, judgedWeights, weighed, weightsOr, weightChecking}
 use Rattle.keeper.specs.declared.Sum.{Sum}
 use Rattle.keeper.proofs.SplitLaws.{dotN, dotsN, value-split, sub-above, sub-below}
 use Rattle.keeper.proofs.DotLaws.{dotN-none}
@@ -217,18 +217,18 @@ module _ (m : Model) (k : Marking) (sized : SizedModel m) (small : SizedMarking 
       (weigh-within held w (weights-are-right (modelOf m) s 0 w x e))
   file-within held s (bad d) e = (omega arith, omega arith)
 
-  tested-within : (b : Bool) → heldBoth m k ≡ b → (s : Text) → Within (weightsOr b m k s 0 .sum)
+  tested-within : (b : Bool) → heldBoth m k ≡ b → (s : Text) → Within (weightsOr b m k s .sum)
   unfolding weightsOr
   tested-within true h s = file-within h s (readWeightFile (modelOf m) s) refl
   tested-within false h s = (omega arith, omega arith)
 
   -- whatever the check answers
   pub sum-within : (s : Text) → Within (weightChecking m k s .sum)
-  unfolding weightsFrom
+  unfolding weightChecking
   sum-within s =
       by-test (leb (length s) longest)
-      (λ t. rw (t, weightsFrom) (tested-within (heldBoth m k) refl s))
-      (λ t. rw (t, weightsFrom) (omega arith, omega arith))
+      (λ t. rw (t, weightChecking) (tested-within (heldBoth m k) refl s))
+      (λ t. rw (t, weightChecking) (omega arith, omega arith))
 
 -- of a model and a marking that some accepted reading gives
 pub given-sum-within : (m : Model) (k : Marking) → Given m k → (s : Text) → Within (weightChecking m k s .sum)

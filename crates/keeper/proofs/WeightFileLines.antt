@@ -1,13 +1,13 @@
--- Which case of a weight file's lines holds, by the answers of its parts; a turn of reading the weights of nets.
-use Prim.Native.Nat.{ℕ, zero, suc, _+_, _-_, _*_, _≤_, _<_}
-use mathlib.Core.Path.{_≡_, refl, ap, _∙_, fun-ext}
-use mathlib.Core.List.{List, [], _∷_, map}
+-- What is answered for the lines of a weight file, by the answers of its lines; a turn of reading the weights of nets.
+use Prim.Native.Nat.{ℕ, _+_, _-_, _*_, _<_}
+use mathlib.Core.Path.{_≡_, ap, _∙_}
+use mathlib.Core.List.{List, map}
 use native.Mathlib.Omega.{arith}
 use lib.IntN.{ℤ}
-use lib.ListN.{length, getD}
-use lib.Seq.{sets, length-take-le}
+use lib.ListN.{replicate}
+use lib.Seq.{sets}
 use Rattle.text.specs.Bytes.{Text, bytes}
-use Rattle.text.specs.Lines.{Outcome, got, bad, then, readWeights, modest}
+use Rattle.text.specs.Lines.{Outcome, got, bad, then, readHead, readWeights, modest}
 use Rattle.text.specs.Repeat.{manyAt, fill, filled}
 use Rattle.text.specs.Capped.{above, below}
 use Rattle.text.specs.Answers.{endedOf, keptOr, padded, weightRowOf}
@@ -15,20 +15,14 @@ use Rattle.text.specs.declared.Fault.{Fault}
 use Rattle.text.specs.declared.Ended.{Ended}
 use Rattle.text.specs.declared.Ended.the-variants.{Past, Stopped}
 use Rattle.text.specs.declared.WeightRow.{WeightRow}
-use Rattle.text.proofs.Loops.{Got, got-of, bad-of, turn-at, bad-at}
-use Rattle.eos.specs.Model as eos
-use Rattle.eos.specs.Weights.{Weights}
+use Rattle.text.proofs.Loops.{Got, got-of, bad-of, head-got, turn-at, bad-at}
 use Rattle.model.specs.Limits.{weightLimit}
-use Rattle.model.specs.Held.{noNet, putRow, netOf, modelOf}
-use Rattle.model.specs.declared.ObjectNet.{ObjectNet}
-use Rattle.model.specs.declared.Model.{Model}
-use Rattle.model.proofs.SlotLaws.{length-listed, listed-at}
+use Rattle.model.specs.Held.{tabled}
 use Rattle.model_text.proofs.LineAnswers.{filled-bad}
-use Rattle.keeper.specs.Reading.{readInner}
-use Rattle.keeper.specs.Held.{noWeights}
-use Rattle.keeper.specs.Parts.{linesOf, readNetWeights, putNext, innersOf}
+use Rattle.keeper.specs.Held.{holdWeights, noWeights}
+use Rattle.keeper.specs.Parts.{readOuter, outerOf, putNext, innersOf}
 use Rattle.keeper.specs.declared.HeldWeights.{HeldWeights}
-use Rattle.keeper.specs.declared.WeightLines.{WeightLines}
+use Rattle.keeper.specs.declared.WeightShape.{WeightShape}
 
 -- the parts of a net's weights, laid into the row of the net
 abbrev pub putAbove : ℕ → List ℤ → List ℕ → List ℕ
@@ -94,52 +88,38 @@ inners-read h (got l x) a b at p q =
     rw (ea, eb, ex)
 inners-read h (bad d) a b at p q = let z : _≡_ {A = ℕ} 0 1 = cc in absurd (omega arith)
 
--- a net's line, looked up with any net for those past the last
-pub net-line : (objects : List ObjectNet) (s : Text) (i at : ℕ) (d : ObjectNet) → getD objects i d ≡ getD objects i noNet → (r : WeightRow)
-    → r ≡ weightRowOf (readWeights (bytes "inner=") (getD objects i d .places) (modest weightLimit) s at) → r ≡ weightRowOf (readNetWeights objects s i at)
-unfolding readNetWeights
-net-line objects s i at d e r h = h ∙ ap (λ (o : ObjectNet). weightRowOf (readWeights (bytes "inner=") (o .places) (modest weightLimit) s at)) e
+-- ---- the outer weights
 
--- ---- a held model's lines
+-- they were read, and stand in their row
+outer-got : (o : Outcome (List ℤ)) (v : List ℤ) (next : ℕ) → o ≡ got v next → (e : Ended) → e ≡ Past next → (a b : List ℕ) → a ≡ padded (map above v)
+    → b ≡ padded (map below v) → (h : HeldWeights) → h ≡ record { above = sets (replicate 288 0) 0 a; below = sets (replicate 288 0) 0 b }
+    → record { ended = e; weights = h } ≡ outerOf o
+unfolding outerOf endedOf keptOr holdWeights tabled fill
+outer-got o v next is e p a b pa pb h laid = rw (is, p, laid, pa, pb)
 
--- as many are read by readings that are the same
-many-same : {A : Type 0} (f g : ℕ → ℕ → Outcome A) (n k at : ℕ) → ((i : ℕ) → i < k + n → f i ≡ g i) → manyAt f k n at ≡ manyAt g k n at
-unfolding manyAt
-many-same f g zero k at h = refl
-many-same f g (suc n) k at h =
-    ap (λ (o : ℕ → _). then (o at) λ a next. then (manyAt f (suc k) n next) λ l end. got (a ∷ l) end) (h k (omega arith))
-    ∙ ap (then (g k at)) (fun-ext (λ a. fun-ext (λ next. ap (λ (o : Outcome (List _)). then o λ l end. got (a ∷ l) end) (many-same f g n (suc k) next (λ i p. h i (omega arith))))))
+module _ (z : WeightShape) (s : Text) (at : ℕ) where
+  pub head-refused : (e : Ended) (d : Fault) → e ≡ Stopped d → e ≡ endedOf (readHead (bytes "inv=1\n") s at)
+      → record { ended = e; weights = noWeights } ≡ outerOf (readOuter z s at)
+  unfolding outerOf readOuter then endedOf keptOr
+  head-refused e d h k = rw (h, bad-of (readHead (bytes "inv=1\n") s at) e d k h)
 
-module _ (m : Model) (s : Text) where
-  pub nets-long : length (modelOf m .nets) ≡ m .nets
-  unfolding modelOf
-  nets-long = length-listed (λ i. netOf (getD (m .objects) i noNet)) 0 (m .nets)
+  module _ (x : ℕ) (head : Past x ≡ endedOf (readHead (bytes "inv=1\n") s at)) (r : WeightRow)
+      (line : r ≡ weightRowOf (readWeights (bytes "outer=") (z .places) (modest weightLimit) s x)) where
+    abbrev outer-line : Outcome (List ℤ)
+    outer-line = readWeights (bytes "outer=") (z .places) (modest weightLimit) s x
 
-  pub places-long : length (m .types) ≡ 32 → m .places ≤ 32 → eos.places (modelOf m) ≡ m .places
-  unfolding modelOf
-  places-long e h = length-take-le (m .places) (m .types) (omega arith)
+    outer-is : readOuter z s at ≡ outer-line
+    unfolding readOuter then
+    outer-is = rw (head-got _ x head)
 
-  pub net-is : (i : ℕ) → i < m .nets → eos.net (modelOf m) i ≡ netOf (getD (m .objects) i noNet)
-  unfolding modelOf
-  net-is i h = listed-at (λ i. netOf (getD (m .objects) i noNet)) (m .nets) i eos.noNet h
+    pub outer-refused : (d : Fault) → r .ended ≡ Stopped d → record { ended = r .ended; weights = noWeights } ≡ outerOf (readOuter z s at)
+    unfolding outerOf endedOf keptOr
+    outer-refused d e = rw (outer-is, e, row-bad outer-line r line d e)
 
-  inner-is : (i : ℕ) → i < m .nets → readNetWeights (m .objects) s i ≡ readInner (modelOf m) s i
-  unfolding readNetWeights readInner netOf
-  inner-is i h = fun-ext (λ at. rw (net-is i h))
-
-  pub inners-are : (at : ℕ) → manyAt (readNetWeights (m .objects) s) 0 (m .nets) at ≡ manyAt (readInner (modelOf m) s) 0 (length (modelOf m .nets)) at
-  inners-are at = many-same (readNetWeights (m .objects) s) (readInner (modelOf m) s) (m .nets) 0 at (λ i p. inner-is i (omega arith)) ∙ rw nets-long
-
--- what is answered for a refusal
-pub lines-bad : (o : Outcome Weights) (e : Ended) (d : Fault) → e ≡ Stopped d → o ≡ bad d → (r : WeightLines) → r ≡ record { ended = e; weights = noWeights }
-    → r ≡ linesOf o
-unfolding linesOf endedOf keptOr
-lines-bad o e d p q r h = rw (h, p, q)
-
--- rows behind the first one
-pub rows-behind : (f : List ℤ → List ℕ) (l : List (List ℤ)) (i : ℕ) (t : List ℕ) → fill (putRow f) (suc i) l t ≡ fill (putNext f) i l t
-unfolding fill
-rows-behind f [] i t = refl
-rows-behind f (a ∷ l) i t =
-    let e : suc i * 32 ≡ i * 32 + 32 = omega arith in
-    rows-behind f l (suc i) (sets t (suc i * 32) (padded (f a))) ∙ rw e
+    pub outer-read : (next : ℕ) → r .ended ≡ Past next → (h : HeldWeights)
+        → h ≡ record { above = sets (replicate 288 0) 0 (r .above); below = sets (replicate 288 0) 0 (r .below) }
+        → record { ended = r .ended; weights = h } ≡ outerOf (readOuter z s at)
+    outer-read next e =
+        let g = row-got outer-line r line next e in
+        outer-got (readOuter z s at) (g .value) next (outer-is ∙ g .is) (r .ended) e (r .above) (r .below)
+        (row-above outer-line r line (g .value) next (g .is)) (row-below outer-line r line (g .value) next (g .is))

@@ -28,12 +28,12 @@ use Rattle.marking.specs.declared.Marking.{Marking}
 use Rattle.reader.specs.Answers.{heldBoth}
 use Rattle.marking.specs.Sizes.{sizesFor}
 use Rattle.keeper.specs.Reading.{readWeightFile}
-use Rattle.keeper.specs.Answers.{sumOf, refusedWeights, passedWeights, turnedOr, judgedWeights, weighed, weightsOr, weightChecking, weightsFrom}
+use Rattle.keeper.specs.Answers.{sumOf, refusedWeights, passedWeights, turnedOr, judgedWeights, weighed, weightsOr, weightChecking}
 use Rattle.keeper.specs.Covering.{Covering}
 use Rattle.keeper.specs.declared.WeightAnswer.the-variants.{Passed, TooLong}
 use Rattle.keeper.specs.declared.WeightCheck.{WeightCheck}
 use Rattle.keeper.proofs.CoverLaws.{positive-above}
-use Rattle.keeper.proofs.CheckLaws.{from-got, from-bad}
+use Rattle.keeper.proofs.CheckLaws.{check-got, check-bad}
 
 -- ---- cover, part by part
 
@@ -90,20 +90,20 @@ unfolding weighed judgedWeights
 weighed-nothing most m μ s (got w x) h = judged-nothing most (2 + length (m .nets)) (weightRefusal m w) w (weigh m w μ) h
 weighed-nothing most m μ s (bad e) h = (refl, refl)
 
-held-nothing : (t : Bool) (m : Model) (k : Marking) (s : Text) → (weightsOr t m k s 0 .answer ≡ Passed → ⊥) → Nothing (weightsOr t m k s 0)
+held-nothing : (t : Bool) (m : Model) (k : Marking) (s : Text) → (weightsOr t m k s .answer ≡ Passed → ⊥) → Nothing (weightsOr t m k s)
 unfolding weightsOr
 held-nothing true m k s h = weighed-nothing coverLimit (modelOf m) (tokensOf (sizesFor m) k) s (readWeightFile (modelOf m) s) h
 held-nothing false m k s h = (refl, refl)
 
 -- an answer other than `Passed` has sum 0 and cover 0, whatever is lent
 pub refused-nothing : (m : Model) (k : Marking) (s : Text) → (weightChecking m k s .answer ≡ Passed → ⊥) → Nothing (weightChecking m k s)
-unfolding weightsFrom
+unfolding weightChecking
 refused-nothing m k s h =
     by-test (leb (length s) longest)
     (λ t.
-    let e : weightChecking m k s ≡ weightsOr (heldBoth m k) m k s 0 = rw (t, weightsFrom) in
+    let e : weightChecking m k s ≡ weightsOr (heldBoth m k) m k s = rw (t, weightChecking) in
     rw e (held-nothing (heldBoth m k) m k s (λ p. h (ap (λ (c : WeightCheck). c .answer) e ∙ p))))
-    (λ t. let e : weightChecking m k s ≡ refusedWeights TooLong = rw (t, weightsFrom) in rw e (refl, refl))
+    (λ t. let e : weightChecking m k s ≡ refusedWeights TooLong = rw (t, weightChecking) in rw e (refl, refl))
 
 -- ---- weights that pass
 
@@ -122,7 +122,7 @@ module _ (m : Model) (k : Marking) (s : Text) (held : heldBoth m k ≡ true) (fe
   -- weights that pass are answered with their sum and cover
   passes : (w : Weights) (x : ℕ) → file ≡ got w x → Passing (modelOf m) w → weightChecking m k s ≡ passedWeights coverLimit w (sum w)
   unfolding judgedWeights turnedOr
-  passes w x e p = from-got m k s 0 few held w x e ∙ rw (passes-no-cause (modelOf m) w p)
+  passes w x e p = check-got m k s few held w x e ∙ rw (passes-no-cause (modelOf m) w p)
 
   abbrev Found : Type 0
   Found = (w : Weights) × (x : ℕ) × (file ≡ got w x) × Passing (modelOf m) w
@@ -130,10 +130,10 @@ module _ (m : Model) (k : Marking) (s : Text) (held : heldBoth m k ≡ true) (fe
   found : (o : Outcome Weights) → file ≡ o → weightChecking m k s .answer ≡ Passed → Found
   unfolding judgedWeights
   found (got w x) e h =
-      let c = ap (λ (c : WeightCheck). c .answer) (from-got m k s 0 few held w x e) in
+      let c = ap (λ (c : WeightCheck). c .answer) (check-got m k s few held w x e) in
       (w, x, e, no-cause-passes (modelOf m) w (turned-passed coverLimit (2 + length (modelOf m .nets)) (weightRefusal (modelOf m) w) w (sum w) (sym c ∙ h)))
   found (bad d) e h =
-      let c : weightChecking m k s .answer ≡ _ = ap (λ (c : WeightCheck). c .answer) (from-bad m k s 0 few held d e) in
+      let c : weightChecking m k s .answer ≡ _ = ap (λ (c : WeightCheck). c .answer) (check-bad m k s few held d e) in
       let y : _≡_ {A = ℕ} 0 1 = cc in
       absurd (omega arith)
 

@@ -31,7 +31,7 @@ use Rattle.marking.specs.declared.Marking.{Marking}
 use Rattle.reader.specs.Answers.{heldBoth}
 use Rattle.reader.proofs.TextRefused.{EndFaults, end-refuses}
 use Rattle.keeper.specs.Reading.{readInner, readWeightsAt, rightInner}
-use Rattle.keeper.specs.Answers.{passedWeights, turnedOr, judgedWeights, weighed, weightsOr, weightsFrom, weightChecking}
+use Rattle.keeper.specs.Answers.{passedWeights, turnedOr, judgedWeights, weighed, weightsOr, weightChecking}
 use Rattle.keeper.specs.declared.WeightAnswer.the-variants.{TooLong, NotHeld, Faulty}
 use Rattle.keeper.proofs.WeightsReadBack.{inner-exactly}
 
@@ -91,18 +91,18 @@ weighed-names most m μ s (bad e) p h = (e, refl, faulty-is h)
 pub weights-answers : (m : Model) (k : Marking) (s : Text) (p : Spot)
     → (weightChecking m k s .answer ≡ Faulty p)
     ↔ ((length s ≤ longest) × (heldBoth m k ≡ true) × ((e : Fault) × WeightFileFaults (modelOf m) s 0 e × (p ≡ spotOf s e)))
-unfolding weightsFrom weightsOr weighed
+unfolding weightChecking weightsOr weighed
 weights-answers m k s p = (
   λ h.
       by-test (leb (length s) longest)
       (λ l.
       by-test (heldBoth m k)
       (λ t.
-      let n = weighed-names coverLimit (modelOf m) (tokensOf (sizesFor m) k) s (readWeightsAt (modelOf m) s 0) p (rw (l, weightsFrom, t, weightsOr) at h) in
+      let n = weighed-names coverLimit (modelOf m) (tokensOf (sizesFor m) k) s (readWeightsAt (modelOf m) s 0) p (rw (l, weightChecking, t, weightsOr) at h) in
       (leb-true (length s) longest l, t, (n .0, weightFile-refuses (modelOf m) s .back 0 (n .0) (n .1), n .2)))
-      (λ t. absurd (unheld≢faulty (rw (l, weightsFrom, t, weightsOr) at h))))
-      (λ l. absurd (long≢faulty (rw (l, weightsFrom) at h))),
+      (λ t. absurd (unheld≢faulty (rw (l, weightChecking, t, weightsOr) at h))))
+      (λ l. absurd (long≢faulty (rw (l, weightChecking) at h))),
   λ h.
       let e = h .2 in
-      rw (le-leb (length s) longest (h .0), weightsFrom, h .1, weightsOr, weightFile-refuses (modelOf m) s .forth 0 (e .0) (e .1), e .2),
+      rw (le-leb (length s) longest (h .0), weightChecking, h .1, weightsOr, weightFile-refuses (modelOf m) s .forth 0 (e .0) (e .1), e .2),
 )

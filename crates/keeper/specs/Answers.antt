@@ -19,7 +19,7 @@ use Rattle.marking.specs.Held.{tokensOf}
 use Rattle.marking.specs.declared.Marking.{Marking}
 use Rattle.reader.specs.Answers.{pair, heldBoth}
 use Rattle.marking.specs.Sizes.{sizesFor}
-use Rattle.keeper.specs.Reading.{readWeightsAt}
+use Rattle.keeper.specs.Reading.{readWeightFile}
 use Rattle.keeper.specs.declared.WeightAnswer.{WeightAnswer}
 use Rattle.keeper.specs.declared.WeightAnswer.the-variants.{Passed, TooLong, NotHeld, Faulty, Turned}
 use Rattle.keeper.specs.declared.Sum.{Sum}
@@ -67,14 +67,10 @@ unfoldable pub weighed : ℕ → eos.Model → eos.Marking → Text → Outcome 
 weighed most m μ s (got w x) = judgedWeights most m μ w
 weighed most m μ s (bad e) = refusedWeights (faulty s e)
 
-unfoldable pub weightsOr : Bool → Model → Marking → Text → ℕ → WeightCheck
-weightsOr true m k s at = weighed coverLimit (modelOf m) (tokensOf (sizesFor m) k) s (readWeightsAt (modelOf m) s at)
-weightsOr false m k s at = refusedWeights NotHeld
+unfoldable pub weightsOr : Bool → Model → Marking → Text → WeightCheck
+weightsOr true m k s = weighed coverLimit (modelOf m) (tokensOf (sizesFor m) k) s (readWeightFile (modelOf m) s)
+weightsOr false m k s = refusedWeights NotHeld
 
--- checking a weight file for a held model and a held marking, its lines beginning at a position: 1, 14, then its lines, then 6 and 7
-unfoldable pub weightsFrom : Model → Marking → Text → ℕ → WeightCheck
-weightsFrom m k s at = elim (leb (length s) longest) [ true ↦ weightsOr (heldBoth m k) m k s at | false ↦ refusedWeights TooLong ]
-
--- checking a weight file
-abbrev pub weightChecking : Model → Marking → Text → WeightCheck
-weightChecking m k s = weightsFrom m k s 0
+-- checking a weight file for a held model and a held marking: 1, 14, then its lines, then 6 and 7
+unfoldable pub weightChecking : Model → Marking → Text → WeightCheck
+weightChecking m k s = elim (leb (length s) longest) [ true ↦ weightsOr (heldBoth m k) m k s | false ↦ refusedWeights TooLong ]

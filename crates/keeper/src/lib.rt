@@ -8,7 +8,7 @@ ghost use Rattle.model.specs.Test.{empty};
 ghost use Rattle.marking.specs.Held.{tokensOf};
 ghost use Rattle.reader.specs.Answers.{heldBoth};
 ghost use Rattle.marking.specs.Sizes.{sizesFor};
-ghost use Rattle.keeper.specs.Answers.{refusedWeights, passedWeights, faulty, judgedWeights, weightsFrom, weightChecking};
+ghost use Rattle.keeper.specs.Answers.{refusedWeights, passedWeights, faulty, judgedWeights, weightChecking};
 ghost use Rattle.keeper.specs.Parts.{Holds};
 use effects::unbalanced;
 use marking::Marking;
@@ -18,10 +18,10 @@ use reader::test_marking;
 use text::Ended;
 use text::Fault;
 use text::Spot;
-use text_reader::Reader;
 use text_scan::spot_of;
 use weigh_cover::covers;
 use weigh_marking::marking_weight;
+use weightfile::shape_of;
 use weightfile::weight_lines;
 
 mod effects;
@@ -32,6 +32,13 @@ mod weightfile;
 pub struct HeldWeights {
     pub above: [u16; 288],
     pub below: [u16; 288],
+}
+
+// How many weights the lines of a model's weight file have: for the places, and for those of each net.
+pub struct WeightShape {
+    pub places: usize,
+    pub nets: usize,
+    pub inner: [usize; 8],
 }
 
 // How the reading of a weight file ended, and the weights; a refusal holds none.
@@ -155,9 +162,9 @@ fn judged(most: u64, m: Model, k: Marking, h: HeldWeights) -> WeightCheck
     passed(most, m, k, h)
 }
 
-// Reads the weight file of a held model from `at` on, judges the weights, and weighs a held marking.
-fn weights_at(m: Model, k: Marking, s: &[u8], at: usize) -> WeightCheck
-    ensures { λ r. ⌜ r ≡ weightsFrom m k (now (s .entry)) at ⌝ }
+// Reads the weight file of a held model, judges the weights, and weighs a held marking.
+pub fn check_weights(m: Model, k: Marking, s: &[u8]) -> WeightCheck
+    ensures { λ r. ⌜ r ≡ weightChecking m k (now (s .entry)) ⌝ }
 {
     if Model::LONGEST < s.len() {
         return weights_refused(WeightAnswer::TooLong);
@@ -165,25 +172,11 @@ fn weights_at(m: Model, k: Marking, s: &[u8], at: usize) -> WeightCheck
     if !test_marking(m, k) {
         return weights_refused(WeightAnswer::NotHeld);
     }
-    let read = weight_lines(m, s, at);
+    let read = weight_lines(shape_of(m), s);
     let ended = read.ended;
     let weights = read.weights;
     let Ended::Stopped { fault } = ended else {
         return judged(Model::COVER as u64, m, k, weights);
     };
     weights_refused(fault_answer(s, fault))
-}
-
-// Reads the weight file of a held model from the place that the reader has reached, judges the weights, and weighs a held marking.
-fn weights_from<'a>(m: Model, k: Marking, r: Reader<'a>) -> WeightCheck
-    ensures { λ o. ⌜ o ≡ weightsFrom m k (now (r .entry .src)) (r .entry .at) ⌝ }
-{
-    weights_at(m, k, r.src, r.at)
-}
-
-// Reads the weight file of a held model, judges the weights, and weighs a held marking.
-pub fn check_weights(m: Model, k: Marking, s: &[u8]) -> WeightCheck
-    ensures { λ r. ⌜ r ≡ weightChecking m k (now (s .entry)) ⌝ }
-{
-    weights_from(m, k, Reader { src: s, at: 0 })
 }

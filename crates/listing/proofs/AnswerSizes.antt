@@ -25,7 +25,7 @@ use Rattle.marking.specs.Held.{Sizes, holdMarking, tokensOf}
 use Rattle.marking.specs.Sizes.{sizesFor}
 use Rattle.marking.specs.declared.Marking.{Marking}
 use Rattle.reader.specs.Reading.{bounds, Loaded, readModel}
-use Rattle.reader.specs.Answers.{readPair, loaded, heldBoth, modelFrom}
+use Rattle.reader.specs.Answers.{readPair, loaded, heldBoth, modelReading}
 use Rattle.step.proofs.StepFaults.{step-faults}
 use Rattle.text.proofs.FaultLaws.{Faults, head-faults}
 use Rattle.step.specs.Reading.{readStep}
@@ -35,7 +35,7 @@ use Rattle.runner.proofs.RuledLaws.{read-right}
 use Rattle.runner_trace.specs.Running.{stopPair, stoppedBy, onward, runFrom, headed, runWhereHeld, running}
 use Rattle.runner_trace.specs.declared.Ran.{Ran}
 use Rattle.keeper.specs.Reading.{readWeightFile}
-use Rattle.keeper.specs.Answers.{weightPair, weightCausePair, passedWeights, turnedOr, judgedWeights, weighed, weightsOr, weightsFrom}
+use Rattle.keeper.specs.Answers.{weightPair, weightCausePair, passedWeights, turnedOr, judgedWeights, weighed, weightsOr, weightChecking}
 use Rattle.listing.specs.Listing.{fileLongest, modelFile, weightsFile, traceFile}
 use Rattle.listing.proofs.FileFaults.{weight-file-faults, model-faults}
 
@@ -68,12 +68,12 @@ loaded-small s few (got l x) d = (omega arith, omega arith)
 loaded-small s few (bad e) d = spot-small s few e d
 
 pub model-small : (s : Text) → Small (readPair (modelFile s .answer))
-unfolding modelFile modelFrom
+unfolding modelFile modelReading
 model-small s =
     by-test (leb (length s) fileLongest)
     (λ t. by-test (leb (length s) longest)
-    (λ u. rw (t, modelFile, u, modelFrom) (loaded-small s (leb-true (length s) fileLongest t) (readModel s) (model-faults Digit (lit< tt) s (lit< tt) (lit< tt) (lit< tt))))
-    (λ u. rw (t, modelFile, u, modelFrom) (omega arith, omega arith)))
+    (λ u. rw (t, modelFile, u, modelReading) (loaded-small s (leb-true (length s) fileLongest t) (readModel s) (model-faults Digit (lit< tt) s (lit< tt) (lit< tt) (lit< tt))))
+    (λ u. rw (t, modelFile, u, modelReading) (omega arith, omega arith)))
     (λ t. rw (t, modelFile) (omega arith, omega arith))
 
 -- ---- the first cause of a list
@@ -160,19 +160,19 @@ module _ (m : eos.Model) (nets : length (m .nets) ≤ 8) (events : length (m .ev
 
 module _ (m : Model) (nets : length (modelOf m .nets) ≤ 8) where
   module _ (events : length (modelOf m .events) ≤ 64) (k : Marking) where
-    tested-small : (b : Bool) (s : Text) → length s ≤ fileLongest → Small (weightPair (weightsOr b m k s 0 .answer))
+    tested-small : (b : Bool) (s : Text) → length s ≤ fileLongest → Small (weightPair (weightsOr b m k s .answer))
     unfolding weightsOr
     tested-small true s few =
         weighed-small (modelOf m) nets events (tokensOf (sizesFor m) k) s few (readWeightFile (modelOf m) s) (weight-file-faults Digit (lit< tt) s (lit< tt) (modelOf m))
     tested-small false s few = (omega arith, omega arith)
 
     pub weights-small : (s : Text) → Small (weightPair (weightsFile m k s .answer))
-    unfolding weightsFile weightsFrom
+    unfolding weightsFile weightChecking
     weights-small s =
         by-test (leb (length s) fileLongest)
         (λ t. by-test (leb (length s) longest)
-        (λ u. rw (t, weightsFile, u, weightsFrom) (tested-small (heldBoth m k) s (leb-true (length s) fileLongest t)))
-        (λ u. rw (t, weightsFile, u, weightsFrom) (omega arith, omega arith)))
+        (λ u. rw (t, weightsFile, u, weightChecking) (tested-small (heldBoth m k) s (leb-true (length s) fileLongest t)))
+        (λ u. rw (t, weightsFile, u, weightChecking) (omega arith, omega arith)))
         (λ t. rw (t, weightsFile) (omega arith, omega arith))
 
   -- ---- a run's stop, and how many steps fired

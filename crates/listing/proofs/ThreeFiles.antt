@@ -20,7 +20,7 @@ use Rattle.marking.specs.Held.{tokensOf}
 use Rattle.marking.specs.declared.Marking.{Marking}
 use Rattle.reader.specs.Reading.{Loaded, readModel}
 use Rattle.marking.specs.Sizes.{sizesFor}
-use Rattle.reader.specs.Answers.{readPair, noReading, loaded, modelReading, heldBoth, modelFrom}
+use Rattle.reader.specs.Answers.{readPair, noReading, loaded, modelReading, heldBoth}
 use Rattle.reader.specs.declared.ReadAnswer.the-variants as read
 use Rattle.reader.specs.declared.ModelReading.{ModelReading}
 use Rattle.reader.proofs.GivenLaws.{Given, given-held}
@@ -29,7 +29,7 @@ use Rattle.runner_trace.specs.declared.Stop.the-variants as stop
 use Rattle.runner.proofs.KeepLaws.{Keeps}
 use Rattle.runner_trace.proofs.TraceSteps.{run-keeps}
 use Rattle.keeper.specs.Reading.{readWeightFile}
-use Rattle.keeper.specs.Answers.{weightPair, refusedWeights, passedWeights, turnedOr, judgedWeights, weighed, weightsOr, weightChecking, weightsFrom}
+use Rattle.keeper.specs.Answers.{weightPair, refusedWeights, passedWeights, turnedOr, judgedWeights, weighed, weightsOr, weightChecking}
 use Rattle.keeper.specs.declared.WeightAnswer.the-variants as weight
 use Rattle.keeper.specs.declared.WeightCheck.{WeightCheck}
 use Rattle.listing.specs.Listing.{fileLongest, modelFile, weightsFile, traceFile, accepted}
@@ -91,11 +91,11 @@ long-weights-refused : {A : Type 0} → accepted (readPair read.TooLong) ≡ tru
 long-weights-refused h = let z : _≡_ {A = ℕ} 0 1 = cc in absurd (omega arith)
 
 reading-accepted : (s : Text) → accepted (readPair (modelReading s .answer)) ≡ true → modelReading s .answer ≡ read.Accepted
-unfolding modelFrom
+unfolding modelReading
 reading-accepted s h =
     by-test (leb (length s) longest)
-    (λ t. rw (t, modelFrom) (loaded-accepted s (readModel s) (rw (t, modelFrom) at h)))
-    (λ t. long-weights-refused (rw (t, modelFrom) at h))
+    (λ t. rw (t, modelReading) (loaded-accepted s (readModel s) (rw (t, modelReading) at h)))
+    (λ t. long-weights-refused (rw (t, modelReading) at h))
 
 reading-given : (s : Text) → accepted (readPair (modelReading s .answer)) ≡ true → Given (modelReading s .model) (modelReading s .start)
 reading-given s h =
@@ -134,16 +134,16 @@ weighed-accepted most m μ s (bad e) h = never (eqb (e .why) 0) (newlines (take 
 none-weights-refused : {A : Type 0} (n : ℕ) → (eqb (suc n) 0 && true) ≡ true → A
 none-weights-refused n h = absurd (omega (arith, eqb-true (suc n) 0 (and-true (eqb (suc n) 0) true h .0)))
 
-checked-accepted : (b : Bool) (m : Model) (k : Marking) (s : Text) → accepted (weightPair (weightsOr b m k s 0 .answer)) ≡ true → weightsOr b m k s 0 .answer ≡ weight.Passed
+checked-accepted : (b : Bool) (m : Model) (k : Marking) (s : Text) → accepted (weightPair (weightsOr b m k s .answer)) ≡ true → weightsOr b m k s .answer ≡ weight.Passed
 unfolding weightsOr
 checked-accepted true m k s h = weighed-accepted coverLimit (modelOf m) (tokensOf (sizesFor m) k) s (readWeightFile (modelOf m) s) h
 checked-accepted false m k s h = none-weights-refused 13 h
 
 pub weights-passed : (m : Model) (k : Marking) (s : Text) → accepted (weightPair (weightsFile m k s .answer)) ≡ true → weightsFile m k s .answer ≡ weight.Passed
-unfolding weightsFile weightsFrom
+unfolding weightsFile weightChecking
 weights-passed m k s h =
     by-test (leb (length s) fileLongest)
     (λ t. by-test (leb (length s) longest)
-    (λ u. rw (t, weightsFile, u, weightsFrom) (checked-accepted (heldBoth m k) m k s (rw (t, weightsFile, u, weightsFrom) at h)))
-    (λ u. none-weights-refused 0 (rw (t, weightsFile, u, weightsFrom) at h)))
+    (λ u. rw (t, weightsFile, u, weightChecking) (checked-accepted (heldBoth m k) m k s (rw (t, weightsFile, u, weightChecking) at h)))
+    (λ u. none-weights-refused 0 (rw (t, weightsFile, u, weightChecking) at h)))
     (λ t. none-weights-refused 0 (rw (t, weightsFile) at h))

@@ -24,7 +24,7 @@ use Rattle.model.specs.declared.Model.{Model}
 use Rattle.marking.specs.declared.Marking.{Marking}
 use Rattle.marking.specs.Sizes.{sizesFor}
 use Rattle.reader.specs.Reading.{bounds, readModel, readMarking}
-use Rattle.reader.specs.Answers.{pair, readPair, loaded, modelFrom, modelReading, restored, markingOr, markingFrom, markingReading, heldBoth}
+use Rattle.reader.specs.Answers.{pair, readPair, loaded, modelReading, restored, markingOr, markingReading, heldBoth}
 use Rattle.step.specs.Reading.{readStep}
 use Rattle.step.specs.Verdict.{hasRoom, causePair}
 use Rattle.step.proofs.StepFaults.{step-faults}
@@ -36,7 +36,7 @@ use Rattle.keeper.specs.Reading.{readWeightFile}
 use Rattle.keeper.specs.Answers.{weightPair, weightCausePair, passedWeights, turnedOr, judgedWeights, weightChecking}
 use Rattle.keeper.specs.declared.WeightCheck.{WeightCheck}
 use Rattle.keeper.specs.declared.WeightAnswer.the-variants.{Passed}
-use Rattle.keeper.proofs.CheckLaws.{from-long, from-unheld, from-bad, from-got}
+use Rattle.keeper.proofs.CheckLaws.{check-long, check-unheld, check-bad, check-got}
 use Rattle.promises.specs.WholeRun.{racks}
 use Rattle.promises.specs.Numbers.{Among, modelNumbers, markingNumbers, weightNumbers, stepNumbers, Lent, Numbered, untested, stepTests, weightTests}
 use Rattle.promises.proofs.NumberLaws.{Goes, Caused, numbered}
@@ -79,13 +79,13 @@ untested-none a c e = some-not (sym e)
 
 module _ (s : Text) where
   pub model-goes : Goes modelNumbers longest s true (readModel s) untested (readPair (modelReading s .answer))
-  unfolding modelFrom loaded
+  unfolding modelReading loaded
   model-goes = record {
-    long = λ h. rw (lt-leb (length s) longest h, modelFrom);
+    long = λ h. rw (lt-leb (length s) longest h, modelReading);
     unheld = λ few h. absurd (true≢false h);
-    faulty = λ w e b. rw (le-leb (length s) longest (w .short), modelFrom, b);
+    faulty = λ w e b. rw (le-leb (length s) longest (w .short), modelReading, b);
     turned = λ w a n b c e. untested-none a c e;
-    passed = λ w a n b e. rw (le-leb (length s) longest (w .short), modelFrom, b);
+    passed = λ w a n b e. rw (le-leb (length s) longest (w .short), modelReading, b);
   }
 
   pub model-caused : (most : ℕ) (r : Refusal) → Caused modelNumbers most s true (readModel s) untested r
@@ -104,13 +104,13 @@ module _ (s : Text) where
 
 module _ (m : Model) (s : Text) where
   marking-goes : Goes markingNumbers longest s (heldModel m) (readMarking (sizesFor m) s) untested (readPair (markingReading m s .answer))
-  unfolding markingFrom markingOr restored
+  unfolding markingReading markingOr restored
   marking-goes = record {
-    long = λ h. rw (lt-leb (length s) longest h, markingFrom);
-    unheld = λ few h. rw (le-leb (length s) longest few, markingFrom, h);
-    faulty = λ w e b. rw (le-leb (length s) longest (w .short), markingFrom, w .is-held, b);
+    long = λ h. rw (lt-leb (length s) longest h, markingReading);
+    unheld = λ few h. rw (le-leb (length s) longest few, markingReading, h);
+    faulty = λ w e b. rw (le-leb (length s) longest (w .short), markingReading, w .is-held, b);
     turned = λ w a n b c e. untested-none a c e;
-    passed = λ w a n b e. rw (le-leb (length s) longest (w .short), markingFrom, w .is-held, b);
+    passed = λ w a n b e. rw (le-leb (length s) longest (w .short), markingReading, w .is-held, b);
   }
 
   pub marking-number : Numbered markingNumbers longest s (heldModel m) (readMarking (sizesFor m) s) untested (readPair (markingReading m s .answer))
@@ -221,15 +221,15 @@ module _ (m : Model) (k : Marking) (s : Text) where
       → weightPair (weightChecking m k s .answer) ≡ orGood (first (weightTests last (modelOf m) a))
   unfolding judgedWeights
   weight-got w a n b =
-      ap (λ (c : WeightCheck). weightPair (c .answer)) (from-got m k s 0 (w .short) (w .is-held) a n b)
+      ap (λ (c : WeightCheck). weightPair (c .answer)) (check-got m k s (w .short) (w .is-held) a n b)
       ∙ weight-judged (weightRefusal (modelOf m) a) (passedWeights coverLimit a (weigh (modelOf m) a (racks m k))) refl
       ∙ ap orGood (sym (weight-first last (modelOf m) a))
 
   pub weights-goes : Goes weightNumbers longest s (heldBoth m k) (readWeightFile (modelOf m) s) (weightTests last (modelOf m)) (weightPair (weightChecking m k s .answer))
   weights-goes = record {
-    long = λ h. ap (λ (c : WeightCheck). weightPair (c .answer)) (sym (from-long m k s 0 h));
-    unheld = λ few h. ap (λ (c : WeightCheck). weightPair (c .answer)) (sym (from-unheld m k s 0 few h));
-    faulty = λ w e b. ap (λ (c : WeightCheck). weightPair (c .answer)) (from-bad m k s 0 (w .short) (w .is-held) e b);
+    long = λ h. ap (λ (c : WeightCheck). weightPair (c .answer)) (sym (check-long m k s h));
+    unheld = λ few h. ap (λ (c : WeightCheck). weightPair (c .answer)) (sym (check-unheld m k s few h));
+    faulty = λ w e b. ap (λ (c : WeightCheck). weightPair (c .answer)) (check-bad m k s (w .short) (w .is-held) e b);
     turned = λ w a n b c e. weight-got w a n b ∙ ap orGood e;
     passed = λ w a n b e. weight-got w a n b ∙ ap orGood e;
   }
@@ -252,4 +252,4 @@ module _ (m : Model) (k : Marking) (s : Text) where
   weight-passed z =
       let (w, a, n, b, c) = weight-number .good .0 z in
       let q = renamed-none (weightCausePair last) (weightRefusal (modelOf m) a) (sym (weight-first last (modelOf m) a) ∙ clear-exactly (weightTests last (modelOf m) a) .1 c) in
-      ap (λ (c : WeightCheck). c .answer) (from-got m k s 0 (w .short) (w .is-held) a n b) ∙ rw q
+      ap (λ (c : WeightCheck). c .answer) (check-got m k s (w .short) (w .is-held) a n b) ∙ rw q

@@ -40,7 +40,7 @@ use Rattle.keeper.specs.declared.Sum.{Sum}
 use Rattle.keeper.specs.declared.WeightCheck.{WeightCheck}
 use Rattle.keeper.specs.declared.WeightAnswer.the-variants.{Passed, TooLong, NotHeld}
 use Rattle.keeper.proofs.WeightsReadBack.{weights-were-printed, weights-read-what-they-say, right-shaped}
-use Rattle.keeper.proofs.CheckLaws.{from-long, from-unheld}
+use Rattle.keeper.proofs.CheckLaws.{check-long, check-unheld}
 use Rattle.keeper.proofs.WeightsExactly.{covers-parts, weights-exactly, sum-exactly, cover-exactly}
 
 -- weights of a model that balance, and cover with the sum of a marking, which is the sum reported
@@ -79,12 +79,12 @@ module _ (m : Model) (k : Marking) (file : Text) (sum : Sum) (passed : weightChe
   short : length file ≤ longest
   short =
       by-test (leb (length file) longest) (leb-true (length file) longest)
-      (λ h. absurd (long≢passed (ap (λ (c : WeightCheck). c .answer) (from-long m k file 0 (leb-false (length file) longest h)) ∙ answered)))
+      (λ h. absurd (long≢passed (ap (λ (c : WeightCheck). c .answer) (check-long m k file (leb-false (length file) longest h)) ∙ answered)))
 
   passed-held : heldBoth m k ≡ true
   passed-held =
       by-test (heldBoth m k) (λ h. h)
-      (λ h. absurd (unheld≢passed (ap (λ (c : WeightCheck). c .answer) (from-unheld m k file 0 short h) ∙ answered)))
+      (λ h. absurd (unheld≢passed (ap (λ (c : WeightCheck). c .answer) (check-unheld m k file short h) ∙ answered)))
 
   passed-balances : Balances (modelOf m) (tokensOf (sizesFor m) k) file sum
   passed-balances =

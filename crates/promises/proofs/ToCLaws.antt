@@ -28,7 +28,7 @@ use Rattle.marking.specs.declared.Marking.{Marking}
 use Rattle.marking.proofs.BlockExactly.{block-exactly}
 use Rattle.reader.specs.Reading.{Loaded, bounds, readModel, readMarking, rightLoaded}
 use Rattle.reader.specs.Printed.{modelText}
-use Rattle.reader.specs.Answers.{pair, readPair, loaded, modelFrom, modelReading, markingReading, heldBoth, layWhole, markingWriting}
+use Rattle.reader.specs.Answers.{pair, readPair, loaded, modelReading, markingReading, heldBoth, layWhole, markingWriting}
 use Rattle.reader.specs.declared.ModelReading.{ModelReading}
 use Rattle.reader.specs.declared.ReadAnswer.the-variants as read
 use Rattle.reader.proofs.ReadsWhatItSays.{ended, reads-what-marking-says}
@@ -94,10 +94,10 @@ spread-number-to-c = spread-number
 
 -- the number 0 is an accepted model
 accepted-zero : (s : Text) → readPair (modelReading s .answer) .number ≡ 0 → modelReading s .answer ≡ read.Accepted
-unfolding modelFrom loaded
+unfolding modelReading loaded
 accepted-zero s z =
     let (w, l, next, b, c) = model-number s .good .0 z in
-    rw (le-leb (length s) longest (w .short), modelFrom, b)
+    rw (le-leb (length s) longest (w .short), modelReading, b)
 
 accepted-to-c : (r : ModelReading) (m : Model) (k : Marking) → r .answer ≡ read.Accepted → modelRead r ≡ record { number = 0; beside = 0; model = m; start = k }
     → r ≡ record { answer = read.Accepted; model = m; start = k }

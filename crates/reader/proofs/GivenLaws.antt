@@ -26,7 +26,7 @@ use Rattle.marking.proofs.HoldMarking as hold
 use Rattle.marking.proofs.SizeLaws.{held-roomy, sizes-same}
 use Rattle.marking.proofs.SizedLaws as marking
 use Rattle.reader.specs.Reading.{bounds, readMarking}
-use Rattle.reader.specs.Answers.{restored, markingOr, markingReading, heldBoth, markingFrom, heldIn}
+use Rattle.reader.specs.Answers.{restored, markingOr, markingReading, heldBoth, heldIn}
 use Rattle.reader.specs.declared.ReadAnswer.the-variants.{Accepted, NotHeld}
 use Rattle.reader.proofs.ReadsWhatItSays.{ended}
 use Rattle.reader.proofs.ReadingLaws.{both-model}
@@ -85,15 +85,15 @@ module _ (m : Model) (sized : SizedModel m) (s : Text) where
       tokens-given m held (eos.canonical μ) (canonical-held z μ right) sized
   restored-given held (bad d) e a = absurd (faulty≢accepted a)
 
-  tested-given : (b : Bool) → heldModel m ≡ b → markingOr b m s 0 .answer ≡ Accepted → Given m (markingOr b m s 0 .marking)
+  tested-given : (b : Bool) → heldModel m ≡ b → markingOr b m s .answer ≡ Accepted → Given m (markingOr b m s .marking)
   unfolding markingOr
   tested-given true h a = restored-given h (readMarking (sizesFor m) s) refl a
   tested-given false h a = absurd (unheld≢accepted a)
 
   -- what is read is given
   pub reading-given : markingReading m s .answer ≡ Accepted → Given m (markingReading m s .marking)
-  unfolding markingFrom
+  unfolding markingReading
   reading-given a =
       by-test (leb (length s) longest)
-      (λ h. rw (h, markingFrom) (tested-given (heldModel m) refl (rw (h, markingFrom) at a)))
-      (λ h. absurd (long≢accepted (rw (h, markingFrom) at a)))
+      (λ h. rw (h, markingReading) (tested-given (heldModel m) refl (rw (h, markingReading) at a)))
+      (λ h. absurd (long≢accepted (rw (h, markingReading) at a)))

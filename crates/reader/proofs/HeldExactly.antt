@@ -41,7 +41,7 @@ use Rattle.marking.proofs.WriteLaws.{marking-length}
 use Rattle.reader.specs.Reading.{bounds, Loaded, readLines, readModel, readMarking, rightLoaded, readModelAt}
 use Rattle.reader.specs.Printed.{modelText}
 use Rattle.marking.specs.Sizes.{sizesFor}
-use Rattle.reader.specs.Answers.{loaded, modelReading, restored, markingOr, markingReading, heldBoth, modelFrom, markingFrom, heldIn}
+use Rattle.reader.specs.Answers.{loaded, modelReading, restored, markingOr, markingReading, heldBoth, heldIn}
 use Rattle.reader.specs.declared.ReadAnswer.the-variants.{Accepted, TooLong, Faulty}
 use Rattle.reader.specs.declared.ModelReading.{ModelReading}
 use Rattle.reader.specs.declared.MarkingReading.{MarkingReading}
@@ -85,17 +85,17 @@ module _ (s : Text) (m : Model) (k : Marking) where
   got-printed (bad d) e h f = absurd (faulty≢accepted (ap (λ (r : ModelReading). r .answer) f))
 
   accepted-printed : Accepts s m k → Printed s m k
-  unfolding modelFrom
+  unfolding modelReading
   accepted-printed e =
       by-test (leb (length s) longest)
-      (λ h. got-printed (readModel s) refl (leb-true (length s) longest h) (rw (h, modelFrom) at e))
-      (λ h. absurd (long≢accepted (ap (λ (r : ModelReading). r .answer) (rw (h, modelFrom) at e))))
+      (λ h. got-printed (readModel s) refl (leb-true (length s) longest h) (rw (h, modelReading) at e))
+      (λ h. absurd (long≢accepted (ap (λ (r : ModelReading). r .answer) (rw (h, modelReading) at e))))
 
   printed-accepted : Printed s m k → Accepts s m k
-  unfolding modelFrom loaded
+  unfolding modelReading loaded
   printed-accepted (l, text, right, short, model-is, start-is) =
       let r = reads-what-it-says s l .1 (text, right) in
-      rw (le-leb (length s) longest short, modelFrom) (ap (loaded s) r ∙ rw (model-is, start-is))
+      rw (le-leb (length s) longest short, modelReading) (ap (loaded s) r ∙ rw (model-is, start-is))
 
   -- a model's text is accepted with a held model and a held start exactly where it is printed and this is how they are held
   pub accepted-is-printed : Accepts s m k ↔ Printed s m k
@@ -205,7 +205,7 @@ module _ (m : Model) (sized : model.SizedModel m) where
 -- the text of a held marking of a held model is accepted, and the marking is given back
 pub written-reads-back : (m : Model) (k : Marking) → marking.SizedMarking k → heldBoth m k ≡ true
     → markingReading m (markingText (tokensOf (sizesFor m) k)) ≡ record { answer = Accepted; marking = k }
-unfolding heldIn markingFrom markingOr restored
+unfolding heldIn markingReading markingOr restored
 written-reads-back m k small h =
     let a = and-true (heldModel m) _ h in
     let z = sizesFor m in
@@ -216,4 +216,4 @@ written-reads-back m k small h =
     let r = reads-what-marking-says z s μ .1 (refl, b .0 .right) in
     let q : restored s (readMarking z s) ≡ record { answer = Accepted; marking = k } =
     ap (restored s) r ∙ ap {B = MarkingReading} (λ k. record { answer = Accepted; marking = k }) (ap holdMarking (b .0 .ordered) ∙ sym (b .1)) in
-    rw (le-leb (length s) longest (omega arith), markingFrom, a .0) q
+    rw (le-leb (length s) longest (omega arith), markingReading, a .0) q

@@ -1,5 +1,6 @@
 pub mod ReadsWhatItSays
 pub mod TextRefused
+pub mod LineLaws
 pub mod ReadingLaws
 pub mod WriteAnswers
 pub mod HeldExactly

@@ -21,7 +21,7 @@ use Rattle.marking.specs.Held.{noMarking}
 use Rattle.marking.specs.declared.Marking.{Marking}
 use Rattle.reader.specs.Reading.{Loaded, readModel, readMarking}
 use Rattle.marking.specs.Sizes.{sizesFor}
-use Rattle.reader.specs.Answers.{loaded, modelReading, restored, markingOr, markingReading, heldBoth, layWhole, markingWriting, modelFrom, markingFrom}
+use Rattle.reader.specs.Answers.{loaded, modelReading, restored, markingOr, markingReading, heldBoth, layWhole, markingWriting}
 use Rattle.reader.specs.declared.ReadAnswer.the-variants.{Accepted}
 use Rattle.reader.specs.declared.WriteAnswer.the-variants.{Written}
 use Rattle.reader.proofs.WriteAnswers.{whole-fits, whole-short}
@@ -33,28 +33,28 @@ loaded-refused s (bad e) n = (refl, refl)
 
 -- a refused text gives the empty model and no net-token
 pub refused-model : (s : Text) → (modelReading s .answer ≡ Accepted → ⊥) → (modelReading s .model ≡ noModel) × (modelReading s .start ≡ noMarking)
-unfolding modelFrom
+unfolding modelReading
 refused-model s n =
     by-test (leb (length s) longest)
-    (λ h. rw (h, modelFrom) (loaded-refused s (readModel s) (rw (h, modelFrom) at n)))
-    (λ h. rw (h, modelFrom) (refl, refl))
+    (λ h. rw (h, modelReading) (loaded-refused s (readModel s) (rw (h, modelReading) at n)))
+    (λ h. rw (h, modelReading) (refl, refl))
 
 restored-refused : (s : Text) (o : Outcome eos.Marking) → (restored s o .answer ≡ Accepted → ⊥) → restored s o .marking ≡ noMarking
 unfolding restored
 restored-refused s (got μ x) n = absurd (n refl)
 restored-refused s (bad e) n = refl
 
-held-refused : (m : Model) (s : Text) (b : Bool) → (markingOr b m s 0 .answer ≡ Accepted → ⊥) → markingOr b m s 0 .marking ≡ noMarking
+held-refused : (m : Model) (s : Text) (b : Bool) → (markingOr b m s .answer ≡ Accepted → ⊥) → markingOr b m s .marking ≡ noMarking
 unfolding markingOr
 held-refused m s true n = restored-refused s (readMarking (sizesFor m) s) n
 held-refused m s false n = refl
 
 pub refused-marking : (m : Model) (s : Text) → (markingReading m s .answer ≡ Accepted → ⊥) → markingReading m s .marking ≡ noMarking
-unfolding markingFrom
+unfolding markingReading
 refused-marking m s n =
     by-test (leb (length s) longest)
-    (λ h. rw (h, markingFrom) (held-refused m s (heldModel m) (rw (h, markingFrom) at n)))
-    (λ h. rw (h, markingFrom))
+    (λ h. rw (h, markingReading) (held-refused m s (heldModel m) (rw (h, markingReading) at n)))
+    (λ h. rw (h, markingReading))
 
 laid-refused : (text : Text) (out : List ℕ) → ((n : ℕ) → layWhole text out .answer ≡ Written n → ⊥) → layWhole text out .bytes ≡ out
 laid-refused text out n =

@@ -29,7 +29,7 @@ use Rattle.marking.specs.Printed.{blockText}
 use Rattle.marking.proofs.BlockExactly.{block-exactly}
 use Rattle.marking.proofs.BlockRefused.{BlockFaults, block-refuses}
 use Rattle.reader.specs.Reading.{bounds, Loaded, readEnd, readLines, readModelAt, readMarkingAt, rightLoaded}
-use Rattle.reader.specs.Answers.{loaded, modelFrom, modelReading, restored, markingOr, markingFrom, markingReading}
+use Rattle.reader.specs.Answers.{loaded, modelReading, restored, markingOr, markingReading}
 use Rattle.reader.specs.declared.ReadAnswer.the-variants.{Accepted, TooLong, NotHeld, Faulty}
 use Rattle.reader.specs.Printed.{modelText}
 use Rattle.reader.proofs.ReadsWhatItSays.{lines-exactly}
@@ -98,15 +98,15 @@ loaded-names s (bad e) p h = (e, refl, faulty-is h)
 -- a model's reading answers a fault, by its cause and its line, exactly where the text is not too long and has that fault
 pub model-answers : (s : Text) (p : Spot)
     → (modelReading s .answer ≡ Faulty p) ↔ ((length s ≤ longest) × ((e : Fault) × ModelFaults s 0 e × (p ≡ spotOf s e)))
-unfolding modelFrom loaded
+unfolding modelReading loaded
 model-answers s p = (
   λ h.
       by-test (leb (length s) longest)
       (λ k.
-      let n = loaded-names s (readModelAt s 0) p (rw (k, modelFrom) at h) in
+      let n = loaded-names s (readModelAt s 0) p (rw (k, modelReading) at h) in
       (leb-true (length s) longest k, (n .0, model-refuses s .back 0 (n .0) (n .1), n .2)))
-      (λ k. absurd (long≢faulty (rw (k, modelFrom) at h))),
-  λ h. let e = h .1 in rw (le-leb (length s) longest (h .0), modelFrom, model-refuses s .forth 0 (e .0) (e .1), e .2),
+      (λ k. absurd (long≢faulty (rw (k, modelReading) at h))),
+  λ h. let e = h .1 in rw (le-leb (length s) longest (h .0), modelReading, model-refuses s .forth 0 (e .0) (e .1), e .2),
 )
 
 restored-names : (s : Text) (o : Outcome eos.Marking) (p : Spot) → restored s o .answer ≡ Faulty p → (e : Fault) × (o ≡ bad e) × (p ≡ spotOf s e)
@@ -118,18 +118,18 @@ restored-names s (bad e) p h = (e, refl, faulty-is h)
 pub marking-answers : (m : Model) (s : Text) (p : Spot)
     → (markingReading m s .answer ≡ Faulty p)
     ↔ ((length s ≤ longest) × (heldModel m ≡ true) × ((e : Fault) × MarkingFaults s (sizesFor m) 0 e × (p ≡ spotOf s e)))
-unfolding markingFrom markingOr restored
+unfolding markingReading markingOr restored
 marking-answers m s p = (
   λ h.
       by-test (leb (length s) longest)
       (λ k.
       by-test (heldModel m)
       (λ t.
-      let n = restored-names s (readMarkingAt (sizesFor m) s 0) p (rw (k, markingFrom, t, markingOr) at h) in
+      let n = restored-names s (readMarkingAt (sizesFor m) s 0) p (rw (k, markingReading, t, markingOr) at h) in
       (leb-true (length s) longest k, t, (n .0, marking-refuses s (sizesFor m) .back 0 (n .0) (n .1), n .2)))
-      (λ t. absurd (unheld≢faulty (rw (k, markingFrom, t, markingOr) at h))))
-      (λ k. absurd (long≢faulty (rw (k, markingFrom) at h))),
+      (λ t. absurd (unheld≢faulty (rw (k, markingReading, t, markingOr) at h))))
+      (λ k. absurd (long≢faulty (rw (k, markingReading) at h))),
   λ h.
       let e = h .2 in
-      rw (le-leb (length s) longest (h .0), markingFrom, h .1, markingOr, marking-refuses s (sizesFor m) .forth 0 (e .0) (e .1), e .2),
+      rw (le-leb (length s) longest (h .0), markingReading, h .1, markingOr, marking-refuses s (sizesFor m) .forth 0 (e .0) (e .1), e .2),
 )

@@ -19,7 +19,7 @@ use Rattle.model.specs.declared.Model.{Model}
 use Rattle.marking.specs.Held.{holdMarking, noMarking, tokensOf, heldMarking}
 use Rattle.marking.specs.Printed.{markingText}
 use Rattle.marking.specs.declared.Marking.{Marking}
-use Rattle.reader.specs.Reading.{Loaded, readModelAt, readMarkingAt}
+use Rattle.reader.specs.Reading.{Loaded, readModel, readMarking}
 use Rattle.marking.specs.Sizes.{sizesFor}
 use Rattle.reader.specs.declared.ReadAnswer.{ReadAnswer}
 use Rattle.reader.specs.declared.ReadAnswer.the-variants.{Accepted, TooLong, NotHeld, Faulty}
@@ -57,13 +57,9 @@ unfoldable pub loaded : Text → Outcome Loaded → ModelReading
 loaded s (got l x) = record { answer = Accepted; model = holdModel (l .model); start = holdMarking (eos.canonical (l .start)) }
 loaded s (bad e) = noReading (faulty s e)
 
--- reading a model whose lines begin at a position: 1, then its lines
-unfoldable pub modelFrom : Text → ℕ → ModelReading
-modelFrom s at = elim (leb (length s) longest) [ true ↦ loaded s (readModelAt s at) | false ↦ noReading TooLong ]
-
--- reading a model
-abbrev pub modelReading : Text → ModelReading
-modelReading s = modelFrom s 0
+-- reading a model: 1, then its lines
+unfoldable pub modelReading : Text → ModelReading
+modelReading s = elim (leb (length s) longest) [ true ↦ loaded s (readModel s) | false ↦ noReading TooLong ]
 
 abbrev pub noTokens : ReadAnswer → MarkingReading
 noTokens a = record { answer = a; marking = noMarking }
@@ -72,17 +68,13 @@ unfoldable pub restored : Text → Outcome eos.Marking → MarkingReading
 restored s (got μ x) = record { answer = Accepted; marking = holdMarking (eos.canonical μ) }
 restored s (bad e) = noTokens (faulty s e)
 
-unfoldable pub markingOr : Bool → Model → Text → ℕ → MarkingReading
-markingOr true m s at = restored s (readMarkingAt (sizesFor m) s at)
-markingOr false m s at = noTokens NotHeld
+unfoldable pub markingOr : Bool → Model → Text → MarkingReading
+markingOr true m s = restored s (readMarking (sizesFor m) s)
+markingOr false m s = noTokens NotHeld
 
--- reading a marking for a held model, its lines beginning at a position: 1, 14, then its lines
-unfoldable pub markingFrom : Model → Text → ℕ → MarkingReading
-markingFrom m s at = elim (leb (length s) longest) [ true ↦ markingOr (heldModel m) m s at | false ↦ noTokens TooLong ]
-
--- reading a marking
-abbrev pub markingReading : Model → Text → MarkingReading
-markingReading m s = markingFrom m s 0
+-- reading a marking for a held model: 1, 14, then its lines
+unfoldable pub markingReading : Model → Text → MarkingReading
+markingReading m s = elim (leb (length s) longest) [ true ↦ markingOr (heldModel m) m s | false ↦ noTokens TooLong ]
 
 -- ---- the held test of a marking, with its room, for a model
 

@@ -1,24 +1,21 @@
 // The Reader level: a model is read and tested, a marking is read for a held model, tested and written.
 ghost use mathlib.Core.Path.{_≡_};
 ghost use Rattle.model.specs.Test.{heldModel};
-ghost use Rattle.marking.specs.Held.{sizesAt, Roomy};
-ghost use Rattle.marking.specs.Answers.{blockOf};
-ghost use Rattle.reader.specs.Reading.{readMarkingAt};
 ghost use Rattle.reader.specs.Parts.{answerOf};
-ghost use Rattle.reader.specs.Answers.{noReading, modelFrom, modelReading, noTokens, markingFrom, markingReading, heldBoth, writtenAs, markingWriting};
-use marking::Block;
+ghost use Rattle.reader.specs.Answers.{noReading, modelReading, noTokens, markingReading, heldBoth, writtenAs, markingWriting};
+use lines::marking_lines;
+use lines::model_lines;
+use lines::place_sizes;
 use marking::Marking;
-use marking_read::block_at;
 use marking_test::sizes;
 use marking_write::write;
 use model::Model;
-use model_read::read_plant;
 use text::Ended;
 use text::Spot;
 use text::Wrote;
-use text_reader::Reader;
-use text_scan::fault_at;
 use text_scan::spot_of;
+
+mod lines;
 
 // How the reading of a text ended.
 pub enum ReadAnswer {
@@ -41,6 +38,19 @@ pub struct MarkingReading {
     pub marking: Marking,
 }
 
+// How the reading of a model's lines and of its start's ended, and what was read; refused, the empty model and no net-token.
+pub struct ModelLines {
+    pub ended: Ended,
+    pub model: Model,
+    pub start: Marking,
+}
+
+// How many places there are, and how many counts the net-tokens of each have.
+pub struct PlaceSizes {
+    pub places: u16,
+    pub sizes: [u8; 32],
+}
+
 // How writing a text into lent bytes ended.
 pub enum WriteAnswer {
     Written { bytes: usize },
@@ -60,27 +70,6 @@ fn answer_of(s: &[u8], ended: Ended) -> ReadAnswer
     }
 }
 
-// The net-tokens from `at` to the end of the text; `sizes` says for each place how many counts its net-tokens have.
-fn tokens_to_end(s: &[u8], at: usize, places: u16, sizes: [u8; 32]) -> Block
-    requires { ⌜ Roomy (sizesAt places sizes) ⌝ }
-    ensures { λ r. ⌜ r ≡ blockOf (readMarkingAt (sizesAt places sizes) (now (s .entry)) at) ⌝ }
-{
-    let block = block_at(s, at, b"start=", Model::LINES, places, sizes);
-    let ended = block.ended;
-    let Ended::Past { next } = ended else {
-        return block;
-    };
-    if next < s.len() {
-        let marking = Marking::empty();
-        let fault = fault_at(2, next);
-        return Block {
-            ended: Ended::Stopped { fault },
-            marking,
-        };
-    }
-    block
-}
-
 // No model, and why.
 pub fn no_reading(answer: ReadAnswer) -> ModelReading
     ensures { λ r. ⌜ r ≡ noReading answer ⌝ }
@@ -94,44 +83,22 @@ pub fn no_reading(answer: ReadAnswer) -> ModelReading
     }
 }
 
-// Reads a model's text from `at` on: its lines, and those of its start.
-fn model_at(s: &[u8], at: usize) -> ModelReading
-    ensures { λ r. ⌜ r ≡ modelFrom (now (s .entry)) at ⌝ }
-{
-    if Model::LONGEST < s.len() {
-        return no_reading(ReadAnswer::TooLong);
-    }
-    let read = read_plant(s, at);
-    let lines = read.ended;
-    let Ended::Past { next } = lines else {
-        return no_reading(answer_of(s, lines));
-    };
-    let model = read.model;
-    let block = tokens_to_end(s, next, model.places as u16, sizes(model));
-    let ended = block.ended;
-    let Ended::Past { next: _ } = ended else {
-        return no_reading(answer_of(s, ended));
-    };
-    let start = block.marking;
-    ModelReading {
-        answer: ReadAnswer::Accepted,
-        model,
-        start,
-    }
-}
-
-// Reads a model's text from the place that the reader has reached.
-fn model_from<'a>(r: Reader<'a>) -> ModelReading
-    ensures { λ o. ⌜ o ≡ modelFrom (now (r .entry .src)) (r .entry .at) ⌝ }
-{
-    model_at(r.src, r.at)
-}
-
 // Reads a model's text.
 pub fn read_model(s: &[u8]) -> ModelReading
     ensures { λ r. ⌜ r ≡ modelReading (now (s .entry)) ⌝ }
 {
-    model_from(Reader { src: s, at: 0 })
+    if Model::LONGEST < s.len() {
+        return no_reading(ReadAnswer::TooLong);
+    }
+    let lines = model_lines(s);
+    let ended = lines.ended;
+    let model = lines.model;
+    let start = lines.start;
+    ModelReading {
+        answer: answer_of(s, ended),
+        model,
+        start,
+    }
 }
 
 // No marking, and why.
@@ -142,9 +109,9 @@ fn no_tokens(answer: ReadAnswer) -> MarkingReading
     MarkingReading { answer, marking }
 }
 
-// Reads the text of a marking of a held model from `at` on.
-fn marking_at(m: Model, s: &[u8], at: usize) -> MarkingReading
-    ensures { λ r. ⌜ r ≡ markingFrom m (now (s .entry)) at ⌝ }
+// Reads the text of a marking of a held model.
+pub fn read_marking(m: Model, s: &[u8]) -> MarkingReading
+    ensures { λ r. ⌜ r ≡ markingReading m (now (s .entry)) ⌝ }
 {
     if Model::LONGEST < s.len() {
         return no_tokens(ReadAnswer::TooLong);
@@ -152,30 +119,13 @@ fn marking_at(m: Model, s: &[u8], at: usize) -> MarkingReading
     if !model_test::is_held(m) {
         return no_tokens(ReadAnswer::NotHeld);
     }
-    let block = tokens_to_end(s, at, m.places as u16, sizes(m));
-    let ended = block.ended;
-    let Ended::Past { next: _ } = ended else {
-        return no_tokens(answer_of(s, ended));
-    };
-    let marking = block.marking;
+    let lines = marking_lines(place_sizes(m), s);
+    let ended = lines.ended;
+    let marking = lines.marking;
     MarkingReading {
-        answer: ReadAnswer::Accepted,
+        answer: answer_of(s, ended),
         marking,
     }
-}
-
-// Reads the text of a marking of a held model from the place that the reader has reached.
-fn marking_from<'a>(m: Model, r: Reader<'a>) -> MarkingReading
-    ensures { λ o. ⌜ o ≡ markingFrom m (now (r .entry .src)) (r .entry .at) ⌝ }
-{
-    marking_at(m, r.src, r.at)
-}
-
-// Reads the text of a marking of a held model.
-pub fn read_marking(m: Model, s: &[u8]) -> MarkingReading
-    ensures { λ r. ⌜ r ≡ markingReading m (now (s .entry)) ⌝ }
-{
-    marking_from(m, Reader { src: s, at: 0 })
 }
 
 // Whether m is held as a model is.

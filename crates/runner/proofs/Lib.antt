@@ -8,4 +8,3 @@ pub mod GivenSteps
 pub mod FiresExactly
 pub mod RefusedStep
 pub mod StepFaulty
-pub mod Passing

@@ -88,7 +88,7 @@ pub fn step_on(
         × (sizes ≡ sizesIn (modelIn (now plan))) × (length (now s) ≤ longest) × (length (now rows) ≡ rowsRoom) ⌝ }
     ensures { λ r. ⌜ record { answer = r .answer; marking = record { len = r .len; rows = now (rows .exit) } } ≡ heldStep room (modelIn (now (plan .entry))) (record { len = len; rows = now (rows .entry) }) (now (s .entry)) ⌝ }
 {
-    let lines = read_step(s, 0, plan[3] as u16, plan[1] as u16, sizes, taken, given);
+    let lines = read_step(s, plan[3] as u16, plan[1] as u16, sizes, taken, given);
     let ended = lines.ended;
     let Ended::Past { next } = ended else {
         return StepEnd {

@@ -11,13 +11,12 @@ use ghost.Atoms.{Atoms}
 use types.Kit.{Goal, Soaks, Seq, Step, Item, Given, ‵, _⊛_, some, later, step, _$_, use1, use3, split, pick, await}
 use denote.RattleType.{RattleType}
 use denote.Laws.{Is, Tells, Makes}
-use denote.Builtin.{u8, u16, ArrayOf, SliceRefOf}
-use denote.Ref.{RefT, MutRef, ptr-vals, mut-tells}
+use denote.Ref.{RefT, MutRef, ptr-vals}
 use denote.Lend.{LentAgain, lends-again, comes-back}
-use denote.Signature.{Slot, AllWithin, plain}
-use denote.Slice.{ShrSlice, slice-vals, shr-slice-tells}
+use denote.Signature.{Slot, plain}
 use denote.Struct.Laws as LL
 use Rattle.text_reader.proofs.Walks.{Numbers, numbers-vals}
+use Rattle.text_reader.proofs.LentArrays.{array, lent-array-tells}
 use Rattle.runner_trace.specs.declared.Progress.{Progress}
 use Rattle.runner_trace.proofs.Progress as P
 use Rattle.runner_trace.proofs.Progress.Laws as P′
@@ -31,23 +30,17 @@ abbrev pub Counts : RattleType
 Counts = Numbers w16 8448
 
 module _ {n : ℕ} where
-  abbrev pub bytes : (j : ℕ) → AllWithin n (j ∷ []) → Slot n
-  bytes j ok = SliceRefOf (j ∷ []) ok (plain (λ _. u8)) (λ _. tt)
-
   abbrev pub sizes : Slot n
-  sizes = ArrayOf (plain (λ _. u8)) (λ _. tt) 32
+  sizes = array w8 32
 
   abbrev pub counts : Slot n
-  counts = ArrayOf (plain (λ _. u16)) (λ _. tt) 8448
+  counts = array w16 8448
 
   abbrev pub far : Slot n
   far = plain (λ _. P.the-row)
 
-pub bytes-tell : (j : ℕ) (κ : Lft) → Tells (ShrSlice (named j) κ u8) (Is (ShrSlice (named j) κ u8)) slice-vals
-bytes-tell j κ = shr-slice-tells (named j) κ u8
-
 pub counts-tell : (j : ℕ) (κ : Lft) → Tells (MutRef (named j) κ Counts) (Is (MutRef (named j) κ Counts)) ptr-vals
-counts-tell j κ = mut-tells (named j) κ Counts
+counts-tell = lent-array-tells w16 8448
 
 abbrev pub sizes-vals : List ℕ → List Val
 sizes-vals = numbers-vals w8

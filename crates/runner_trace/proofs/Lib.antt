@@ -3,4 +3,3 @@ pub mod TurnLaws
 pub mod TraceLaws
 pub mod StopLaws
 pub mod Arrays
-pub mod Passing

@@ -23,7 +23,6 @@ use text::Ended;
 use text::Spot;
 use text_lines::head_line;
 use text_reader::Reader;
-use text_reader::left;
 use text_scan::spot_of;
 
 // What stopped a run over a trace.
@@ -225,36 +224,21 @@ fn stop_of(s: &[u8], ended: Ended) -> Stop
     }
 }
 
-// The run over the trace that stands at `at`: the header, then steps, tried on a marking of a model.
-fn run_at(m: Model, k: Marking, s: &[u8], at: usize) -> Ran
-    ensures { λ r. ⌜ r ≡ running m k (drop at (now (s .entry))) ⌝ }
+// The run over a trace: the header, then steps, tried on a marking of a model.
+pub fn run(m: Model, k: Marking, s: &[u8]) -> Ran
+    ensures { λ r. ⌜ r ≡ running m k (now (s .entry)) ⌝ }
 {
-    let rest = left(s, at);
-    if Model::LONGEST < rest.len() {
+    if Model::LONGEST < s.len() {
         return run_refused(Stop::TooLong, k);
     }
     if !test_marking(m, k) {
         return run_refused(Stop::NotHeld, k);
     }
-    let head = head_line(rest, 0, b"run=1\n");
+    let head = head_line(s, 0, b"run=1\n");
     let Ended::Past { next } = head else {
-        return run_refused(stop_of(rest, head), k);
+        return run_refused(stop_of(s, head), k);
     };
     let mut plan = [0u8; PACKED];
     pack(m, &mut plan);
-    run_steps(&plan, sizes(m), k, rest, next)
-}
-
-// The run over the trace that stands at the place that the reader has reached.
-fn run_from<'a>(m: Model, k: Marking, r: Reader<'a>) -> Ran
-    ensures { λ o. ⌜ o ≡ running m k (drop (r .entry .at) (now (r .entry .src))) ⌝ }
-{
-    run_at(m, k, r.src, r.at)
-}
-
-// The run over a trace: the header, then steps, tried on a marking of a model.
-pub fn run(m: Model, k: Marking, s: &[u8]) -> Ran
-    ensures { λ r. ⌜ r ≡ running m k (now (s .entry)) ⌝ }
-{
-    run_from(m, k, Reader { src: s, at: 0 })
+    run_steps(&plan, sizes(m), k, s, next)
 }

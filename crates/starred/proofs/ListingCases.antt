@@ -23,12 +23,12 @@ use Rattle.marking.specs.Reading.{readNetToken, readBlock}
 use Rattle.marking.specs.Printed.{netTokenText, blockText}
 use Rattle.reader.specs.Reading.{readEnd, readLines, readModelAt}
 use Rattle.marking.specs.Sizes.{sizesIn}
-use Rattle.reader.specs.Answers.{heldIn, loaded, modelFrom}
+use Rattle.reader.specs.Answers.{heldIn, loaded, modelReading}
 use Rattle.step.specs.Reading.{readTaking, readStep}
 use Rattle.runner.specs.Answers.{stepJudged, readThen, tried}
 use Rattle.runner_trace.specs.Running.{onward, runFrom, headed, runWhereHeld, running}
 use Rattle.keeper.specs.Reading.{readInner, readWeightsAt}
-use Rattle.keeper.specs.Answers.{turnedOr, judgedWeights, weighed, weightsOr, weightsFrom}
+use Rattle.keeper.specs.Answers.{turnedOr, judgedWeights, weighed, weightsOr, weightChecking}
 use Rattle.listing.specs.Listing.{modelFile, weightsFile, traceFile, pairText, pairThen, sumText, coverText, runText, afterModel, listingText}
 
 -- the files of 01's listing
@@ -47,9 +47,9 @@ pub listing-cases :
     × (listingText (bytes "nets=1\n") weights trace ≡ bytes "model=2,1\n")
     × (listingText model (bytes "inv=1\nouter=1,0\ninner=1,1\n") trace ≡ bytes "model=0,0\nweights=7,1\n")
     × (listingText model (bytes "inv=1\nouter=-1,-1\ninner=0,0\n") (bytes "") ≡ bytes "model=0,0\nweights=0,0\nsum=-2\ncover=0\nfired=0\nstop=2,1\nheld=2\ntoken=1:0,0\ntoken=1:1,0\n")
-unfolding listingText afterModel runText coverText sumText pairThen pairText traceFile weightsFile modelFile modelFrom loaded readModelAt readLines readEnd
+unfolding listingText afterModel runText coverText sumText pairThen pairText traceFile weightsFile modelFile modelReading loaded readModelAt readLines readEnd
     readPlant readEvent readSync readAct readMove readIdle readNet readSides keepsTypes
-    weightsFrom weightsOr weighed judgedWeights turnedOr weightRefusal readWeightsAt readInner readWeights effect value weigh covers
+    weightChecking weightsOr weighed judgedWeights turnedOr weightRefusal readWeightsAt readInner readWeights effect value weigh covers
     running runWhereHeld headed runFrom onward heldIn heldModel heldTypes heldMoves heldNets heldNet heldEvents heldEvent emptyEvent heldAct rightAct emptyPast monotonous
     touches takesPart heldRows rightRow holdModel holdNet holdNets holdEvent holdEvents tabled fill padded holdMarking modelOf netOf eventOf tokensOf sizesIn
     tried readThen stepJudged readTaking readStep readBlock readNetToken readToken tokenAt countsAt readHead readNumber readList behind lines.judged many manyAt need then listEnd

@@ -23,11 +23,11 @@ use Rattle.marking.specs.Reading.{readNetToken, readBlock}
 use Rattle.reader.specs.Reading.{readEnd, readLines, readModelAt}
 use Rattle.marking.specs.Sizes.{sizesIn}
 use Rattle.reader.specs.Answers as reader
-use Rattle.reader.specs.Answers.{loaded, restored, modelFrom, markingFrom, heldIn}
+use Rattle.reader.specs.Answers.{loaded, restored, modelReading, markingReading, heldIn}
 use Rattle.step.specs.Reading.{readTaking, readStep}
 use Rattle.runner.specs.Answers.{stepJudged, readThen, tried, stepped, heldStep, whereHeld, steppingIn}
 use Rattle.keeper.specs.Reading.{readInner, readWeightsAt}
-use Rattle.keeper.specs.Answers.{turnedOr, judgedWeights, weighed, weightsOr, weightsFrom}
+use Rattle.keeper.specs.Answers.{turnedOr, judgedWeights, weighed, weightsOr, weightChecking}
 use Rattle.spread.specs.Call.{spreadCall}
 
 -- numbers, lists, lines
@@ -61,6 +61,6 @@ written = tt
 
 -- the calls
 unfoldable pub opened : Unit {0}
-unfolding lined read held ruled written loaded modelFrom restored reader.markingOr markingFrom stepJudged readThen tried stepped heldStep whereHeld steppingIn
-    turnedOr judgedWeights weighed weightsOr weightsFrom spreadCall
+unfolding lined read held ruled written loaded modelReading restored reader.markingOr markingReading stepJudged readThen tried stepped heldStep whereHeld steppingIn
+    turnedOr judgedWeights weighed weightsOr weightChecking spreadCall
 opened = tt

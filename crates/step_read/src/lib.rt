@@ -2,13 +2,16 @@
 // and its counts.
 ghost use mathlib.Core.Path.{_≡_};
 ghost use Prim.Native.Nat.{_≤_};
+ghost use Rattle.text.specs.Bytes.{bytes};
 ghost use Rattle.text.specs.Lines.{many};
+ghost use Rattle.text_reader.specs.Place.{reached};
 ghost use Rattle.model.specs.Limits.{lineLimit, countLimit};
 ghost use Rattle.marking.specs.Rows.{rowsIn};
 ghost use Rattle.marking.specs.Held.{sizesAt, Roomy};
 ghost use Rattle.marking.specs.Reading.{limits, readNetToken, readBlock};
 ghost use Rattle.step.specs.Reading.{readTaking, readStep};
 ghost use Rattle.step.specs.Answers.{noTaking, noStep, tokenRows, takeRows, stepRows};
+ghost use Rattle.step_read.specs.Giving.{giveRows};
 use marking::Marking;
 use marking::NetToken;
 use marking_edit::put_row;
@@ -21,6 +24,8 @@ use text::Ended;
 use text::Line;
 use text_lines::ended_of;
 use text_lines::number_line;
+use text_reader::Reader;
+use text_reader::reached;
 use text_tokens::token_line;
 
 // The lines of n net-tokens; `sizes` says for each place how many counts its net-tokens have.
@@ -132,26 +137,46 @@ fn no_step(ended: Ended) -> StepLines
     }
 }
 
-// The lines of a step: its event, from 1 to `events`, and the net-tokens that it takes and gives. `taken` and `given` are room for their
-// rows, left as above.
-pub fn read_step(
-    s: &[u8],
-    at: usize,
+// The lines up to those that a step takes, at the place that the reader has reached.
+fn taking_from<'a>(
+    r: Reader<'a>,
     events: u16,
     places: u16,
     sizes: [u8; 32],
     taken: &mut [u16; Marking::ROWS],
+) -> TakeLines
+    requires { ⌜ Roomy (sizesAt places sizes) ⌝ }
+    ensures { λ t. ⌜ record { lines = t; taken = rowsIn (t .take) (now (taken .exit)) } ≡ takeRows (readTaking (limits lineLimit countLimit) (sizesAt places sizes) events (now (r .entry .src)) (r .entry .at)) ⌝ }
+{
+    read_taking(r.src, r.at, events, places, sizes, taken)
+}
+
+// The place that the reading of the taken has reached.
+fn taking_end(take: TakeLines) -> usize
+    ensures { λ r. ⌜ r ≡ reached (take .ended) ⌝ }
+{
+    let ended = take.ended;
+    reached(ended)
+}
+
+// The lines of what a step gives, which stand at `at`, behind those that it takes: a refused take is handed on. `given` is room for their
+// rows, left as above.
+fn giving_at(
+    s: &[u8],
+    at: usize,
+    take: TakeLines,
+    places: u16,
+    sizes: [u8; 32],
     given: &mut [u16; Marking::ROWS],
 ) -> StepLines
     requires { ⌜ Roomy (sizesAt places sizes) ⌝ }
-    ensures { λ r. ⌜ record { lines = r; taken = rowsIn (r .take) (now (taken .exit)); given = rowsIn (r .give) (now (given .exit)) } ≡ stepRows (readStep (limits lineLimit countLimit) (sizesAt places sizes) events (now (s .entry)) at) ⌝ }
+    ensures { λ r. ⌜ record { lines = r; given = rowsIn (r .give) (now (given .exit)) } ≡ giveRows take (readBlock (bytes "give=") (limits lineLimit countLimit) (sizesAt places sizes) (now (s .entry)) at) ⌝ }
 {
-    let take = read_taking(s, at, events, places, sizes, taken);
     let read = take.ended;
-    let Ended::Past { next } = read else {
+    let Ended::Past { next: _ } = read else {
         return no_step(read);
     };
-    let give = tokens_after(s, next, b"give=", places, sizes, given);
+    let give = tokens_after(s, at, b"give=", places, sizes, given);
     let ended = give.ended;
     let Ended::Past { next: _ } = ended else {
         return no_step(ended);
@@ -162,4 +187,36 @@ pub fn read_step(
         take: take.take,
         give: give.count,
     }
+}
+
+// The lines of what a step gives, at the place that the reader has reached.
+fn giving_from<'a>(
+    r: Reader<'a>,
+    take: TakeLines,
+    places: u16,
+    sizes: [u8; 32],
+    given: &mut [u16; Marking::ROWS],
+) -> StepLines
+    requires { ⌜ Roomy (sizesAt places sizes) ⌝ }
+    ensures { λ t. ⌜ record { lines = t; given = rowsIn (t .give) (now (given .exit)) } ≡ giveRows take (readBlock (bytes "give=") (limits lineLimit countLimit) (sizesAt places sizes) (now (r .entry .src)) (r .entry .at)) ⌝ }
+{
+    giving_at(r.src, r.at, take, places, sizes, given)
+}
+
+// The lines of a step, which begin its text: its event, from 1 to `events`, and the net-tokens that it takes and gives. The reader moves
+// behind the lines of the taken, and the given are read there. `taken` and `given` are room for their rows, left as above.
+pub fn read_step(
+    s: &[u8],
+    events: u16,
+    places: u16,
+    sizes: [u8; 32],
+    taken: &mut [u16; Marking::ROWS],
+    given: &mut [u16; Marking::ROWS],
+) -> StepLines
+    requires { ⌜ Roomy (sizesAt places sizes) ⌝ }
+    ensures { λ r. ⌜ record { lines = r; taken = rowsIn (r .take) (now (taken .exit)); given = rowsIn (r .give) (now (given .exit)) } ≡ stepRows (readStep (limits lineLimit countLimit) (sizesAt places sizes) events (now (s .entry)) 0) ⌝ }
+{
+    let r = Reader { src: s, at: 0 };
+    let take = taking_from(r, events, places, sizes, taken);
+    giving_from(r.moved(taking_end(take)), take, places, sizes, given)
 }

@@ -1,20 +1,26 @@
--- `read_model` meets its contract: it makes a reader of the text and calls `model_from`, which reads a model from the text's first byte on.
-use mathlib.Core.List.{[]}
-use base.Logic.{emp}
-use contract.Monad.{factI}
-use Rattle.text_reader.proofs.ReaderWalks.{makes}
-use Rattle.reader.specs.Answers.{modelFrom}
-use Rattle.reader.proofs.Passing.{model-reading}
-use Rattle.reader.proofs.model_from.Symbol as from
-use Rattle.reader.proofs.model_from.Met as proved
-use Rattle.reader.proofs.read_model as call
-use Rattle.reader.proofs.read_model.Key as key
+-- `read_model` meets its contract: a text that is too long, or what its lines answer.
+use borrow.Author.Needs.{needs}
 use Rattle.reader.proofs.read_model.Statement.{statement}
-use Rattle.reader.proofs.read_model.Code as code
+use Rattle.reader.proofs.read_model.Tie as tie
+use mathlib.Core.Path.{_∙_}
+use Rattle.reader.proofs.ReadingLaws.{model-long, model-answered}
+
+no-reading-requires : tie.Need-no-reading-requires
+no-reading-requires c κs = search needs
+
+returns : tie.Need-returns
+returns c = c .no-reading .ensures ∙ model-long _ (c .before .if1 .taken)
+
+model-lines-requires : tie.Need-model-lines-requires
+model-lines-requires c κs = search needs
+
+answer-of-requires : tie.Need-answer-of-requires
+answer-of-requires c κs = search needs
+
+returns-2 : tie.Need-returns-2
+returns-2 c =
+    let l = c .before .before .before in
+    model-answered _ (l .before .if1 .left) (l .model-lines .result) (l .model-lines .ensures) _ (c .answer-of .ensures)
 
 pub read-model-spec : {M : Type 1} → statement M
-unfolding code.routine
-read-model-spec 𝓤 H 𝓜 𝓖 𝓡 =
-    makes [] model-reading (λ κs. modelFrom) 𝓤 H 𝓜 𝓖 𝓡 code.env key.name from.name from.routine
-    (call.clauses 𝓤 H (𝓖 .A) (𝓜 .mem) (𝓡 .run)) (λ κs a y r e p. factI 𝓤 _ (emp 𝓤) p)
-    (code.unfolded 𝓤 H 𝓜 𝓡) code.calls-reader·model-from (proved.met 𝓤 H 𝓜 𝓖 𝓡)
+read-model-spec = tie.close (tie.spec no-reading-requires returns model-lines-requires answer-of-requires returns-2)

@@ -45,6 +45,7 @@ use denote.Triple.Walked.{says, needs, Stays, stay-dropped, stay-ref, AllGo, goe
 use denote.Exit.{yes}
 use denote.Triple.Clauses.{Lasts, lasts}
 use Rattle.text_reader.proofs.Walks.{stars, parts, unpack, pack, unpack-tokens, pack-tokens, sink, cell, room, var, let-go, numbers-tells, numbers-makes, numbers-typed, tests, returned, Ends, meets}
+use Rattle.text_reader.proofs.LentArrays.{bytes, bytes-tell}
 use Rattle.text_reader.specs.Place.{placed}
 use Rattle.text_reader.specs.declared.Reader.{Reader}
 use Rattle.text_reader.proofs.Readers.{reader-own, reader-typed, reader-twice, reader-whole}
@@ -63,7 +64,7 @@ use Rattle.runner_trace.specs.Parts.{Come, turnAt, Ready}
 use Rattle.runner_trace.proofs.TurnLaws.{Standing, turnsLeft, standing-start, standing-turn}
 use Rattle.runner_trace.proofs.Progress as P
 use Rattle.runner_trace.proofs.Progress.Laws as P′
-use Rattle.runner_trace.proofs.Arrays.{Sizes, bytes, sizes, counts, far, bytes-tell, sizes-vals, counts-tell, far-vals, far-tells, far-fits, far-typed, far-makes, Room, under, Lent, Held, Kept, lends, comes, ends-in}
+use Rattle.runner_trace.proofs.Arrays.{Sizes, sizes, counts, far, sizes-vals, counts-tell, far-vals, far-tells, far-fits, far-typed, far-makes, Room, under, Lent, Held, Kept, lends, comes, ends-in}
 use Rattle.runner_trace.proofs.turn_from as turn-from
 use Rattle.runner_trace.proofs.turn_from.Symbol as turn-from-def
 use Rattle.runner_trace.proofs.turn_from.Symbol.{name as #turn-from}

@@ -36,6 +36,7 @@ use denote.Triple.Walked.{says, needs, Stays, stay-dropped, gave-ref, AllGo, goe
 use denote.Exit.{yes}
 use denote.Triple.Clauses.{Lasts, lasts}
 use Rattle.text_reader.proofs.Walks.{parts, unpack, pack, var, let-go, numbers-tells, numbers-typed, returned, Ends, meets}
+use Rattle.text_reader.proofs.LentArrays.{bytes, bytes-tell}
 use Rattle.text_reader.specs.declared.Reader.{Reader}
 use Rattle.text_reader.proofs.Readers.{reader-vals, reader-tells, bytes-own, place-own, reader-typed, reader-apart}
 use Rattle.text_reader.proofs.Reader as R
@@ -44,7 +45,7 @@ use Rattle.model_packed.specs.Packed.{modelIn}
 use Rattle.runner_trace.specs.declared.Progress.{Progress}
 use Rattle.runner_trace.specs.Parts.{Come, turnAt, Ready}
 use Rattle.runner_trace.proofs.Progress as P
-use Rattle.runner_trace.proofs.Arrays.{bytes, sizes, counts, far, bytes-tell, sizes-vals, counts-tell, far-vals, far-tells, far-typed, ends-in}
+use Rattle.runner_trace.proofs.Arrays.{sizes, counts, far, sizes-vals, counts-tell, far-vals, far-tells, far-typed, ends-in}
 use Rattle.runner_trace.proofs.turn_at as turn-at
 use Rattle.runner_trace.proofs.turn_at.Symbol as turn-at-def
 use Rattle.runner_trace.proofs.turn_at.Symbol.{name as #turn-at}

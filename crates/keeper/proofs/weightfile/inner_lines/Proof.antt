@@ -1,50 +1,39 @@
 -- `inner_lines` holds the weights that are read. The loop's invariant: in each table, what is read from the start and put from the first
 -- net on is what is read from here and put from net i on.
-use borrow.Author.Needs.{needs}
 use Rattle.keeper.proofs.weightfile.inner_lines.Statement.{statement}
 use Rattle.keeper.proofs.weightfile.inner_lines.Tie as tie
+use borrow.Author.Needs.{needs}
 use Prim.Native.Nat.{_≤_, _-_}
 use mathlib.Core.Path.{_≡_, _∙_}
-use mathlib.Core.List.{[]}
 use native.Mathlib.Omega.{arith}
 use native.Mathlib.Nat.{sub-zero}
 use lib.ListN.{length}
 use denote.Ref.{now}
 use Rattle.text.specs.Repeat.{manyAt, filled}
 use Rattle.text.proofs.Loops.{done-at}
-use Rattle.model.specs.Held.{noNet}
-use Rattle.model.specs.declared.ObjectNet.{ObjectNet}
-use Rattle.model.proofs.HeldTestLoops.{at-any}
 use Rattle.keeper.specs.Parts.{readNetWeights}
-use Rattle.keeper.proofs.WeightFileLines.{putAbove, putBelow, above-more, below-more, nets-stop, inners-bad, inners-read, net-line}
-
--- what the code reads past the last net
-abbrev outside : ObjectNet
-outside = record { places = 0; transitions = 0; pre = []; post = [] }
+use Rattle.keeper.proofs.WeightFileLines.{putAbove, putBelow, above-more, below-more, nets-stop, inners-bad, inners-read}
 
 abbrev Inv-loop : tie.InvT-loop
-Inv-loop s from nets objects above₀ below₀ at₀ i₀ t18 above below at i =
+Inv-loop s from nets sizes above₀ below₀ at₀ i₀ t17 above below at i =
     (i ≤ nets) × (length above ≡ 288) × (length below ≡ 288)
-    × (filled putAbove 0 above₀ (manyAt (readNetWeights objects s) 0 nets from) ≡ filled putAbove i above (manyAt (readNetWeights objects s) i (nets - i) at))
-    × (filled putBelow 0 below₀ (manyAt (readNetWeights objects s) 0 nets from) ≡ filled putBelow i below (manyAt (readNetWeights objects s) i (nets - i) at))
+    × (filled putAbove 0 above₀ (manyAt (readNetWeights sizes s) 0 nets from) ≡ filled putAbove i above (manyAt (readNetWeights sizes s) i (nets - i) at))
+    × (filled putBelow 0 below₀ (manyAt (readNetWeights sizes s) 0 nets from) ≡ filled putBelow i below (manyAt (readNetWeights sizes s) i (nets - i) at))
 
 abbrev μ-loop : tie.MeasureT-loop
-μ-loop s from nets objects above₀ below₀ at₀ i₀ t18 above below at i = nets - i
-
-eight : (c : tie.Start Inv-loop μ-loop) → length (c .args .t4) ≡ 8
-eight c = search needs
+μ-loop s from nets sizes above₀ below₀ at₀ i₀ t17 above below at i = nets - i
 
 loop-holds : tie.Need-loop-holds Inv-loop μ-loop
 loop-holds c = (search needs, search needs, search needs, rw sub-zero, rw sub-zero)
 
-mul-size : tie.Need-mul-size Inv-loop μ-loop
-mul-size c = search needs
-
-element-copy-out-size : tie.Need-element-copy-out-size Inv-loop μ-loop
-element-copy-out-size c = search needs
-
 slice-aggregate-weight-line : tie.Need-slice-aggregate-weight-line Inv-loop μ-loop
 slice-aggregate-weight-line c = search needs
+
+mul-weight-line : tie.Need-mul-weight-line Inv-loop μ-loop
+mul-weight-line c = search needs
+
+array-read-weight-line : tie.Need-array-read-weight-line Inv-loop μ-loop
+array-read-weight-line c = search needs
 
 weight-line-requires : tie.Need-weight-line-requires Inv-loop μ-loop
 weight-line-requires c κs = search needs
@@ -59,17 +48,16 @@ no-lines-requires : tie.Need-no-lines-requires Inv-loop μ-loop
 no-lines-requires c κs = search needs
 
 returns : tie.Need-returns Inv-loop μ-loop
+unfolding readNetWeights
 returns c =
     let o = c .before in
     let r = o .before .before in
     let t = r .before .before in
     let l = t .before in
-    let a = l .before .before .before .before in
-    let m = eight a in
-    let e = at-any (a .args .t4) (l .loop .i) outside noNet (omega (arith, a .pre, t .loop-test .taken)) in
-    let line = net-line (a .args .t4) (now (a .args .s)) (l .loop .i) (l .loop .at) outside e _ (r .weight-line .ensures) in
+    let a = l .before .before .before .before .args in
+    let f = readNetWeights (a .t4) (now (a .s)) in
     c .no-lines .ensures
-    ∙ inners-bad _ _ _ _ (o .enum-told .given .1) (l .loop .inv .3 ∙ nets-stop _ _ _ _ (t .loop-test .taken) _ line _ (o .enum-told .given .1) _)
+    ∙ inners-bad _ _ _ _ (o .enum-told .given .1) (l .loop .inv .3 ∙ nets-stop f _ _ _ (t .loop-test .taken) _ (r .weight-line .ensures) _ (o .enum-told .given .1) _)
 
 slice-aggregate-put-counts : tie.Need-slice-aggregate-put-counts Inv-loop μ-loop
 slice-aggregate-put-counts c = search needs
@@ -102,6 +90,7 @@ loop-less : tie.Need-loop-less Inv-loop μ-loop
 loop-less c = search needs
 
 loop-again : tie.Need-loop-again Inv-loop μ-loop
+unfolding readNetWeights
 loop-again c =
     let q = c .before in
     let p = q .before .before .before in
@@ -109,21 +98,18 @@ loop-again c =
     let r = k .before .before in
     let t = r .before .before in
     let l = t .before in
-    let a = l .before .before .before .before in
-    let m = eight a in
-    let e = at-any (a .args .t4) (l .loop .i) outside noNet (omega (arith, a .pre, t .loop-test .taken)) in
-    let line = net-line (a .args .t4) (now (a .args .s)) (l .loop .i) (l .loop .at) outside e _ (r .weight-line .ensures) in (
+    let a = l .before .before .before .before .args in
+    let f = readNetWeights (a .t4) (now (a .s)) in (
       omega arith,
       p .put-counts .kept .0 ∙ l .loop .inv .1,
       q .put-counts2 .kept .0 ∙ l .loop .inv .2,
-      l .loop .inv .3 ∙ above-more _ _ _ _ (t .loop-test .taken) _ line _ (k .e .given .1) _ _ (p .put-counts .ensures),
-      l .loop .inv .4 ∙ below-more _ _ _ _ (t .loop-test .taken) _ line _ (k .e .given .1) _ _ (q .put-counts2 .ensures),
+      l .loop .inv .3 ∙ above-more f _ _ _ (t .loop-test .taken) _ (r .weight-line .ensures) _ (k .e .given .1) _ _ (p .put-counts .ensures),
+      l .loop .inv .4 ∙ below-more f _ _ _ (t .loop-test .taken) _ (r .weight-line .ensures) _ (k .e .given .1) _ _ (q .put-counts2 .ensures),
     )
 
 returns-2 : tie.Need-returns-2 Inv-loop μ-loop
 returns-2 c =
     let l = c .before in
-    let a = l .before .before .before .before in
     let d = c .loop-test .left in
     inners-read _ _ _ _ _ (l .loop .inv .3 ∙ done-at putAbove _ _ _ _ _ d) (l .loop .inv .4 ∙ done-at putBelow _ _ _ _ _ d)
 
@@ -134,9 +120,9 @@ inner-lines-spec =
     Inv-loop
     μ-loop
     loop-holds
-    mul-size
-    element-copy-out-size
     slice-aggregate-weight-line
+    mul-weight-line
+    array-read-weight-line
     weight-line-requires
     enum-known-e
     enum-told

@@ -42,10 +42,10 @@ stands s = both-stands (model s) (marked s) (s .pre .6) (s .pre .3)
 
 -- the rows that were read
 abbrev taken : tie.After-read-step → List Row
-taken c = rowsIn (c .read-step .result .take) (c .read-step .last .1 .1 .1 .1 .1 .0)
+taken c = rowsIn (c .read-step .result .take) (c .read-step .last .1 .1 .1 .1 .0)
 
 abbrev given : tie.After-read-step → List Row
-given c = rowsIn (c .read-step .result .give) (c .read-step .last .1 .1 .1 .1 .1 .1 .0)
+given c = rowsIn (c .read-step .result .give) (c .read-step .last .1 .1 .1 .1 .1 .0)
 
 rows-read : (c : tie.After-read-step)
     → record { lines = c .read-step .result; taken = taken c; given = given c }

@@ -1,0 +1,3 @@
+pub mod RowsFrom
+pub mod Passing
+pub mod GivingLaws
