@@ -31,7 +31,7 @@ use Rattle.marking.specs.declared.Marking.{Marking}
 use Rattle.marking.specs.declared.Block.{Block}
 use Rattle.marking.proofs.SizeLaws.{held-roomy, sizes-same}
 use Rattle.reader.specs.Reading.{bounds, Loaded, readEnd, readLines, readModelAt, readMarkingAt}
-use Rattle.reader.specs.Parts.{asSizes, placeSizes, sizesWhere, sizesBehind, Readied, toEnd, modelLinesOf, refusedLines, joinedLines}
+use Rattle.reader.specs.Parts.{asSizes, placeSizes, sizesWhere, sizesBehind, Readied, toEnd, modelLinesOf, noLines, joinedLines}
 
 -- ---- net-tokens to the end of the text
 
@@ -74,12 +74,12 @@ behind-roomy p h = where-roomy (p .ended) (p .model) h
 -- ---- a model with its start
 
 module _ (p : Reading) (b : Block) where
-  pub plant-refused : (d : Fault) → p .ended ≡ Stopped d → refusedLines d ≡ joinedLines p b
+  pub plant-refused : (d : Fault) → p .ended ≡ Stopped d → noLines (p .ended) ≡ joinedLines p b
   unfolding joinedLines
   plant-refused d e = rw e
 
   module _ (next : ℕ) (e : p .ended ≡ Past next) where
-    pub start-refused : (d : Fault) → b .ended ≡ Stopped d → refusedLines d ≡ joinedLines p b
+    pub start-refused : (d : Fault) → b .ended ≡ Stopped d → noLines (b .ended) ≡ joinedLines p b
     unfolding joinedLines
     start-refused d f = rw (e, f)
 

@@ -6,7 +6,6 @@ use lib.ListN.{replicate}
 use Rattle.text.specs.Bytes.{Text}
 use Rattle.text.specs.Lines.{Outcome}
 use Rattle.text.specs.Answers.{endedOf, keptOr}
-use Rattle.text.specs.declared.Fault.{Fault}
 use Rattle.text.specs.declared.Ended.{Ended}
 use Rattle.text.specs.declared.Ended.the-variants.{Past, Stopped}
 use Rattle.text_reader.specs.Place.{closed}
@@ -73,12 +72,13 @@ modelLinesOf o = record {
   start = keptOr noMarking (λ l. holdMarking (eos.canonical (l .start))) o;
 }
 
-abbrev pub refusedLines : Fault → ModelLines
-refusedLines e = record { ended = Stopped e; model = noModel; start = noMarking }
+-- no model and no net-token, and how the reading ended
+abbrev pub noLines : Ended → ModelLines
+noLines e = record { ended = e; model = noModel; start = noMarking }
 
 abbrev pub linesWhere : Ended → Ended → Model → Marking → ModelLines
-linesWhere (Stopped e) end m k = refusedLines e
-linesWhere (Past next) (Stopped e) m k = refusedLines e
+linesWhere (Stopped e) end m k = noLines (Stopped e)
+linesWhere (Past next) (Stopped e) m k = noLines (Stopped e)
 linesWhere (Past next) (Past end) m k = record { ended = Past end; model = m; start = k }
 
 -- a model and its start, joined: the fault of the first that is refused, or both

@@ -11,7 +11,7 @@ ghost use Rattle.marking.specs.Answers.{blockOf};
 ghost use Rattle.text.specs.Bytes.{bytes};
 ghost use Rattle.text_reader.specs.Place.{reached};
 ghost use Rattle.reader.specs.Reading.{bounds, readModelAt, readModel, readMarkingAt, readMarking};
-ghost use Rattle.reader.specs.Parts.{asSizes, placeSizes, sizesBehind, Readied, toEnd, modelLinesOf, refusedLines, joinedLines};
+ghost use Rattle.reader.specs.Parts.{asSizes, placeSizes, sizesBehind, Readied, toEnd, modelLinesOf, noLines, joinedLines};
 use super::ModelLines;
 use super::PlaceSizes;
 use marking::Block;
@@ -22,7 +22,6 @@ use model::Model;
 use model_read::read_plant;
 use model_text::Reading;
 use text::Ended;
-use text::Fault;
 use text_reader::Reader;
 use text_reader::closed;
 use text_reader::reached;
@@ -132,14 +131,14 @@ fn sizes_behind(read: Reading) -> PlaceSizes
     place_sizes(read.model)
 }
 
-// No model and no net-token, and the fault.
-fn refused_lines(fault: Fault) -> ModelLines
-    ensures { λ r. ⌜ r ≡ refusedLines fault ⌝ }
+// No model and no net-token, and how the reading ended.
+fn no_lines(ended: Ended) -> ModelLines
+    ensures { λ r. ⌜ r ≡ noLines ended ⌝ }
 {
     let model = Model::empty();
     let start = Marking::empty();
     ModelLines {
-        ended: Ended::Stopped { fault },
+        ended,
         model,
         start,
     }
@@ -150,13 +149,13 @@ fn loaded_of(read: Reading, start: Block) -> ModelLines
     ensures { λ r. ⌜ r ≡ joinedLines read start ⌝ }
 {
     let lines = read.ended;
-    if let Ended::Stopped { fault } = lines {
-        return refused_lines(fault);
-    }
+    let Ended::Past { next: _ } = lines else {
+        return no_lines(lines);
+    };
     let ended = start.ended;
-    if let Ended::Stopped { fault } = ended {
-        return refused_lines(fault);
-    }
+    let Ended::Past { next: _ } = ended else {
+        return no_lines(ended);
+    };
     let model = read.model;
     let marking = start.marking;
     ModelLines {

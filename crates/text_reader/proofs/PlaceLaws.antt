@@ -1,17 +1,14 @@
 -- The reading of a whole text, by where its lines ended: they are refused, bytes stand behind them, or nothing does.
 use Prim.Native.Nat.{ℕ, _≤_, _<_}
 use mathlib.Core.Path.{_≡_, refl}
-use lib.Dec.{leb}
 use lib.ListN.{length}
 use borrow.Author.Tests.{le-leb, lt-leb}
 use Rattle.text.specs.Bytes.{Text}
-use Rattle.text.proofs.Basics.{by-test}
-use Rattle.text.specs.Lines.{Outcome, got, bad, then, need, fault}
-use Rattle.text.specs.Answers.{endedOf}
+use Rattle.text.specs.Lines.{fault}
 use Rattle.text.specs.declared.Fault.{Fault}
 use Rattle.text.specs.declared.Ended.{Ended}
 use Rattle.text.specs.declared.Ended.the-variants.{Past, Stopped}
-use Rattle.text_reader.specs.Place.{reached, closed}
+use Rattle.text_reader.specs.Place.{closed}
 
 module _ (s : Text) (at : ℕ) (e : Ended) where
   pub closed-refused : (d : Fault) → e ≡ Stopped d → e ≡ closed s at e
@@ -26,9 +23,3 @@ module _ (s : Text) (at : ℕ) (e : Ended) where
     pub closed-whole : length s ≤ at → e ≡ closed s at e
     unfolding closed
     closed-whole h = rw (is, le-leb (length s) at h, closed)
-
--- that is how a reading ends behind which nothing may stand
-pub closes : {A : Type 0} (s : Text) (o : Outcome A) → closed s (reached (endedOf o)) (endedOf o) ≡ endedOf (then o λ a at. need (leb (length s) at) 2 at (got a at))
-unfolding closed endedOf then need
-closes s (got a next) = by-test (leb (length s) next) (λ h. rw (h, closed)) (λ h. rw (h, closed))
-closes s (bad e) = refl

@@ -5,48 +5,37 @@ use Rattle.reader.proofs.lines.loaded_of.Tie as tie
 use mathlib.Core.Path.{_∙_}
 use Rattle.reader.proofs.LineLaws.{plant-refused, start-refused, both-passed}
 
-enum-known-lines : tie.Need-enum-known-lines
-enum-known-lines c = search needs
-
-refused-lines-requires : tie.Need-refused-lines-requires
-refused-lines-requires c κs = search needs
-
-returns : tie.Need-returns
-returns c = c .refused-lines .ensures ∙ plant-refused _ _ _ (c .before .before .lines .given .1)
-
 enum-told : tie.Need-enum-told
 enum-told c = search needs
-
-enum-known-ended : tie.Need-enum-known-ended
-enum-known-ended c = search needs
-
-refused-lines-requires-2 : tie.Need-refused-lines-requires-2
-refused-lines-requires-2 c κs = search needs
-
-returns-2 : tie.Need-returns-2
-returns-2 c =
-    let e = c .before .before in
-    let t = e .before .before in
-    c .refused-lines2 .ensures ∙ start-refused _ _ _ (t .enum-told .given .1) _ (e .ended .given .1)
 
 enum-told-2 : tie.Need-enum-told-2
 enum-told-2 c = search needs
 
+no-lines-requires : tie.Need-no-lines-requires
+no-lines-requires c κs = search needs
+
+returns : tie.Need-returns
+returns c = c .no-lines .ensures ∙ plant-refused _ _ _ (c .before .enum-told2 .given .1)
+
+enum-told-3 : tie.Need-enum-told-3
+enum-told-3 c = search needs
+
+enum-told-4 : tie.Need-enum-told-4
+enum-told-4 c = search needs
+
+no-lines-requires-2 : tie.Need-no-lines-requires-2
+no-lines-requires-2 c κs = search needs
+
+returns-2 : tie.Need-returns-2
+returns-2 c =
+    let e = c .before in
+    c .no-lines2 .ensures ∙ start-refused _ _ _ (e .before .before .enum-told .given .1) _ (e .enum-told4 .given .1)
+
 returns-3 : tie.Need-returns-3
 returns-3 c =
     let t = c .before .before in
-    both-passed _ _ _ (t .before .before .enum-told .given .1) _ (t .enum-told2 .given .1)
+    both-passed _ _ _ (t .before .before .enum-told .given .1) _ (t .enum-told3 .given .1)
 
 pub loaded-of-spec : {M : Type 1} → statement M
 loaded-of-spec =
-    tie.close
-    (tie.spec
-    enum-known-lines
-    refused-lines-requires
-    returns
-    enum-told
-    enum-known-ended
-    refused-lines-requires-2
-    returns-2
-    enum-told-2
-    returns-3)
+    tie.close (tie.spec enum-told enum-told-2 no-lines-requires returns enum-told-3 enum-told-4 no-lines-requires-2 returns-2 returns-3)
