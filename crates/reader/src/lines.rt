@@ -166,7 +166,7 @@ fn loaded_of(read: Reading, start: Block) -> ModelLines
 }
 
 // The start of a model whose lines were read, from the place that the reader has reached; both together.
-fn start_behind<'a>(read: Reading, r: Reader<'a>) -> ModelLines
+fn loaded_from<'a>(read: Reading, r: Reader<'a>) -> ModelLines
     requires { ⌜ Readied read ⌝ }
     ensures { λ o. ⌜ o ≡ joinedLines read (blockOf (readMarkingAt (asSizes (sizesBehind read)) (now (r .entry .src)) (r .entry .at))) ⌝ }
 {
@@ -178,7 +178,7 @@ fn model_from<'a>(r: Reader<'a>) -> ModelLines
     ensures { λ o. ⌜ o ≡ modelLinesOf (readModelAt (now (r .entry .src)) (r .entry .at)) ⌝ }
 {
     let plant = plant_from(r);
-    start_behind(plant, r.moved(plant_end(plant)))
+    loaded_from(plant, r.moved(plant_end(plant)))
 }
 
 // The lines of a model with its start: its whole text.

@@ -21,8 +21,8 @@ use Rattle.reader.proofs.lines.plant_from.Symbol as first
 use Rattle.reader.proofs.lines.plant_from.Met as reads
 use Rattle.reader.proofs.lines.plant_end.Symbol as reach
 use Rattle.reader.proofs.lines.plant_end.Met as reaches
-use Rattle.reader.proofs.lines.start_behind.Symbol as start
-use Rattle.reader.proofs.lines.start_behind.Met as starts
+use Rattle.reader.proofs.lines.loaded_from.Symbol as start
+use Rattle.reader.proofs.lines.loaded_from.Met as starts
 use Rattle.reader.proofs.lines.model_from as call
 use Rattle.reader.proofs.lines.model_from.Key as key
 use Rattle.reader.proofs.lines.model_from.Statement.{statement}
@@ -38,5 +38,5 @@ model-from-spec 𝓤 H 𝓜 𝓖 𝓡 =
     (λ κs a y r e h p. factI 𝓤 _ (emp 𝓤) (p ∙ lines-joined (now (a .0 .src)) (a .0 .at)))
     (λ κs a. emp 𝓤) (λ κs a h. id⊢ 𝓤 _)
     (λ κs a. fact 𝓤 (Readied (a .0))) (λ κs a h. factI 𝓤 _ (emp 𝓤) (plant-readied (now (a .0 .src)) (a .0 .at)))
-    (code.unfolded 𝓤 H 𝓜 𝓡) code.calls-reader·lines·plant-from code.calls-reader·lines·plant-end code.calls-text-reader·Reader·moved code.calls-reader·lines·start-behind
+    (code.unfolded 𝓤 H 𝓜 𝓡) code.calls-reader·lines·plant-from code.calls-reader·lines·plant-end code.calls-text-reader·Reader·moved code.calls-reader·lines·loaded-from
     (reads.met 𝓤 H 𝓜 𝓖 𝓡) (reaches.met 𝓤 H 𝓜 𝓖 𝓡) (moves.met 𝓤 H 𝓜 𝓖 𝓡) (starts.met 𝓤 H 𝓜 𝓖 𝓡)

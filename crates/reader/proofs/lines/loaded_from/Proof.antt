@@ -1,4 +1,4 @@
--- `start_behind` meets its contract: the start is read with the sizes of the model, and joined to it.
+-- `loaded_from` meets its contract: the start is read with the sizes of the model, and joined to it.
 use base.Logic.{emp, id⊢}
 use contract.Monad.{fact, factI}
 use denote.Ref.{now}
@@ -15,14 +15,14 @@ use Rattle.reader.proofs.lines.start_from.Symbol as start
 use Rattle.reader.proofs.lines.start_from.Met as reads
 use Rattle.reader.proofs.lines.loaded_of.Symbol as join
 use Rattle.reader.proofs.lines.loaded_of.Met as joins
-use Rattle.reader.proofs.lines.start_behind as call
-use Rattle.reader.proofs.lines.start_behind.Key as key
-use Rattle.reader.proofs.lines.start_behind.Statement.{statement}
-use Rattle.reader.proofs.lines.start_behind.Code as code
+use Rattle.reader.proofs.lines.loaded_from as call
+use Rattle.reader.proofs.lines.loaded_from.Key as key
+use Rattle.reader.proofs.lines.loaded_from.Statement.{statement}
+use Rattle.reader.proofs.lines.loaded_from.Code as code
 
-pub start-behind-spec : {M : Type 1} → statement M
+pub loaded-from-spec : {M : Type 1} → statement M
 unfolding code.routine
-start-behind-spec 𝓤 H 𝓜 𝓖 𝓡 =
+loaded-from-spec 𝓤 H 𝓜 𝓖 𝓡 =
     in-between plant place-sizes block model-lines sizesBehind (λ κs a. blockOf (readMarkingAt (asSizes (a .0)) (now (a .1 .0 .src)) (a .1 .0 .at))) joinedLines
     𝓤 H 𝓜 𝓖 𝓡 code.env key.name sizes.name start.name join.name sizes.routine start.routine join.routine
     (call.clauses 𝓤 H (𝓖 .A) (𝓜 .mem) (𝓡 .run)) (λ κs a. Readied (a .0)) (λ κs a g. id⊢ 𝓤 _) (λ κs a y r e h p. factI 𝓤 _ (emp 𝓤) p)
