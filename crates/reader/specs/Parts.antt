@@ -39,6 +39,7 @@ asSizes z = sizesAt (z .places) (z .sizes)
 abbrev pub placeSizes : Model → PlaceSizes
 placeSizes m = record { places = m .places; sizes = sizesIn m }
 
+-- those of a model whose lines ended so
 abbrev pub sizesWhere : Ended → Model → PlaceSizes
 sizesWhere (Past next) m = placeSizes m
 sizesWhere (Stopped e) m = record { places = 0; sizes = replicate 32 0 }
@@ -76,6 +77,7 @@ modelLinesOf o = record {
 abbrev pub noLines : Ended → ModelLines
 noLines e = record { ended = e; model = noModel; start = noMarking }
 
+-- a model and its start whose lines ended so
 abbrev pub linesWhere : Ended → Ended → Model → Marking → ModelLines
 linesWhere (Stopped e) end m k = noLines (Stopped e)
 linesWhere (Past next) (Stopped e) m k = noLines (Stopped e)
