@@ -37,9 +37,9 @@
 extern "C" {
 #endif
 
-/* The version of this header, here 1.0.0: 10,000 times its first number, 100 times its second, and its third. The first is raised when what
+/* The version of this header, here 2.0.0: 10,000 times its first number, 100 times its second, and its third. The first is raised when what
  * is here changes, so that a caller has to be compiled anew; the second when something is added; the third for all else. */
-#define FP_VERSION 10000
+#define FP_VERSION 20000
 
 /* ==== What is answered: a number, and what stands beside it. The first cause in the stated order is answered: FP_TOO_LONG, FP_NOT_HELD,
  * then those of the lines in turn, then the others in the order of their numbers. Lines are counted from 1, those of a step from its own
@@ -268,7 +268,7 @@ static inline fp_ran_at fp_run_at(const fp_model *model, fp_marking *marking, co
 }
 
 /* The spread: the number of ordered ways to share so many like tokens among so many racks. Refused by 3, with 0 ways. */
-#define FP_STACK_WAYS (1 * 1024)
+#define FP_STACK_WAYS (6 * 1024)
 typedef struct fp_spread {
     size_t number;
     size_t beside;

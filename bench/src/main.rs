@@ -9,6 +9,7 @@ use plants::Plant;
 use reference::engine::{Engine, Reference};
 use reference::ffi::Proved;
 use reference::held::{HeldMarking, HeldModel};
+use reference::spread::{MOST_RACKS, MOST_TOKENS};
 use std::hint::black_box;
 
 /// A plant as it was read.
@@ -58,10 +59,19 @@ fn write_marking(engine: &dyn Engine, at: &Read, out: &mut [u8]) {
     black_box(&out);
 }
 
+/// Every spread in range, a call each.
+fn ways(engine: &dyn Engine) {
+    for tokens in 0..=MOST_TOKENS {
+        for racks in 0..=MOST_RACKS {
+            black_box(engine.ways(black_box(tokens), black_box(racks)));
+        }
+    }
+}
+
 /// The two engines' times for a call, and their ratio.
-fn row(what: &str, plant: &Plant, times: usize, call: impl Fn(&dyn Engine)) -> Row {
+fn row(what: &str, on: &'static str, times: usize, call: impl Fn(&dyn Engine)) -> Row {
     let reference = Reference::new();
-    measure::row(what, plant.name, times, || call(&Proved), || call(&reference))
+    measure::row(what, on, times, || call(&Proved), || call(&reference))
 }
 
 fn calls(plant: &Plant) -> Vec<Row> {
@@ -70,15 +80,15 @@ fn calls(plant: &Plant) -> Vec<Row> {
     let fired = (run(&Proved, plant, &at), run(&Reference::new(), plant, &at));
     assert_eq!(fired, (plant.steps, plant.steps), "{}: every step fires", plant.name);
     let mut rows = vec![
-        row("read_model", plant, 10, |e| read_model(e, plant)),
-        row("check_weights", plant, 10, |e| check_weights(e, plant, &at)),
-        row("write_marking", plant, 10, |e| {
+        row("read_model", plant.name, 10, |e| read_model(e, plant)),
+        row("check_weights", plant.name, 10, |e| check_weights(e, plant, &at)),
+        row("write_marking", plant.name, 10, |e| {
             write_marking(e, &at, &mut out.borrow_mut())
         }),
     ];
     if plant.steps > 0 {
-        rows.push(row("step", plant, 20, |e| step(e, plant, &at)));
-        rows.push(row("run", plant, 1, |e| {
+        rows.push(row("step", plant.name, 20, |e| step(e, plant, &at)));
+        rows.push(row("run", plant.name, 1, |e| {
             run(e, plant, &at);
         }));
     }
@@ -100,7 +110,7 @@ fn growth(plants: &[Plant]) {
 fn main() {
     println!(
         "{:16}{:36}{:>12}{:>12}{:>8}",
-        "call", "plant", "proved µs", "separate µs", "ratio"
+        "call", "on", "proved µs", "separate µs", "ratio"
     );
     for plant in plants::measured() {
         println!(
@@ -113,5 +123,6 @@ fn main() {
             println!("{row}");
         }
     }
+    println!("{}", row("ways", "each of the 544 spreads", 10, ways));
     growth(&plants::growing());
 }

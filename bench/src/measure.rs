@@ -5,10 +5,10 @@ use std::time::Instant;
 
 const ROUNDS: usize = 31;
 
-/// A call on a plant: the seconds that one call takes, with the proved engine and with the separate one.
+/// A call and what it is made on: the seconds that it takes with the proved engine and with the separate one.
 pub struct Row {
     what: String,
-    plant: &'static str,
+    on: &'static str,
     proved: f64,
     separate: f64,
 }
@@ -32,7 +32,7 @@ pub fn median(mut call: impl FnMut()) -> f64 {
 }
 
 /// Rounds in which the two engines take turns.
-pub fn row(what: &str, plant: &'static str, times: usize, mut proved: impl FnMut(), mut separate: impl FnMut()) -> Row {
+pub fn row(what: &str, on: &'static str, times: usize, mut proved: impl FnMut(), mut separate: impl FnMut()) -> Row {
     let (mut ours, mut theirs) = (Vec::new(), Vec::new());
     for _ in 0..ROUNDS {
         ours.push(seconds(times, &mut proved));
@@ -40,7 +40,7 @@ pub fn row(what: &str, plant: &'static str, times: usize, mut proved: impl FnMut
     }
     Row {
         what: what.to_string(),
-        plant,
+        on,
         proved: middle(ours),
         separate: middle(theirs),
     }
@@ -50,14 +50,14 @@ impl fmt::Display for Row {
     fn fmt(&self, f: &mut fmt::Formatter) -> fmt::Result {
         let Row {
             what,
-            plant,
+            on,
             proved,
             separate,
         } = self;
         let ratio = proved / separate;
         write!(
             f,
-            "{what:16}{plant:36}{:12.2}{:12.2}{ratio:8.2}",
+            "{what:16}{on:36}{:12.2}{:12.2}{ratio:8.2}",
             proved * 1e6,
             separate * 1e6
         )

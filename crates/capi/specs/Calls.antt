@@ -23,9 +23,9 @@ use Rattle.capi.specs.declared.StepDone.{StepDone}
 use Rattle.capi.specs.declared.RunDone.{RunDone}
 use Rattle.capi.specs.declared.Shared.{Shared}
 
--- the version of the header and of the archive, here 1.0.0: 10,000 times its first number, 100 times its second, and its third
+-- the version of the header and of the archive, here 2.0.0: 10,000 times its first number, 100 times its second, and its third
 abbrev pub version : ℕ
-version = 10000
+version = 20000
 
 abbrev pub modelRead : ModelReading → ModelRead
 modelRead r = record { number = readPair (r .answer) .number; beside = readPair (r .answer) .beside; model = r .model; start = r .start }

@@ -84,7 +84,7 @@ pub struct Shared {
 pub extern "C" fn fp_version() -> usize
     ensures { λ r. ⌜ r ≡ version ⌝ }
 {
-    10000
+    20000
 }
 
 #[no_mangle]

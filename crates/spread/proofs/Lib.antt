@@ -1,2 +1,3 @@
-pub mod PascalRows
+pub mod TableLaws
+pub mod CallLaws
 pub mod Cases

@@ -1,7 +1,6 @@
 -- What the spread call answers (01: n over 31 is 3 beside 1, then k over 16 is 3 beside 2; the value is then 0).
-use Prim.Native.Nat.{ℕ, zero, suc}
+use Prim.Native.Nat.{ℕ}
 use mathlib.Core.Bool.{true, false}
-use mathlib.Core.List.{List, [], _∷_}
 use lib.Dec.{leb}
 use Rattle.eos.specs.Causes.{Refusal}
 use Rattle.eos.specs.Spread.{spread}
@@ -21,12 +20,3 @@ spreadValue RacksOver = 0
 
 unfoldable pub spreadCall : ℕ → ℕ → Spread
 spreadCall n k = elim (leb n 31) [ true ↦ elim (leb k 16) [ true ↦ Ways (spread n k) | false ↦ RacksOver ] | false ↦ TokensOver ]
-
--- the spreads of t tokens among j racks, among j + 1 and so on, n of them
-unfoldable pub spreads : ℕ → ℕ → ℕ → List ℕ
-spreads t j zero = []
-spreads t j (suc n) = spread t j ∷ spreads t (suc j) n
-
--- the row of t tokens: the spreads among 0 to 16 racks
-unfoldable pub spreadRow : ℕ → List ℕ
-spreadRow t = spreads t 0 17
