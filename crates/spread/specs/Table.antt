@@ -9,6 +9,6 @@ use Rattle.eos.specs.Spread.{spread}
 abbrev pub entryOf : List ℕ → ℕ → ℕ → ℕ
 entryOf t n k = getD t (n * 17 + k) 0
 
--- every entry is the spread
+-- every entry is the spread; that there are 544 is said by the type of the array
 unfoldable pub SpreadTable : List ℕ → Type 0
 SpreadTable t = (n k : ℕ) → n ≤ 31 → k ≤ 16 → entryOf t n k ≡ spread n k

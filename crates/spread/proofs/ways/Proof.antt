@@ -12,6 +12,7 @@ returns c = call-tokens _ _ (omega arith)
 returns-2 : tie.Need-returns-2
 returns-2 c = call-racks _ _ (omega arith) (omega arith)
 
+-- `tt`: the rule's test, computed over the whole of `SPREADS`
 entry-requires : tie.Need-entry-requires
 entry-requires c κs = (search needs, (search needs, holds-spreads _ tt))
 
