@@ -1,5 +1,7 @@
 // The calls of the engine for C, as include/furzepenny.h declares them. Texts and buffers are lent, held models and markings go by value;
 // an answer's enum is its number in 01's table and what stands beside it.
+#![tactic(auto)]
+
 ghost use Rattle.std.specs.Prelude.{◌≡◌};
 ghost use Rattle.model.specs.Test.{held_model};
 ghost use Rattle.reader.specs.Answers.{model_reading, marking_reading, held_both, marking_writing, lay_whole};
@@ -17,7 +19,7 @@ use values::{bytes_of, one_or_none, used_by, ways_in};
 mod values;
 
 #[repr(C)]
-#[derive(Drop)]
+#[derive(Clone, Copy)]
 pub struct ModelRead {
     pub number: usize,
     pub beside: usize,
@@ -26,7 +28,7 @@ pub struct ModelRead {
 }
 
 #[repr(C)]
-#[derive(Drop)]
+#[derive(Clone, Copy)]
 pub struct MarkingRead {
     pub number: usize,
     pub beside: usize,
@@ -34,7 +36,7 @@ pub struct MarkingRead {
 }
 
 #[repr(C)]
-#[derive(Drop)]
+#[derive(Clone, Copy)]
 pub struct TextWritten {
     pub number: usize,
     pub beside: usize,
@@ -42,7 +44,7 @@ pub struct TextWritten {
 }
 
 #[repr(C)]
-#[derive(Drop)]
+#[derive(Clone, Copy)]
 pub struct Weighed {
     pub number: usize,
     pub beside: usize,
@@ -52,7 +54,7 @@ pub struct Weighed {
 }
 
 #[repr(C)]
-#[derive(Drop)]
+#[derive(Clone, Copy)]
 pub struct StepDone {
     pub number: usize,
     pub beside: usize,
@@ -61,7 +63,7 @@ pub struct StepDone {
 }
 
 #[repr(C)]
-#[derive(Drop)]
+#[derive(Clone, Copy)]
 pub struct RunDone {
     pub number: usize,
     pub beside: usize,
@@ -71,7 +73,7 @@ pub struct RunDone {
 }
 
 #[repr(C)]
-#[derive(Drop)]
+#[derive(Clone, Copy)]
 pub struct Shared {
     pub number: usize,
     pub beside: usize,

@@ -6,7 +6,7 @@ use text::Decimal;
 use text_scan::{number, starts};
 
 // A byte of the text, and the position after what stands for it.
-#[derive(Drop)]
+#[derive(Clone, Copy)]
 struct Byte {
     value: u8,
     next: usize,

@@ -1,5 +1,7 @@
 // Runs the cases of 01 that are not in the proved table, and prints what each call answers: the number of the cause and what stands
 // beside it. The cases are the lines of the file `cases`; those on held things that no reading gives are in `held`.
+#![tactic(auto)]
+
 ghost use Rattle.io.specs.Counts.{IsPrefixLen};
 
 use answers::put;
@@ -13,7 +15,7 @@ mod held;
 mod line;
 
 // The model and the marking in hand.
-#[derive(Drop)]
+#[derive(Clone, Copy)]
 struct Hand {
     model: Model,
     marking: Marking,

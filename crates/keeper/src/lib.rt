@@ -1,4 +1,6 @@
 // The Keeper level: a weight file is read for a held model, judged, and weighed on a held marking.
+#![tactic(auto)]
+
 ghost use Rattle.std.specs.Prelude.{◌≡◌, true, ◌&&◌, ◌-◌};
 ghost use Rattle.eos.specs.Weights.{Weights, weigh};
 ghost use Rattle.model.specs.Held.{model_of};
@@ -25,14 +27,14 @@ mod weightfile;
 
 // The weights of a model's places, each as its part above 0 and its part below 0: nine rows of 32, the outer weights and then those of
 // each net. Unused room is 0.
-#[derive(Drop)]
+#[derive(Clone, Copy)]
 pub struct HeldWeights {
     pub above: [u16; 288],
     pub below: [u16; 288],
 }
 
 // How many weights the lines of a model's weight file have: for the places, and for those of each net.
-#[derive(Drop)]
+#[derive(Clone, Copy)]
 pub struct WeightShape {
     pub places: usize,
     pub nets: usize,
@@ -40,14 +42,14 @@ pub struct WeightShape {
 }
 
 // How the reading of a weight file ended, and the weights; a refusal holds none.
-#[derive(Drop)]
+#[derive(Clone, Copy)]
 pub struct WeightLines {
     pub ended: Ended,
     pub weights: HeldWeights,
 }
 
 // How the check of a weight file ended.
-#[derive(Drop)]
+#[derive(Clone, Copy)]
 pub enum WeightAnswer {
     Passed,
     TooLong,
@@ -57,14 +59,14 @@ pub enum WeightAnswer {
 }
 
 // The part of a sum above 0 and its part below 0, of which one is 0.
-#[derive(Drop)]
+#[derive(Clone, Copy)]
 pub struct Sum {
     pub above: u64,
     pub below: u64,
 }
 
 // The answer; for weights that pass, the marking's weighted sum and whether the weights cover.
-#[derive(Drop)]
+#[derive(Clone, Copy)]
 pub struct WeightCheck {
     pub answer: WeightAnswer,
     pub sum: Sum,

@@ -1,4 +1,6 @@
 // What the program `rackrun` prints for the texts of its three files.
+#![tactic(auto)]
+
 ghost use Rattle.std.specs.Prelude.{◌≡◌, true, ◌++◌, ◌+◌, ◌≤◌, length, take};
 ghost use Rattle.text.specs.Bytes.{bytes};
 ghost use Rattle.marking.specs.Held.{tokens_of};

@@ -1,4 +1,6 @@
 // The held marking: net-tokens in canonical order, how they are read, held, tested and written. Definitions and laws.
+#![tactic(auto)]
+
 ghost use Rattle.std.specs.Prelude.{◌≡◌};
 ghost use Rattle.marking.specs.Held.{no_marking};
 
@@ -6,7 +8,7 @@ use model::Model;
 use text::Ended;
 
 // One net-token: its place's number, from 1, and its counts. Unused room is 0.
-#[derive(Drop)]
+#[derive(Clone, Copy)]
 pub struct NetToken {
     pub place: u16,
     pub counts: [u16; 32],
@@ -15,7 +17,7 @@ pub struct NetToken {
 // Net-tokens in canonical order, as many as there is room for. A net-token is a row of 33 numbers: its place's number, from 1, and its counts. Unused room
 // is 0.
 #[repr(C)]
-#[derive(Drop)]
+#[derive(Clone, Copy)]
 pub struct Marking {
     pub len: usize,
     pub rows: [u16; Marking::ROWS],
@@ -37,7 +39,7 @@ impl Marking {
 }
 
 // How the reading of net-tokens ended, and the net-tokens; a refusal holds none.
-#[derive(Drop)]
+#[derive(Clone, Copy)]
 pub struct Block {
     pub ended: Ended,
     pub marking: Marking,

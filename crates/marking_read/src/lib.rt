@@ -1,4 +1,6 @@
 // Net-tokens read from their lines into a marking.
+#![tactic(auto)]
+
 ghost use Rattle.std.specs.Prelude.{◌≡◌, ◌∷◌, ◌≤◌};
 ghost use Rattle.text.specs.Lines.{many};
 ghost use Rattle.model.specs.Limits.{line_limit, count_limit};

@@ -1,4 +1,6 @@
 // Rows of 33 numbers, a net-token's place and its 32 counts, kept in ascending order in a flat array: compared, found and counted.
+#![tactic(auto)]
+
 ghost use Rattle.std.specs.Prelude.{◌≡◌, ◌+◌, ◌*◌, ◌≤◌, eqb, length, take, drop};
 ghost use Rattle.eos.specs.Vector.{eq_v, lex_v};
 ghost use Rattle.eos.specs.Multiset as M;

@@ -1,4 +1,6 @@
 // How many counts the net-tokens of a held model have on each place, and the test of a held marking.
+#![tactic(auto)]
+
 ghost use Rattle.std.specs.Prelude.{◌≡◌, ◌+◌, ◌*◌, ◌≤◌, length, take, drop, get_or, true};
 ghost use Rattle.text.specs.Lines.{every};
 ghost use Rattle.model.specs.Limits.{room_limit};

@@ -1,4 +1,6 @@
 // A held marking written into a lent buffer. Its bytes are counted first: a buffer that is too small is not touched.
+#![tactic(auto)]
+
 ghost use Rattle.std.specs.Prelude.{◌≡◌, true, ℕ, ◌+◌, ◌-◌, ◌*◌, ◌≤◌, ◌<◌, length, take, drop, get_or};
 ghost use Rattle.std.proofs.lemmas.List.Edits.{sets};
 ghost use Rattle.text.specs.Printed.{decimal, end_text, texts};

@@ -1,11 +1,13 @@
 // The held model: a plant's places, moves, object nets and events in arrays of fixed room. The rules for a model, how it is held and the
 // test of a held model: definitions and laws.
+#![tactic(auto)]
+
 ghost use Rattle.std.specs.Prelude.{◌≡◌};
 ghost use Rattle.model.specs.Held.{no_net, no_event, no_model};
 
 // An object net; arcs at transition * 32 + place. Unused room is 0.
 #[repr(C)]
-#[derive(Drop)]
+#[derive(Clone, Copy)]
 pub struct ObjectNet {
     pub places: usize,
     pub transitions: usize,
@@ -29,7 +31,7 @@ impl ObjectNet {
 // An event: of kind 1 a move, of kind 2 idling at a place; the index is the move's or the place's number, from 1. The count of a
 // transition stands at net * 32 + transition. Unused room is 0.
 #[repr(C)]
-#[derive(Drop)]
+#[derive(Clone, Copy)]
 pub struct Event {
     pub kind: u8,
     pub index: u8,
@@ -53,7 +55,7 @@ impl Event {
 
 // The held model; arcs at move * 32 + place. Unused room is 0.
 #[repr(C)]
-#[derive(Drop)]
+#[derive(Clone, Copy)]
 pub struct Model {
     pub nets: usize,
     pub places: usize,

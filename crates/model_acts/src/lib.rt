@@ -1,5 +1,7 @@
 // What the kind and the index of an event say: which index it may have, which net is its own, which move it has, and what it takes or gives
 // outside. The kinds are told apart here and where the lines of an event are read, and nowhere else.
+#![tactic(auto)]
+
 ghost use Rattle.std.specs.Prelude.{◌≡◌, List, ℕ, ◌+◌, ◌*◌, ◌≤◌, length};
 ghost use Rattle.model.specs.Rules.{nth};
 ghost use Rattle.model.specs.Acts.{held_act, own_in, move_in, outer_in};

@@ -1,4 +1,6 @@
 // The lines of the events.
+#![tactic(auto)]
+
 ghost use Rattle.std.specs.Prelude.{◌≡◌, ◌≤◌, ◌<◌};
 ghost use Rattle.text.specs.Lines.{many};
 ghost use Rattle.text.specs.Repeat.{many_at};

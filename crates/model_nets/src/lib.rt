@@ -1,4 +1,6 @@
 // The lines `pre` and `post` of moves and of transitions, and the lines of the object nets.
+#![tactic(auto)]
+
 ghost use Rattle.std.specs.Prelude.{◌≡◌, map, ◌≤◌, ◌%◌};
 ghost use Rattle.text.specs.Lines.{many, bad};
 ghost use Rattle.model.specs.Rules.{nth, monotonous};

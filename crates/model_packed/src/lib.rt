@@ -1,4 +1,6 @@
 // A held model packed: its numbers in one row of bytes, so that its parts are lent as slices and nothing of it is copied.
+#![tactic(auto)]
+
 ghost use Rattle.std.specs.Prelude.{◌≡◌, ◌+◌, ◌≤◌, min, length};
 ghost use Rattle.std.proofs.lemmas.List.Edits.{sets};
 ghost use Rattle.model_packed.specs.Packed.{net_bytes, event_bytes, concat_map, packed_bytes};

@@ -1,4 +1,6 @@
 // The lines of a model, from `eos` to its last event.
+#![tactic(auto)]
+
 ghost use Rattle.std.specs.Prelude.{◌≡◌, ◌≤◌, replicate};
 ghost use Rattle.model.specs.Rules.{nth, monotonous};
 ghost use Rattle.model.specs.Held.{no_net, no_event, no_model};

@@ -1,4 +1,6 @@
 // The rules of 01 that look into arrays: monotonous typing, and who takes part in an idling event.
+#![tactic(auto)]
+
 ghost use Rattle.std.specs.Prelude.{◌≡◌, ◌≤◌, not, eqb};
 ghost use Rattle.model.specs.Rules.{nth, touches, monotonous, takes_part};
 ghost use Rattle.text.specs.Lines.{every};

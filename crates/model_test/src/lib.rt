@@ -1,4 +1,6 @@
 // The test of a held model: counts in range, unused room 0, and the rules on types, moves and events. Tests over arrays run to their end.
+#![tactic(auto)]
+
 ghost use Rattle.std.specs.Prelude.{◌≡◌, ◌&&◌, cond, ℕ, ◌*◌, ◌+◌, ◌≤◌, eqb, leb, ltb, length, drop, get_or};
 ghost use Rattle.text.specs.Lines.{in_range};
 ghost use Rattle.eos.specs.Firing.{all_below};

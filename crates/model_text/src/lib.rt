@@ -1,66 +1,68 @@
 // How the lines of a model, from `eos` to its last event, are read into a held model; what the readers of the crates above answer.
+#![tactic(auto)]
+
 use model::{Event, Model, ObjectNet};
 use text::{Ended, Fault};
 
 // What the readers of a model's lines answer: how the reading ended, beside what was read; a refusal holds nothing.
-#[derive(Drop)]
+#[derive(Clone, Copy)]
 pub struct Sides {
     pub ended: Ended,
     pub pre: [u8; 32],
     pub post: [u8; 32],
 }
 
-#[derive(Drop)]
+#[derive(Clone, Copy)]
 pub struct Tables {
     pub ended: Ended,
     pub pre: [u8; 1024],
     pub post: [u8; 1024],
 }
 
-#[derive(Drop)]
+#[derive(Clone, Copy)]
 pub struct NetLines {
     pub ended: Ended,
     pub net: ObjectNet,
 }
 
-#[derive(Drop)]
+#[derive(Clone, Copy)]
 pub struct Nets {
     pub ended: Ended,
     pub nets: [ObjectNet; 8],
 }
 
-#[derive(Drop)]
+#[derive(Clone, Copy)]
 pub enum Acting {
     Acts { kind: u8, index: u8, next: usize },
     Refused { fault: text::Fault },
 }
 
-#[derive(Drop)]
+#[derive(Clone, Copy)]
 pub struct Syncs {
     pub ended: Ended,
     pub sync: [u8; Event::SYNC],
 }
 
-#[derive(Drop)]
+#[derive(Clone, Copy)]
 pub struct Counts {
     pub ended: Ended,
     pub counts: [u8; 32],
 }
 
-#[derive(Drop)]
+#[derive(Clone, Copy)]
 pub struct EventLines {
     pub ended: Ended,
     pub event: Event,
 }
 
-#[derive(Drop)]
+#[derive(Clone, Copy)]
 pub struct Events {
     pub ended: Ended,
     pub events: [Event; 64],
 }
 
 // The model's lines in three parts.
-#[derive(Drop)]
+#[derive(Clone, Copy)]
 pub struct Outline {
     pub ended: Ended,
     pub nets: usize,
@@ -68,7 +70,7 @@ pub struct Outline {
     pub types: [u8; 32],
 }
 
-#[derive(Drop)]
+#[derive(Clone, Copy)]
 pub struct System {
     pub ended: Ended,
     pub moves: usize,
@@ -77,14 +79,14 @@ pub struct System {
     pub objects: [ObjectNet; 8],
 }
 
-#[derive(Drop)]
+#[derive(Clone, Copy)]
 pub struct Listed {
     pub ended: Ended,
     pub listed: usize,
     pub events: [Event; 64],
 }
 
-#[derive(Drop)]
+#[derive(Clone, Copy)]
 pub struct Reading {
     pub ended: Ended,
     pub model: Model,
@@ -92,7 +94,7 @@ pub struct Reading {
 
 // What the lines of the events depend on: how many places, moves and nets there are, the type of each place, and the number of
 // transitions of each net.
-#[derive(Drop)]
+#[derive(Clone, Copy)]
 pub struct Frame {
     pub places: usize,
     pub moves: usize,

@@ -1,4 +1,6 @@
 // For each answer of a call its number in 01's table, and what stands beside it.
+#![tactic(auto)]
+
 ghost use Rattle.std.specs.Prelude.{◌≡◌};
 ghost use Rattle.reader.specs.Answers.{read_pair, write_pair};
 ghost use Rattle.runner.specs.Answers.{step_pair};
@@ -14,7 +16,7 @@ use runner_trace::Stop;
 use spread::Spread;
 
 // A number of 01's table, and what stands beside it.
-#[derive(Drop)]
+#[derive(Clone, Copy)]
 pub struct Pair {
     pub number: u8,
     pub beside: usize,

@@ -1,4 +1,6 @@
 // Reads the files `model`, `weights` and `trace` of its folder and prints their listing.
+#![tactic(auto)]
+
 ghost use Rattle.io.specs.Counts.{IsPrefixLen};
 
 use engine::{WriteAnswer, listing};

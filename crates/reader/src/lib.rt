@@ -1,4 +1,6 @@
 // The Reader level: a model is read and tested, a marking is read for a held model, tested and written.
+#![tactic(auto)]
+
 ghost use Rattle.std.specs.Prelude.{◌≡◌};
 ghost use Rattle.model.specs.Test.{held_model};
 ghost use Rattle.reader.specs.Parts.{answer_of};
@@ -15,7 +17,7 @@ use text_scan::spot_of;
 mod lines;
 
 // How the reading of a text ended.
-#[derive(Drop)]
+#[derive(Clone, Copy)]
 pub enum ReadAnswer {
     Accepted,
     TooLong,
@@ -24,7 +26,7 @@ pub enum ReadAnswer {
 }
 
 // A model and its start in canonical order; refused, the empty model and no net-token.
-#[derive(Drop)]
+#[derive(Clone, Copy)]
 pub struct ModelReading {
     pub answer: ReadAnswer,
     pub model: Model,
@@ -32,14 +34,14 @@ pub struct ModelReading {
 }
 
 // A marking; refused, no net-token.
-#[derive(Drop)]
+#[derive(Clone, Copy)]
 pub struct MarkingReading {
     pub answer: ReadAnswer,
     pub marking: Marking,
 }
 
 // How the reading of a model's lines and of its start's ended, and what was read; refused, the empty model and no net-token.
-#[derive(Drop)]
+#[derive(Clone, Copy)]
 pub struct ModelLines {
     pub ended: Ended,
     pub model: Model,
@@ -47,14 +49,14 @@ pub struct ModelLines {
 }
 
 // How many places there are, and how many counts the net-tokens of each have.
-#[derive(Drop)]
+#[derive(Clone, Copy)]
 pub struct PlaceSizes {
     pub places: u16,
     pub sizes: [u8; 32],
 }
 
 // How writing a text into lent bytes ended.
-#[derive(Drop)]
+#[derive(Clone, Copy)]
 pub enum WriteAnswer {
     Written { bytes: usize },
     Unheld,

@@ -1,4 +1,6 @@
 // The Runner level: a step's text is tried on a held marking of a held model.
+#![tactic(auto)]
+
 use marking::Marking;
 use text::Spot;
 
@@ -6,7 +8,7 @@ pub mod lent;
 pub mod stepping;
 
 // How a step call ended: fired, with the bytes that its lines used, or why not.
-#[derive(Drop)]
+#[derive(Clone, Copy)]
 pub enum StepAnswer {
     Fired { bytes: usize },
     TooLong,
@@ -16,14 +18,14 @@ pub enum StepAnswer {
 }
 
 // A step call's answer, and the marking after it.
-#[derive(Drop)]
+#[derive(Clone, Copy)]
 pub struct Stepped {
     pub answer: StepAnswer,
     pub marking: Marking,
 }
 
 // How a step on lent rows ended, and how many rows there are after it.
-#[derive(Drop)]
+#[derive(Clone, Copy)]
 pub struct StepEnd {
     pub answer: StepAnswer,
     pub len: usize,

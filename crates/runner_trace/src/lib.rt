@@ -1,4 +1,6 @@
 // A trace run step by step.
+#![tactic(auto)]
+
 ghost use Rattle.std.specs.Prelude.{◌≡◌, true, ◌≤◌, length, drop};
 ghost use Rattle.model.specs.Limits.{longest};
 ghost use Rattle.model.specs.Held.{SizedModel};
@@ -22,7 +24,7 @@ use text_reader::Reader;
 use text_scan::spot_of;
 
 // What stopped a run over a trace.
-#[derive(Drop)]
+#[derive(Clone, Copy)]
 pub enum Stop {
     AtEnd,
     TooLong,
@@ -32,7 +34,7 @@ pub enum Stop {
 }
 
 // How many steps a run fired, the byte of the trace where it stopped, what stopped it, and the marking then.
-#[derive(Drop)]
+#[derive(Clone, Copy)]
 pub struct Ran {
     pub fired: usize,
     pub at: usize,
@@ -41,14 +43,14 @@ pub struct Ran {
 }
 
 // A run goes on behind a step's bytes, or stops.
-#[derive(Drop)]
+#[derive(Clone, Copy)]
 pub enum Turn {
     On { bytes: usize },
     Off { stop: Stop },
 }
 
 // How far a run has come: whether it goes on, the place in the text, how many steps fired, the length of the marking, and what stopped it.
-#[derive(Drop)]
+#[derive(Clone, Copy)]
 pub struct Progress {
     pub on: bool,
     pub at: usize,

@@ -1,4 +1,6 @@
 // The spread: the number of ordered ways to share n like tokens among k racks.
+#![tactic(auto)]
+
 ghost use Rattle.std.specs.Prelude.{◌≡◌, ◌≤◌};
 ghost use Rattle.eos.specs.Spread.{spread};
 ghost use Rattle.spread.specs.Call.{spread_call};
@@ -9,7 +11,7 @@ use table::SPREADS;
 mod table;
 
 // What the call answers: the number of ways, or which of the two numbers is too large.
-#[derive(Drop)]
+#[derive(Clone, Copy)]
 pub enum Spread {
     Ways { value: u64 },
     TokensOver,

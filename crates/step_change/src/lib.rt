@@ -1,4 +1,6 @@
 // A marking changed by a step, row by row: the taken net-tokens out of it, the given ones into it.
+#![tactic(auto)]
+
 ghost use Rattle.std.specs.Prelude.{◌≡◌, ◌++◌, ◌+◌, ◌-◌, ◌≤◌, length, take};
 ghost use Rattle.eos.specs.Vector.{eq_v, lex_v};
 ghost use Rattle.eos.specs.Multiset as M;

@@ -1,4 +1,6 @@
 // The projections of net-tokens: counted by place, and their insides added up net by net.
+#![tactic(auto)]
+
 ghost use Rattle.std.specs.Prelude.{◌≡◌, ◌++◌, ℕ, ◌+◌, ◌*◌, ◌^◌, ◌≤◌, ◌<◌, length, take, drop, get_or, replicate};
 ghost use Rattle.eos.specs.Vector.{◌⊕◌, zeros, eq_v};
 ghost use Rattle.model.specs.Limits.{inner_room};

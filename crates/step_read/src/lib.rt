@@ -1,5 +1,7 @@
 // A step read from its lines. Its net-tokens are kept in the order of their lines, each a row of 33 numbers: its place's number, from 1,
 // and its counts.
+#![tactic(auto)]
+
 ghost use Rattle.std.specs.Prelude.{◌≡◌, ◌≤◌};
 ghost use Rattle.text.specs.Bytes.{bytes};
 ghost use Rattle.text.specs.Lines.{many};

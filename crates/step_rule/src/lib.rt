@@ -1,6 +1,8 @@
 // What an event asks and gives, added up: the sides of its move or of idling, and those of its object nets' transitions. The model is laid
 // packed (`model_packed`). A side is nine rows of 32: the net-tokens on each place, and then for each object net the tokens on its places; unused
 // room is 0.
+#![tactic(auto)]
+
 ghost use Rattle.std.specs.Prelude.{◌≡◌, true, ℕ, ◌+◌, ◌*◌, ◌≤◌, ◌<◌, length, replicate};
 ghost use Rattle.eos.specs.Vector.{◌⊕◌, times, zeros};
 ghost use Rattle.text.specs.Repeat.{fill};

@@ -1,4 +1,6 @@
 // The verdict on a step: the tests in their order, up to the first that fails.
+#![tactic(auto)]
+
 ghost use Rattle.std.specs.Prelude.{◌≡◌, ◌≤◌, length};
 ghost use Rattle.eos.specs.Causes.{first};
 ghost use Rattle.model.specs.Limits.{room_limit, rows_room};

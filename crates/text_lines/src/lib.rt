@@ -1,4 +1,6 @@
 // Lines `key=number`, and the first line of a file. A key has its '=' at its end.
+#![tactic(auto)]
+
 ghost use Rattle.std.specs.Prelude.{◌≡◌};
 ghost use Rattle.text.specs.Lines.{in_range, read_number, read_head};
 ghost use Rattle.text.specs.Answers.{line_of, ended_in, ended_of};

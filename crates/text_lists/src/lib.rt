@@ -1,5 +1,7 @@
 // Lines `key=list` and `key=weights`, and the lists in them. A key has its '=' at its end. Every list is read as a list of weights: a list of
 // numbers is one in which no minus sign is allowed.
+#![tactic(auto)]
+
 ghost use Rattle.std.specs.Prelude.{◌≡◌, ◌+◌, ◌%◌, leb, length, set};
 ghost use Rattle.text.specs.Number.{number, signed_if};
 ghost use Rattle.text.specs.Lists.{items, list_end};

@@ -1,12 +1,14 @@
 // The reader of a file: the bytes that are lent, and the place that it has reached. A reading makes one, hands it on, and moves it where
 // one block of lines ends and the next begins; what takes it apart calls a function on the bytes and the place.
+#![tactic(auto)]
+
 ghost use Rattle.std.specs.Prelude.{◌≡◌};
 ghost use Rattle.text_reader.specs.Place.{placed, reached, closed};
 
 use text::Ended;
 use text_scan::fault_at;
 
-#[derive(Drop)]
+#[derive(Clone, Copy)]
 pub struct Reader<'a> {
     pub src: &'a [u8],
     pub at: usize,

@@ -1,5 +1,7 @@
 // The bytes of a text: what stands at a position, and in which line; a fault, made and named; decimal numbers of any number of digits, with
 // and without a sign.
+#![tactic(auto)]
+
 ghost use Rattle.std.specs.Prelude.{◌≡◌, drop, get_or, length, ◌+◌, ◌-◌, ◌*◌, ◌≤◌, ◌<◌, min};
 ghost use Rattle.text.specs.Bytes.{starts, line_at};
 ghost use Rattle.text.specs.Number.{is_digit, digits, number, negated, plainly, signed_if, item};

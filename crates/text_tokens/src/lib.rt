@@ -1,4 +1,6 @@
 // The line `token=place:counts`.
+#![tactic(auto)]
+
 ghost use Rattle.std.specs.Prelude.{◌≡◌, true, ◌-◌, leb, get_or};
 ghost use Rattle.text.specs.Lists.{any_list};
 ghost use Rattle.text.specs.Lines.{fault, bad, need};

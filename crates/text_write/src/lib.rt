@@ -1,4 +1,6 @@
 // Texts that fit, laid into a lent buffer from a position on. A writer answers the position after its text.
+#![tactic(auto)]
+
 ghost use Rattle.std.specs.Prelude.{◌≡◌, ◌+◌, ◌≤◌, length};
 ghost use Rattle.std.proofs.lemmas.List.Edits.{sets};
 ghost use Rattle.text.specs.Printed.{decimal, items_text, end_text, number_text};

@@ -1,4 +1,6 @@
 // Whether weights cover.
+#![tactic(auto)]
+
 ghost use Rattle.std.specs.Prelude.{◌≡◌, ◌&&◌, ◌+◌, ◌/◌, ◌≤◌, min, ltb, leb, length, take};
 ghost use Rattle.eos.specs.Firing.{all_below};
 ghost use Rattle.model.specs.Limits.{count_limit};

@@ -1,4 +1,6 @@
 // What events gain and lose: an event whose effect is 0 gains what it loses.
+#![tactic(auto)]
+
 ghost use Rattle.std.specs.Prelude.{◌≡◌, ℕ, ◌+◌, ◌*◌, ◌^◌, ◌≤◌, ◌<◌, length, get_or};
 ghost use Rattle.eos.specs.Causes.{failing, numbered};
 ghost use Rattle.model.specs.Limits.{sync_room};

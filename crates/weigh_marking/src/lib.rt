@@ -1,4 +1,6 @@
 // The weighted sum of a held marking.
+#![tactic(auto)]
+
 ghost use Rattle.std.specs.Prelude.{◌≡◌, ℕ, ◌+◌, ◌*◌, ◌≤◌, ◌<◌, length};
 ghost use Rattle.model.specs.Limits.{room_limit, count_limit};
 ghost use Rattle.weigh.specs.Sums.{product, token_weight, marking_weight, PlaceIn, TypesIn};
