@@ -47,7 +47,7 @@ module _ (n : ℕ) (l : List ℕ) (i : ℕ) where
       let y : get_or rs (suc i) [] ≡ take 33 (drop (i * 33 + 33) l) = row_at n l (suc i) (omega arith) ∙ ap (λ (j : ℕ). take 33 (drop j l)) k in
       let a : drop i rs ≡ get_or rs i [] ∷ drop (suc i) rs = drop-cons rs i [] (omega (arith, length-rows n l)) in
       let b : drop (suc i) rs ≡ get_or rs (suc i) [] ∷ drop (suc (suc i)) rs = drop-cons rs (suc i) [] (omega (arith, length-rows n l)) in
-      rw (add-one, a, b, x, y)
+      rw (add-one, a, b) cc
 
   pub order_on : {t : Bool} → i + 1 < n → t ≡ lex_v (take 33 (drop (i * 33) l)) (take 33 (drop (i * 33 + 33) l)) → t ≡ true
       → ascending (drop i (rows_in n l)) ≡ ascending (drop (i + 1) (rows_in n l))

@@ -36,7 +36,7 @@ Small v = leb v count_limit
 
 -- ---- what owning a marking tells
 
-each-small : (l : List ℕ) (us : List Val) → shadow (each ℕ (UInt w16).own_val (map u16-field.into l) us) → every Small l ≡ true
+each-small : (l : List ℕ) (us : List Val) → shadow (each ℕ (UInt w16).own_val l us) → every Small l ≡ true
 each-small [] us s = refl
 each-small (v ∷ l) [] s = absurd s
 each-small (v ∷ l) (u ∷ us) s = and_both (Small v) _ (le-leb v count_limit (omega (arith, s.0.1))) (each-small l us s.1)
@@ -44,7 +44,7 @@ each-small (v ∷ l) (u ∷ us) s = and_both (Small v) _ (le-leb v count_limit (
 pub marking_sized : (k : Marking) (vs : List Val) → Is the_row k vs → SizedMarking k
 marking_sized k vs p =
     let a = p.1.1.1.0 in
-    record { long = sym (length-map k.rows u16-field.into) ∙ a.1.0.1; small = each-small k.rows a.0 a.1.1 }
+    record { long = a.1.0.1; small = each-small k.rows a.0 a.1.1 }
 
 -- ---- what is held of right net-tokens
 

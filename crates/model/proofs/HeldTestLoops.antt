@@ -142,9 +142,9 @@ filled_end f l k h m z n =
 pub few-steps : (nets k places steps : ℕ) → sizes_are nets k places steps ≡ true → steps ≤ 32
 few-steps nets k places steps e =
     by_test (ltb k nets)
-    (λ h. let d = T.and-true (in_range 1 32 places) (in_range 0 32 steps) (rw h at e) in
-    let g = T.and-true (leb 0 steps) (leb steps 32) d.1 in leb-true steps 32 g.1)
-    (λ h. let d = T.and-true (eqb places 0) (eqb steps 0) (rw h at e) in omega (arith, eqb-true steps 0 d.1))
+    (λ h. let d = T.and_true (in_range 1 32 places) (in_range 0 32 steps) (rw h at e) in
+    let g = T.and_true (leb 0 steps) (leb steps 32) d.1 in leb-true steps 32 g.1)
+    (λ h. let d = T.and_true (eqb places 0) (eqb steps 0) (rw h at e) in omega (arith, eqb-true steps 0 d.1))
 
 -- ---- events
 
@@ -158,12 +158,12 @@ parts_move (suc n) sync = parts_move n sync
 
 pub few-counts : (nets places moves listed : ℕ) → counts_are nets places moves listed ≡ true → (nets ≤ 8) × (places ≤ 32) × (moves ≤ 32)
 few-counts nets places moves listed e =
-    let a = T.and-true (in_range 0 8 nets) (in_range 1 32 places && (in_range 0 32 moves && in_range 0 64 listed)) e in
-    let b = T.and-true (in_range 1 32 places) (in_range 0 32 moves && in_range 0 64 listed) a.1 in
-    let c = T.and-true (in_range 0 32 moves) (in_range 0 64 listed) b.1 in (
-      leb-true nets 8 (T.and-true (leb 0 nets) (leb nets 8) a.0).1,
-      leb-true places 32 (T.and-true (leb 1 places) (leb places 32) b.0).1,
-      leb-true moves 32 (T.and-true (leb 0 moves) (leb moves 32) c.0).1,
+    let a = T.and_true (in_range 0 8 nets) (in_range 1 32 places && (in_range 0 32 moves && in_range 0 64 listed)) e in
+    let b = T.and_true (in_range 1 32 places) (in_range 0 32 moves && in_range 0 64 listed) a.1 in
+    let c = T.and_true (in_range 0 32 moves) (in_range 0 64 listed) b.1 in (
+      leb-true nets 8 (T.and_true (leb 0 nets) (leb nets 8) a.0).1,
+      leb-true places 32 (T.and_true (leb 1 places) (leb places 32) b.0).1,
+      leb-true moves 32 (T.and_true (leb 0 moves) (leb moves 32) c.0).1,
     )
 
 module _ (m : Model) (steps : List ℕ) (h : (n : ℕ) → nth steps n ≡ (get_or m.objects n no_net).transitions) where

@@ -8,16 +8,16 @@ use Rattle.model.specs.declared.Model.{Model}
 use Rattle.model.specs.contracts.Model.{the_row}
 
 pub objects-room : (m : Model) (vs : List Val) → Is the_row m vs → length m.objects ≡ 8
-objects-room m vs p = sym (length-map m.objects _) ∙ p.1.1.1.1.1.1.1.1.1.0.1.0.1
+objects-room m vs p = p.1.1.1.1.1.1.1.1.1.0.1.0.1
 
 pub events-room : (m : Model) (vs : List Val) → Is the_row m vs → length m.events ≡ 64
-events-room m vs p = sym (length-map m.events _) ∙ p.1.1.1.1.1.1.1.1.1.1.0.1.0.1
+events-room m vs p = p.1.1.1.1.1.1.1.1.1.1.0.1.0.1
 
 pub types-room : (m : Model) (vs : List Val) → Is the_row m vs → length m.types ≡ 32
-types-room m vs p = sym (length-map m.types _) ∙ p.1.1.1.1.1.1.0.1.0.1
+types-room m vs p = p.1.1.1.1.1.1.0.1.0.1
 
 pub pre-room : (m : Model) (vs : List Val) → Is the_row m vs → length m.pre ≡ 1024
-pre-room m vs p = sym (length-map m.pre _) ∙ p.1.1.1.1.1.1.1.0.1.0.1
+pre-room m vs p = p.1.1.1.1.1.1.1.0.1.0.1
 
 pub post-room : (m : Model) (vs : List Val) → Is the_row m vs → length m.post ≡ 1024
-post-room m vs p = sym (length-map m.post _) ∙ p.1.1.1.1.1.1.1.1.0.1.0.1
+post-room m vs p = p.1.1.1.1.1.1.1.1.0.1.0.1

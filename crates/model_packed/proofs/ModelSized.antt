@@ -21,20 +21,20 @@ use Rattle.model.specs.contracts.Model as model
 use Rattle.model.proofs.RoomLaws.{objects-room, events-room, types-room}
 
 -- an array of bytes
-each-small : (l : List ℕ) (us : List Val) → shadow (each ℕ (UInt w8).own_val (map u8-field.into l) us) → (i : ℕ) → get_or l i 0 ≤ 255
+each-small : (l : List ℕ) (us : List Val) → shadow (each ℕ (UInt w8).own_val l us) → (i : ℕ) → get_or l i 0 ≤ 255
 each-small [] us s i = omega arith
 each-small (v ∷ l) [] s i = absurd s
 each-small (v ∷ l) (u ∷ us) s zero = omega (arith, s.0.1)
 each-small (v ∷ l) (u ∷ us) s (suc i) = each-small l us s.1 i
 
-bytes_in : (n : ℕ) (l : List ℕ) (vs : List Val) → Is (Array (UInt w8) n) (map u8-field.into l) vs → Bytes n l
-bytes_in n l vs p = record { long = sym (length-map l u8-field.into) ∙ p.1.0.1; small = each-small l p.0 p.1.1 }
+bytes_in : (n : ℕ) (l : List ℕ) (vs : List Val) → Is (Array (UInt w8) n) l vs → Bytes n l
+bytes_in n l vs p = record { long = p.1.0.1; small = each-small l p.0 p.1.1 }
 
 -- the object nets
 net-sized : (n : ObjectNet) (vs : List Val) → Is net.the_row n vs → SizedNet n
 net-sized n vs p = record { pre = bytes_in 1024 n.pre _ p.1.1.1.1.0; post = bytes_in 1024 n.post _ p.1.1.1.1.1.0 }
 
-each-net : (l : List ObjectNet) (us : List Val) → shadow (each (net.the_field).row.Denot (net.the_field).row.own_val (map (net.the_field).into l) us)
+each-net : (l : List ObjectNet) (us : List Val) → shadow (each (net.the_row).Denot (net.the_row).own_val l us)
     → (i : ℕ) → i < length l → SizedNet (get_or l i no_net)
 each-net [] us s i h = absurd (omega arith)
 each-net (n ∷ l) [] s i h = absurd s
@@ -42,7 +42,7 @@ each-net (n ∷ l) (u ∷ us) s zero h = net-sized n (u ∷ []) s.0
 each-net (n ∷ l) (u ∷ us) s (suc i) h = each-net l us s.1 i (omega arith)
 
 -- the events
-each-event : (l : List Event) (us : List Val) → shadow (each (event.the_field).row.Denot (event.the_field).row.own_val (map (event.the_field).into l) us)
+each-event : (l : List Event) (us : List Val) → shadow (each (event.the_row).Denot (event.the_row).own_val l us)
     → (i : ℕ) → i < length l → Bytes 256 (get_or l i no_event).sync
 each-event [] us s i h = absurd (omega arith)
 each-event (e ∷ l) [] s i h = absurd s
