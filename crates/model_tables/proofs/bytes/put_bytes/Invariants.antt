@@ -1,0 +1,17 @@
+-- `put_bytes` stores a row. The loop's invariant: the values that are left, stored from at + k on, give the whole.
+use borrow.Author.Rules.{rules}
+use Prim.Native.Nat.{◌≤◌, ◌-◌, ◌+◌}
+use mathlib.Core.Path.{◌≡◌, refl}
+use native.Mathlib.Omega.{arith}
+use native.Mathlib.Nat.{add-zero}
+use lib.ListN.{length, drop}
+use lib.Seq.{sets}
+use Rattle.text.proofs.PaddedLaws.{put_next_lem, put_done}
+use Rattle.model_tables.proofs.bytes.put_bytes.Given as goal
+
+abbrev pub invariant-loop-k : goal.invariant-loop-k
+invariant-loop-k l =
+    (l.k ≤ 32) × (length l.table ≡ length l.initial.table) × (sets l.initial.table l.at l.values ≡ sets l.table (l.at + l.k) (drop l.k l.values))
+
+abbrev pub decreases-loop-k : goal.decreases-loop-k
+decreases-loop-k l = 32 - l.k
