@@ -229,7 +229,7 @@ module _ (f : Frame) (s : Text) (at x : ℕ) where
         (⊎_elim
         (λ k.
         let b = k.1 in
-        inl (inr (rw k.0, (idle_line b.place, b.stands, b.in-range, rw b.black))))
+        inl (inr (rw k.0, (idle_line b.place, b.stands, b.in_range_lem, rw b.black))))
         (λ w.
         let a = w.event.act in
         let l = w.event.sync in

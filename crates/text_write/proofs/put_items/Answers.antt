@@ -48,7 +48,7 @@ loop-i-preserved c =
     let p = c.put_digits in (
       omega arith,
       further c,
-      length-set p.new.out (c.loop-i.next + w.result) c.stop_of.result ∙ p.auto.0 ∙ c.loop-i.invariant.2,
+      length-set p.new.out (c.loop-i.next + w.result) c.stop_of.result ∙ p.auto.out ∙ c.loop-i.invariant.2,
       lay-item a.values.now c.loop-i.out c.loop-i.i c.loop-i.next (omega arith) w.ensures p.ensures c.stop_of.ensures ∙ c.loop-i.invariant.3,
     )
 

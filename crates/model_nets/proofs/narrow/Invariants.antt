@@ -1,0 +1,16 @@
+-- `narrow` takes each number modulo 256. The loop's invariant: the bytes that are left, stored from i on, give the whole row.
+use borrow.Author.Rules.{rules}
+use Prim.Native.Nat.{◌≤◌, ◌-◌, ◌%◌}
+use mathlib.Core.Path.{◌≡◌, sym}
+use mathlib.Core.List.{map}
+use native.Mathlib.Omega.{arith}
+use lib.ListN.{length, drop}
+use lib.Seq.{sets}
+use Rattle.model_text.proofs.NarrowRow.{map-start, map_next, map_done}
+use Rattle.model_nets.proofs.narrow.Given as goal
+
+abbrev pub invariant-loop-i : goal.invariant-loop-i
+invariant-loop-i l = (l.i ≤ 32) × (map (λ v. v % 256) l.values ≡ sets l.r l.i (drop l.i (map (λ v. v % 256) l.values)))
+
+abbrev pub decreases-loop-i : goal.decreases-loop-i
+decreases-loop-i l = 32 - l.i

@@ -1,0 +1,47 @@
+-- `token_line` meets its contract: the key, the place with its colon, and then its range, each from what the callee ensures.
+use borrow.Author.Rules.{rules}
+use Prim.Native.Nat.{◌+◌}
+use mathlib.Core.Path.{◌≡◌, sym, ap, ◌∙◌}
+use mathlib.Core.Bool.{true}
+use native.Mathlib.Omega.{arith}
+use borrow.Author.Tests.{not-true, not-false}
+use lib.ListN.{length, drop}
+use Rattle.text.specs.Bytes.{colon, starts}
+use Rattle.text.proofs.ByteLaws.{key_past}
+use Rattle.text.specs.Number.{number, item}
+use Rattle.text.specs.Answers.{token_row_of}
+use Rattle.text.proofs.NumberLaws.{Exact, Capped, missing_of, exact_of}
+use Rattle.text_tokens.proofs.TokenLaws.{token_other, token_missing, token_low, token_high, token_in}
+use Rattle.text_tokens.proofs.token_line.Goals as goal
+
+key-is : (c : goal.Else-not-starts) → let a = c.args in starts a.key.now (drop a.at a.s.now) ≡ true
+key-is c = sym c.starts.ensures ∙ not-false _ c.if-not-starts.false-raw
+
+pub returns-then-not-starts : goal.returns-then-not-starts
+returns-then-not-starts c = c.no_token.ensures ∙ sym (ap token_row_of (token_other _ _ _ _ _ _ (sym c.starts.ensures ∙ not-true _ c.if-not-starts.true-raw)))
+
+pub overflow_add-at : goal.overflow_add-at
+overflow_add-at c = let a = c.args in omega (arith, key_past a.key.now a.s.now a.at (key-is c))
+
+pub returns-in_default : goal.returns-in_default
+returns-in_default c = let key-is : (let a = c.args in starts a.key.now (drop a.at a.s.now) ≡ true) = sym c.starts.ensures ∙ not-false _ c.if-not-starts.false-raw in
+    c.no_token-in_default.ensures
+    ∙ sym (ap token_row_of (token_missing _ _ _ _ _ _ (key-is) (missing_of _ (sym c.in_default.is ∙ c.item.ensures))))
+
+pub returns-then-value-eq0 : goal.returns-then-value-eq0
+returns-then-value-eq0 c = let read : (let a = c.args in Exact (item number colon a.s.now (a.at + length a.key.now)) (Capped c.in-Found.value) c.in-Found.end) = exact_of _ _ _ (sym c.in-Found.is ∙ c.item.ensures) in
+    let key-is : (let a = c.args in starts a.key.now (drop a.at a.s.now) ≡ true) = sym c.starts.ensures ∙ not-false _ c.if-not-starts.false-raw in
+    let f = c.ranges in
+    c.out_of_range.ensures ∙ sym (ap token_row_of (token_low _ _ _ _ _ _ (key-is) f.places.fits _ _ (read) c.if-value-eq0.true))
+
+pub returns-then-places-value : goal.returns-then-places-value
+returns-then-places-value c = let read : (let a = c.args in Exact (item number colon a.s.now (a.at + length a.key.now)) (Capped c.in-Found.value) c.in-Found.end) = exact_of _ _ _ (sym c.in-Found.is ∙ c.item.ensures) in
+    let key-is : (let a = c.args in starts a.key.now (drop a.at a.s.now) ≡ true) = sym c.starts.ensures ∙ not-false _ c.if-not-starts.false-raw in
+    let f = c.ranges in
+    c.out_of_range-then-places-value.ensures ∙ sym (ap token_row_of (token_high _ _ _ _ _ _ (key-is) f.places.fits _ _ (read) c.if-places-value.true))
+
+pub returns : goal.returns
+returns c = let read : (let a = c.args in Exact (item number colon a.s.now (a.at + length a.key.now)) (Capped c.in-Found.value) c.in-Found.end) = exact_of _ _ _ (sym c.in-Found.is ∙ c.item.ensures) in
+    let key-is : (let a = c.args in starts a.key.now (drop a.at a.s.now) ≡ true) = sym c.starts.ensures ∙ not-false _ c.if-not-starts.false-raw in
+    let f = c.ranges in
+    (rw c.byte_at-n.ensures at c.counted.ensures) ∙ sym (ap token_row_of (token_in _ _ _ _ _ _ (key-is) f.places.fits _ _ (read) c.if-value-eq0.false c.if-places-value.false))
