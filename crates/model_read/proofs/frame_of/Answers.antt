@@ -1,0 +1,6 @@
+-- `frame_of` takes the counts, the types and the numbers of transitions.
+use borrow.Author.Rules.{rules}
+use Rattle.model_read.proofs.frame_of.Goals as goal
+
+pub returns : goal.returns
+returns c = rw c.steps_of-steps.ensures
