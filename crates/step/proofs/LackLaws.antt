@@ -54,6 +54,11 @@ before-count x (suc n) (suc i) l seen h = omega (arith, before-count x n i (drop
 abbrev pub rest : List Row → ℕ → List ℕ → ℕ → Option ℕ
 rest rows n l i = lacking_rows rows i (before i [] (rows_in n l)) (drop i (rows_in n l))
 
+-- row r, which stands k + 1 times among those seen with it
+one_lacking : (rows : List Row) (i k : ℕ) (r : Row) (seen l : List Row) → count eq_v r (r ∷ seen) ≡ suc k
+    → lacking_rows rows i seen (r ∷ l) ≡ cond (ltb k (count eq_v r rows)) (lacking_rows rows (suc i) (r ∷ seen) l) (some i)
+one_lacking rows i k r seen l e = ap (λ (c : ℕ). cond (leb c (count eq_v r rows)) (lacking_rows rows (suc i) (r ∷ seen) l) (some i)) e
+
 module _ (rows : List Row) (n : ℕ) (l : List ℕ) (i : ℕ) where
   count_so_far : i < n → count eq_v (take 33 (drop (i * 33) l)) (take 33 (drop (i * 33) l) ∷ before i [] (rows_in n l))
       ≡ suc (count eq_v (take 33 (drop (i * 33) l)) (rows_in i l))
@@ -68,9 +73,11 @@ module _ (rows : List Row) (n : ℕ) (l : List ℕ) (i : ℕ) where
   rest_turn : (t : Bool) → i < n → t ≡ has_row → rest rows n l i ≡ cond t (rest rows n l (i + 1)) (some i)
   rest_turn t h e =
       let rs : List Row = rows_in n l in
-      let d : drop i rs ≡ get_or rs i [] ∷ drop (suc i) rs = drop-cons rs i [] (omega (arith, length-rows n l)) in
-      let b : before (suc i) [] rs ≡ get_or rs i [] ∷ before i [] rs = before_next rs i [] (omega (arith, length-rows n l)) in
-      rw (add-one i, b, d, row_at n l i h, count_so_far h, e)
+      let r : Row = take 33 (drop (i * 33) l) in
+      let d : drop i rs ≡ r ∷ drop (suc i) rs = rw (row_at n l i h) at (drop-cons rs i [] (omega (arith, length-rows n l))) in
+      let b : before (suc i) [] rs ≡ r ∷ before i [] rs = rw (row_at n l i h) at (before_next rs i [] (omega (arith, length-rows n l))) in
+      let one = one_lacking rows i _ (take 33 (drop (i * 33) l)) (before i [] rs) (drop (suc i) rs) (count_so_far h) in
+      rw (add-one i, b, d, e) one
 
   pub rest_on : {t : Bool} → i < n → t ≡ has_row → t ≡ true → rest rows n l i ≡ rest rows n l (i + 1)
   rest_on {t} h e d = rest_turn t h e ∙ rw d
