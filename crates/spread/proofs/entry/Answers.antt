@@ -1,0 +1,7 @@
+-- `spread::entry` meets its contract: the table's entry of n and k is the spread.
+use Rattle.spread.specs.Table.{SpreadTable}
+use Rattle.spread.proofs.entry.Goals as goal
+
+pub returns : goal.returns
+unfolding SpreadTable
+returns c = c.requires.fact_3 _ _ c.requires.fact_1 c.requires.fact_2
