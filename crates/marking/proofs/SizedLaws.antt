@@ -1,7 +1,7 @@
 -- The array of a marking has its room, and in it numbers of 16 bits: from what owning a marking tells, and of what is held of right
 -- net-tokens.
 use Prim.Native.Nat.{ℕ, zero, suc, ◌-◌, ◌*◌, ◌≤◌}
-use mathlib.Core.Path.{◌≡◌, refl, sym, ◌∙◌}
+use mathlib.Core.Path.{◌≡◌, refl}
 use mathlib.Core.Bool.{Bool, true}
 use mathlib.Core.List.{List, [], ◌∷◌, ◌++◌, map}
 use native.Mathlib.Omega.{arith}
@@ -14,7 +14,6 @@ use denote.Laws.{Is}
 use denote.Shadow.{shadow}
 use denote.Plain.{UInt}
 use denote.Array.{each}
-use denote.Struct.Field.{u16-field}
 use Rattle.text.specs.Lines.{every}
 use Rattle.text.proofs.Basics.{and_true}
 use Rattle.text.proofs.TestLaws.{and_both}

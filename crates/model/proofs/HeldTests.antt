@@ -8,7 +8,6 @@ use lib.ListN.{length}
 use Rattle.text.specs.Lines.{in_range}
 use Rattle.text.proofs.Basics.{and_true}
 use Rattle.text.proofs.TestLaws.{within-is}
-use Rattle.eos.specs.Model as eos
 use Rattle.text.specs.Answers.{padded}
 use Rattle.model.specs.Rules.{Frame, takes_part}
 use Rattle.model.specs.Acts.{held_act, own_in}

@@ -14,9 +14,6 @@ use Rattle.eos.specs.Model as eos
 use Rattle.model.specs.Rules.{nth, frame_of, right_sides, keeps_types, own_net, right_model}
 use Rattle.model.specs.Held.{pre_of, post_of, row, tabled, hold_net, hold_event, no_net, no_event, hold_events, hold_model, row_in}
 use Rattle.model.specs.Test.{empty, empty_past, used_of, held_types, held_moves, held_net, held_nets, held_events, frame_in, held_event, empty_event, held_model}
-use Rattle.model.specs.declared.ObjectNet.{ObjectNet}
-use Rattle.model.specs.declared.Event.{Event}
-use Rattle.model.specs.declared.Model.{Model}
 use Rattle.model.proofs.RuleLaws.{sides_long, RightNet, net-is, RightEvent, sync_at, Right, right_is, few-nets, few-places, few-moves, few-events, few-steps, right_type, right_move_lem, right_net_lem, right_event_lem}
 use Rattle.model.proofs.PaddedRows.{empty_of, nth-zeros, nth-padded, nth_padded_all, empty-padded}
 use Rattle.model.proofs.SlotLaws.{cond_below, cond_from, by_index}

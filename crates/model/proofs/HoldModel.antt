@@ -11,8 +11,6 @@ use Rattle.eos.specs.Model as eos
 use Rattle.model.specs.Rules.{byte, list_of, frame_of, right_sides, right_net, right_model}
 use Rattle.model.specs.Held.{pre_of, post_of, row, tabled, hold_net, hold_event, no_net, no_event, hold_nets, hold_events, hold_model, Bytes, SizedNet, SizedModel, listed, sides_in, net_of, sync_in, event_of, model_of}
 use Rattle.model.specs.declared.ObjectNet.{ObjectNet}
-use Rattle.model.specs.declared.Event.{Event}
-use Rattle.model.specs.declared.Model.{Model}
 use Rattle.model.proofs.RuleLaws.{list_is, sides_are, sides_long, RightNet, net-is, RightEvent, sync_at, Right, right_is, few-nets, few-places, few-moves, few-events, few-steps, right_move_lem, right_net_lem, right_event_lem}
 use Rattle.text.proofs.PaddedLaws.{take-padded, length-padded}
 use Rattle.model.proofs.PaddedRows.{nth-zeros, small_at}

@@ -1,9 +1,9 @@
 -- The arrays of a model have their room, from what owning the model tells.
-use mathlib.Core.Path.{◌≡◌, sym, ◌∙◌}
+use mathlib.Core.Path.{◌≡◌}
 use mathlib.Core.List.{List}
 use mir.Val.{Val}
 use denote.Laws.{Is}
-use lib.ListN.{length, length-map}
+use lib.ListN.{length}
 use Rattle.model.specs.declared.Model.{Model}
 use Rattle.model.specs.contracts.Model.{the_row}
 

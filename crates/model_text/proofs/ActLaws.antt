@@ -18,7 +18,7 @@ use Rattle.text.specs.declared.Ended.{Ended}
 use Rattle.text.specs.declared.Ended.TheVariants.{Past, Stopped}
 use Rattle.text.specs.declared.Row.{Row}
 use Rattle.text.proofs.Exactly.{then-got, need-got, got-is}
-use Rattle.eos.specs.Model.{Act, move, idle}
+use Rattle.eos.specs.Model.{Act, idle}
 use Rattle.model.specs.Rules.{byte, Frame, takes_part}
 use Rattle.model.specs.Acts.{index_of}
 use Rattle.model.proofs.HeldTests.{part_padded}

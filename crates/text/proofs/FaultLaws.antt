@@ -6,7 +6,7 @@ use lib.IntN.{ℤ}
 use Rattle.text.specs.Bytes.{Text, lf, colon, starts}
 use Rattle.text.specs.Number.{Read, missing, found, number, signed, item}
 use Rattle.text.specs.Lists.{list_end, any_list}
-use Rattle.text.specs.Lines.{Outcome, got, bad, fault, then, need, many, judged, every, in_range, behind, read_number, read_list, read_weights, read_head}
+use Rattle.text.specs.Lines.{Outcome, got, bad, then, need, many, judged, every, in_range, behind, read_number, read_list, read_weights, read_head}
 use Rattle.text.specs.Repeat.{many_at}
 use Rattle.text.specs.Token.{counts_at, token_at, read_token}
 

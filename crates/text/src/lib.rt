@@ -2,7 +2,6 @@
 // text, and its answer says the position after what it read or the one fault that ends the reading.
 #![tactic(auto)]
 
-
 // A number in a line, 65,536 for each that is larger, and the position after it.
 #[derive(Clone, Copy)]
 pub enum Decimal {

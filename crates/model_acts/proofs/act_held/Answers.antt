@@ -1,5 +1,4 @@
 -- `act_held` is `held_act`, by the kind of the event.
-use borrow.Author.Rules.{rules}
 use Prim.Native.Nat.{◌≤◌}
 use mathlib.Core.Path.{refl, ◌∙◌}
 use native.Mathlib.Omega.{arith}

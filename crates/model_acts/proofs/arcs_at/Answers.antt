@@ -1,10 +1,10 @@
 use borrow.Author.Rules.{rules}
-use Prim.Native.Nat.{◌-◌, ◌≤◌, ◌<◌, ◌+◌, ◌*◌}
+use Prim.Native.Nat.{◌<◌, ◌+◌, ◌*◌}
 use mathlib.Core.Path.{◌≡◌, refl, ◌∙◌}
 use mathlib.Core.List.{append-nil}
 use native.Mathlib.Omega.{arith}
 use lib.ListN.{length, take, drop, replicate}
-use Rattle.model.proofs.HeldTestLoops.{over, over_turn}
+use Rattle.model.proofs.HeldTestLoops.{over_turn}
 use Rattle.model_acts.proofs.arcs_at.Goals as goal
 
 pub loop-k-init : goal.loop-k-init

@@ -1,11 +1,8 @@
 -- `arcs_at` meets its contract.
-use borrow.Author.Rules.{rules}
-use Prim.Native.Nat.{◌-◌, ◌≤◌, ◌<◌, ◌+◌, ◌*◌}
-use mathlib.Core.Path.{◌≡◌, refl, ◌∙◌}
-use mathlib.Core.List.{append-nil}
-use native.Mathlib.Omega.{arith}
-use lib.ListN.{length, take, drop, replicate}
-use Rattle.model.proofs.HeldTestLoops.{over, over_turn}
+use Prim.Native.Nat.{◌-◌, ◌≤◌, ◌*◌}
+use mathlib.Core.Path.{◌≡◌}
+use lib.ListN.{drop, replicate}
+use Rattle.model.proofs.HeldTestLoops.{over}
 use Rattle.model_acts.proofs.arcs_at.Given as goal
 
 abbrev pub invariant-loop-k : goal.invariant-loop-k

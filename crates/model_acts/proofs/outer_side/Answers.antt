@@ -1,5 +1,4 @@
 -- `outer_side` is `outer_in`, by the kind of the event.
-use borrow.Author.Rules.{rules}
 use Prim.Native.Nat.{◌-◌}
 use native.Mathlib.Omega.{arith}
 use Rattle.model.proofs.HeldActs.{act-move, act-idle, set-unit}

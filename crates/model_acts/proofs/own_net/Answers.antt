@@ -1,5 +1,4 @@
 -- `own_net` is `own_in`, by the kind of the event.
-use borrow.Author.Rules.{rules}
 use Rattle.model.proofs.HeldActs.{act-move, act-idle}
 use Rattle.model_acts.proofs.own_net.Goals as goal
 

@@ -1,5 +1,4 @@
 -- `act_at` reads the line by its key.
-use borrow.Author.Rules.{rules}
 use mathlib.Core.Path.{ap, sym, ◌∙◌}
 use Rattle.model_text.specs.Answers.{acting_of}
 use Rattle.model_text.proofs.ActLaws.{act-idle, act-move}

@@ -1,5 +1,4 @@
 -- `event_at` answers what the lines of an event say: its first line refused, its counts refused, or read.
-use borrow.Author.Rules.{rules}
 use mathlib.Core.Path.{sym, ◌∙◌}
 use Rattle.model_text.specs.Reading.{read_act}
 use Rattle.model_text.specs.Answers.{as_frame}

@@ -1,18 +1,13 @@
 -- `events_at` holds the events that are read. The loop's invariant: what is read from the start and put from 0 on is what is read from
 -- here and put from i on.
-use borrow.Author.Rules.{rules}
 use Prim.Native.Nat.{◌≤◌, ◌-◌}
-use mathlib.Core.Path.{◌≡◌, ◌∙◌}
-use native.Mathlib.Omega.{arith}
-use native.Mathlib.Nat.{sub-zero}
+use mathlib.Core.Path.{◌≡◌}
 use lib.ListN.{replicate}
 use Rattle.text.specs.Lines.{many}
 use Rattle.text.specs.Repeat.{filled}
-use Rattle.text.proofs.Loops.{loop_done}
 use Rattle.model.specs.Held.{hold_event, no_event, put_at}
 use Rattle.model_text.specs.Reading.{read_event}
 use Rattle.model_text.specs.Answers.{as_frame}
-use Rattle.model_text.proofs.EventLaws.{events_more, events_stop, events-refused, events_read}
 use Rattle.model_events.proofs.events_at.Given as goal
 
 abbrev pub invariant-loop-i : goal.invariant-loop-i

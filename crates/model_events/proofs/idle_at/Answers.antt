@@ -1,5 +1,4 @@
 -- `idle_at` answers what the line of an idling event says: refused, at a place of black tokens, or read.
-use borrow.Author.Rules.{rules}
 use mathlib.Core.Path.{◌≡◌, ap, sym, ◌∙◌}
 use native.Mathlib.Omega.{arith}
 use Rattle.text.specs.Bytes.{bytes}
@@ -8,7 +7,6 @@ use Rattle.text.specs.Answers.{line_of}
 use Rattle.text.specs.declared.Line.TheVariants.{Value}
 use Rattle.model_text.specs.Answers.{as_frame}
 use Rattle.model_text.specs.declared.Acting.TheVariants.{Refused}
-use Rattle.model_text.specs.declared.Frame.{Frame}
 use Rattle.model_text.proofs.LineAnswers.{value_in}
 use Rattle.model_text.proofs.ActLaws.{idle-refused, idle_black, idle_read}
 use Rattle.model_events.proofs.idle_at.Goals as goal

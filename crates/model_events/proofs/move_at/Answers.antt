@@ -1,5 +1,4 @@
 -- `move_at` answers what the line of a move's event says: refused or read.
-use borrow.Author.Rules.{rules}
 use mathlib.Core.Path.{◌≡◌, sym, ◌∙◌}
 use native.Mathlib.Omega.{arith}
 use Rattle.text.specs.Bytes.{bytes}
@@ -7,7 +6,6 @@ use Rattle.text.specs.Lines.{in_range, read_number}
 use Rattle.text.specs.Answers.{line_of}
 use Rattle.text.specs.declared.Line.TheVariants.{Value}
 use Rattle.model_text.specs.Answers.{as_frame}
-use Rattle.model_text.specs.declared.Frame.{Frame}
 use Rattle.model_text.proofs.LineAnswers.{value_in}
 use Rattle.model_text.proofs.ActLaws.{move-refused, move_read}
 use Rattle.model_events.proofs.move_at.Goals as goal

@@ -1,5 +1,4 @@
 -- `no_event` holds the empty event.
-use borrow.Author.Rules.{rules}
 use Rattle.model_events.proofs.no_event.Goals as goal
 
 pub returns : goal.returns

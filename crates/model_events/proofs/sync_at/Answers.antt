@@ -1,5 +1,4 @@
 -- `sync_at` answers what the line of a net's counts says: refused, against the rule on who takes part, or read.
-use borrow.Author.Rules.{rules}
 use mathlib.Core.Path.{ap, ◌∙◌}
 use borrow.Author.Tests.{not-true, not-false}
 use lib.ListN.{replicate}

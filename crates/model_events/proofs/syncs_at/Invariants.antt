@@ -1,17 +1,12 @@
 -- `syncs_at` holds the counts that are read. The loop's invariant: what is read from the start and put from row 0 on is what is read from
 -- here and put from row i on.
-use borrow.Author.Rules.{rules}
 use Prim.Native.Nat.{◌≤◌, ◌-◌}
-use mathlib.Core.Path.{◌≡◌, ◌∙◌}
-use native.Mathlib.Omega.{arith}
-use native.Mathlib.Nat.{sub-zero}
+use mathlib.Core.Path.{◌≡◌}
 use lib.ListN.{length, replicate}
 use Rattle.text.specs.Repeat.{many_at, filled}
-use Rattle.text.proofs.Loops.{done_at}
 use Rattle.model.specs.Held.{row, put_row}
 use Rattle.model_text.specs.Reading.{read_sync}
 use Rattle.model_text.specs.Answers.{as_frame}
-use Rattle.model_text.proofs.EventLaws.{syncs_more, syncs_stop, syncs_refused, syncs_read}
 use Rattle.model_events.proofs.syncs_at.Given as goal
 
 abbrev pub invariant-loop-i : goal.invariant-loop-i

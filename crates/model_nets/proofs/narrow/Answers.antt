@@ -1,10 +1,8 @@
 use borrow.Author.Rules.{rules}
-use Prim.Native.Nat.{◌≤◌, ◌-◌, ◌%◌}
+use Prim.Native.Nat.{◌%◌}
 use mathlib.Core.Path.{◌≡◌, sym}
-use mathlib.Core.List.{map}
 use native.Mathlib.Omega.{arith}
-use lib.ListN.{length, drop}
-use lib.Seq.{sets}
+use lib.ListN.{length}
 use Rattle.model_text.proofs.NarrowRow.{map-start, map_next, map_done}
 use Rattle.model_nets.proofs.narrow.Goals as goal
 

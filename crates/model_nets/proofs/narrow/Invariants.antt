@@ -1,12 +1,9 @@
 -- `narrow` takes each number modulo 256. The loop's invariant: the bytes that are left, stored from i on, give the whole row.
-use borrow.Author.Rules.{rules}
 use Prim.Native.Nat.{◌≤◌, ◌-◌, ◌%◌}
-use mathlib.Core.Path.{◌≡◌, sym}
+use mathlib.Core.Path.{◌≡◌}
 use mathlib.Core.List.{map}
-use native.Mathlib.Omega.{arith}
-use lib.ListN.{length, drop}
+use lib.ListN.{drop}
 use lib.Seq.{sets}
-use Rattle.model_text.proofs.NarrowRow.{map-start, map_next, map_done}
 use Rattle.model_nets.proofs.narrow.Given as goal
 
 abbrev pub invariant-loop-i : goal.invariant-loop-i

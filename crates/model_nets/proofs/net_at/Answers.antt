@@ -1,5 +1,4 @@
 -- `net_at` answers what the lines of an object net say: a case for each line that is refused, and one for a net.
-use borrow.Author.Rules.{rules}
 use mathlib.Core.Path.{◌≡◌, ap, sym, ◌∙◌}
 use Rattle.text.specs.Bytes.{bytes}
 use Rattle.text.specs.Lines.{in_range, read_number}

@@ -1,14 +1,9 @@
 use borrow.Author.Rules.{rules}
-use Prim.Native.Nat.{◌≤◌, ◌-◌}
-use mathlib.Core.Path.{◌≡◌, ◌∙◌}
+use mathlib.Core.Path.{◌∙◌}
 use native.Mathlib.Omega.{arith}
 use native.Mathlib.Nat.{sub-zero}
-use lib.ListN.{replicate}
-use Rattle.text.specs.Lines.{many}
-use Rattle.text.specs.Repeat.{filled}
 use Rattle.text.proofs.Loops.{loop_done}
-use Rattle.model.specs.Held.{hold_net, no_net, put_at}
-use Rattle.model_text.specs.Reading.{read_net}
+use Rattle.model.specs.Held.{hold_net, put_at}
 use Rattle.model_text.proofs.NetLaws.{nets_more, nets_stop, nets-refused, nets_read}
 use Rattle.model_nets.proofs.nets_at.Goals as goal
 

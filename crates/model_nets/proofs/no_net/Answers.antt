@@ -1,5 +1,4 @@
 -- `no_net` holds the empty net.
-use borrow.Author.Rules.{rules}
 use Rattle.model_nets.proofs.no_net.Goals as goal
 
 pub returns : goal.returns

@@ -1,5 +1,4 @@
 -- `sides_at` answers what the two lines of a transition say: a case for each line that is refused, for types that are lost, and for two sides.
-use borrow.Author.Rules.{rules}
 use mathlib.Core.Path.{ap, ◌∙◌}
 use borrow.Author.Tests.{not-true, not-false}
 use Rattle.text.specs.Lines.{bad}

@@ -1,11 +1,9 @@
 use borrow.Author.Rules.{rules}
-use Prim.Native.Nat.{◌≤◌, ◌-◌, ◌%◌}
+use Prim.Native.Nat.{◌%◌}
 use mathlib.Core.Path.{◌≡◌, sym}
 use native.Mathlib.Omega.{arith}
-use lib.ListN.{length, drop}
-use lib.Seq.{sets}
+use lib.ListN.{length}
 use Rattle.model.specs.Held.{no_net}
-use Rattle.model_text.specs.Answers.{steps_of}
 use Rattle.model_text.proofs.NarrowRow.{map-start, map_next, map_done}
 use Rattle.model_nets.proofs.steps_of.Goals as goal
 

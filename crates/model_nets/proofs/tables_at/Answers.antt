@@ -1,18 +1,9 @@
 use borrow.Author.Rules.{rules}
-use Prim.Native.Nat.{ℕ, ◌≤◌, ◌-◌}
-use mathlib.Core.Path.{◌≡◌, ◌∙◌}
-use mathlib.Core.List.{List}
+use mathlib.Core.Path.{◌∙◌}
 use native.Mathlib.Omega.{arith}
 use native.Mathlib.Nat.{sub-zero}
-use lib.ListN.{length, replicate}
-use Rattle.text.specs.Bytes.{Text}
-use Rattle.text.specs.Lines.{Outcome, many}
-use Rattle.text.specs.Repeat.{filled}
 use Rattle.text.proofs.Loops.{loop_done}
-use Rattle.eos.specs.Model.{Transition}
-use Rattle.model.specs.Rules.{nth, monotonous}
 use Rattle.model.specs.Held.{pre_of, post_of, put_row}
-use Rattle.model_text.specs.Reading.{read_sides}
 use Rattle.model_text.proofs.TransitionLines.{pre_more, post_more, rows_stop, tables_bad, tables_read}
 use Rattle.model_nets.proofs.tables_at.Goals as goal
 

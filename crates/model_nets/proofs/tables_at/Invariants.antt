@@ -1,21 +1,16 @@
 -- `tables_at` holds the transitions that are read. The loop's invariant: in each table, what is read from the start and put from row 0 on
 -- is what is read from here and put from row i on.
-use borrow.Author.Rules.{rules}
 use Prim.Native.Nat.{ℕ, ◌≤◌, ◌-◌}
-use mathlib.Core.Path.{◌≡◌, ◌∙◌}
+use mathlib.Core.Path.{◌≡◌}
 use mathlib.Core.List.{List}
-use native.Mathlib.Omega.{arith}
-use native.Mathlib.Nat.{sub-zero}
 use lib.ListN.{length, replicate}
 use Rattle.text.specs.Bytes.{Text}
 use Rattle.text.specs.Lines.{Outcome, many}
 use Rattle.text.specs.Repeat.{filled}
-use Rattle.text.proofs.Loops.{loop_done}
 use Rattle.eos.specs.Model.{Transition}
 use Rattle.model.specs.Rules.{nth, monotonous}
 use Rattle.model.specs.Held.{pre_of, post_of, put_row}
 use Rattle.model_text.specs.Reading.{read_sides}
-use Rattle.model_text.proofs.TransitionLines.{pre_more, post_more, rows_stop, tables_bad, tables_read}
 use Rattle.model_nets.proofs.tables_at.Given as goal
 
 abbrev pub one : ℕ → ℕ → List ℕ → Text → ℕ → Outcome Transition

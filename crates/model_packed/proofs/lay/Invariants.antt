@@ -1,12 +1,8 @@
 -- `lay` lays a part. The loop's invariant: the numbers from i on are still to be laid.
-use borrow.Author.Rules.{rules}
 use Prim.Native.Nat.{◌+◌, ◌-◌, ◌≤◌}
 use mathlib.Core.Path.{◌≡◌}
-use native.Mathlib.Omega.{arith}
-use native.Mathlib.Nat.{add-zero}
 use lib.ListN.{length, drop}
 use lib.Seq.{sets}
-use Rattle.text.proofs.PaddedLaws.{put_next_lem, put_done}
 use Rattle.model_packed.proofs.lay.Given as goal
 
 abbrev pub invariant-loop-i : goal.invariant-loop-i

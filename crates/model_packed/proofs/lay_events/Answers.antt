@@ -1,11 +1,9 @@
 use borrow.Author.Rules.{rules}
-use Prim.Native.Nat.{◌+◌, ◌-◌, ◌*◌, ◌≤◌}
 use mathlib.Core.Path.{◌≡◌, refl}
 use native.Mathlib.Omega.{arith}
 use mathlib.Core.List.{[]}
-use lib.ListN.{length, drop}
-use lib.Seq.{sets}
-use Rattle.model_packed.specs.Packed.{event_bytes, concat_map}
+use lib.ListN.{length}
+use Rattle.model_packed.specs.Packed.{event_bytes}
 use Rattle.model.specs.declared.Event.{Event}
 use Rattle.model_packed.proofs.PartsLaid.{next_laid, all_laid}
 use Rattle.model_packed.proofs.lay_events.Goals as goal

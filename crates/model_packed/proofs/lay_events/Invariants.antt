@@ -1,14 +1,9 @@
 -- `lay_events` lays the events. The loop's invariant: those from e on are still to be laid.
-use borrow.Author.Rules.{rules}
 use Prim.Native.Nat.{◌+◌, ◌-◌, ◌*◌, ◌≤◌}
-use mathlib.Core.Path.{◌≡◌, refl}
-use native.Mathlib.Omega.{arith}
-use mathlib.Core.List.{[]}
+use mathlib.Core.Path.{◌≡◌}
 use lib.ListN.{length, drop}
 use lib.Seq.{sets}
 use Rattle.model_packed.specs.Packed.{event_bytes, concat_map}
-use Rattle.model.specs.declared.Event.{Event}
-use Rattle.model_packed.proofs.PartsLaid.{next_laid, all_laid}
 use Rattle.model_packed.proofs.lay_events.Given as goal
 
 abbrev pub invariant-loop-e : goal.invariant-loop-e

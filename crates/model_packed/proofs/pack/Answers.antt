@@ -1,5 +1,4 @@
 -- `pack` lays the model part by part.
-use borrow.Author.Rules.{rules}
 use mathlib.Core.Path.{◌∙◌}
 use native.Mathlib.Omega.{arith}
 use Rattle.model.proofs.RoomLaws.{types-room}

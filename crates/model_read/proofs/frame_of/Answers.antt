@@ -1,5 +1,4 @@
 -- `frame_of` takes the counts, the types and the numbers of transitions.
-use borrow.Author.Rules.{rules}
 use Rattle.model_read.proofs.frame_of.Goals as goal
 
 pub returns : goal.returns

@@ -1,5 +1,4 @@
 -- `listed_at` answers what the lines from `events` on say: the number refused, an event refused, or all read.
-use borrow.Author.Rules.{rules}
 use mathlib.Core.Path.{◌≡◌, ap, sym, ◌∙◌}
 use Rattle.text.specs.Bytes.{bytes}
 use Rattle.text.specs.Lines.{in_range, read_number}

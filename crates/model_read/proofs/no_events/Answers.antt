@@ -1,5 +1,4 @@
 -- `no_events` holds empty events.
-use borrow.Author.Rules.{rules}
 use Rattle.model_read.proofs.no_events.Goals as goal
 
 pub returns : goal.returns

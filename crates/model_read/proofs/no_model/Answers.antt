@@ -1,5 +1,4 @@
 -- `no_model` holds the empty model.
-use borrow.Author.Rules.{rules}
 use Rattle.model_read.proofs.no_model.Goals as goal
 
 pub returns : goal.returns

@@ -1,5 +1,4 @@
 -- `no_system` holds empty tables and nets.
-use borrow.Author.Rules.{rules}
 use Rattle.model_read.proofs.no_system.Goals as goal
 
 pub returns : goal.returns

@@ -1,8 +1,5 @@
 -- `outline_at` answers what the lines from `eos` to `type` say: a case for each line that is refused, and one for the outline.
-use borrow.Author.Rules.{rules}
 use mathlib.Core.Path.{◌≡◌, ap, sym, ◌∙◌}
-use mathlib.Core.List.{List}
-use Prim.Native.Nat.{ℕ}
 use Rattle.text.specs.Bytes.{bytes}
 use Rattle.text.specs.Lines.{in_range, read_number, read_head}
 use Rattle.text.specs.Answers.{line_of, ended_of}

@@ -1,5 +1,4 @@
 -- `read_plant` answers what the lines of a model say: a case for each of its three parts that is refused, and one for the model.
-use borrow.Author.Rules.{rules}
 use mathlib.Core.Path.{◌∙◌}
 use Rattle.model_text.proofs.PlantLaws.{outline_refused, outline_fits, system_refused, fits, listed-refused, plant_read}
 use Rattle.model_read.proofs.read_plant.Goals as goal

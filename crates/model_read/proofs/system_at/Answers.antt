@@ -1,5 +1,4 @@
 -- `system_at` answers what the lines from `moves` to the last object net say: a case for each part that is refused, and one for the whole.
-use borrow.Author.Rules.{rules}
 use mathlib.Core.Path.{◌≡◌, ap, sym, ◌∙◌}
 use Rattle.text.specs.Bytes.{bytes}
 use Rattle.text.specs.Lines.{in_range, read_number}

@@ -1,10 +1,7 @@
-use borrow.Author.Rules.{rules}
-use Prim.Native.Nat.{◌≤◌}
 use mathlib.Core.Path.{◌≡◌, sym, ◌∙◌}
 use mathlib.Core.Logic.{inl, inr}
 use native.Mathlib.Omega.{arith}
 use borrow.Author.Tests.{not-true, not-false}
-use Rattle.model.specs.Rules.{nth, monotonous}
 use Rattle.model.proofs.RuleLoops.{mono_bad, mono_kept, mono_zero}
 use Rattle.model_rules.proofs.monotonous.Goals as goal
 

@@ -1,12 +1,7 @@
 -- `monotonous` is the rule of this name. The loop's invariant: all nets are kept exactly if the first k are.
-use borrow.Author.Rules.{rules}
 use Prim.Native.Nat.{◌≤◌}
-use mathlib.Core.Path.{◌≡◌, sym, ◌∙◌}
-use mathlib.Core.Logic.{inl, inr}
-use native.Mathlib.Omega.{arith}
-use borrow.Author.Tests.{not-true, not-false}
+use mathlib.Core.Path.{◌≡◌}
 use Rattle.model.specs.Rules.{nth, monotonous}
-use Rattle.model.proofs.RuleLoops.{mono_bad, mono_kept, mono_zero}
 use Rattle.model_rules.proofs.monotonous.Given as goal
 
 abbrev pub invariant-loop-k : goal.invariant-loop-k

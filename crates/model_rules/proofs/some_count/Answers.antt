@@ -1,10 +1,9 @@
 use borrow.Author.Rules.{rules}
-use Prim.Native.Nat.{◌≤◌, ◌-◌}
 use mathlib.Core.Path.{◌≡◌, refl, ap, sym, ◌∙◌}
 use mathlib.Core.Bool.{not}
 use native.Mathlib.Omega.{arith}
-use lib.ListN.{length, drop}
-use Rattle.model.proofs.RuleLoops.{zeros, zeros_other, zeros_more, zeros_end}
+use lib.ListN.{length}
+use Rattle.model.proofs.RuleLoops.{zeros_other, zeros_more, zeros_end}
 use Rattle.model_rules.proofs.some_count.Goals as goal
 
 pub loop-i-init : goal.loop-i-init

@@ -1,11 +1,8 @@
 -- `some_count` says whether a count is not 0. The loop's invariant: all counts are 0 exactly if those from i on are.
-use borrow.Author.Rules.{rules}
 use Prim.Native.Nat.{◌≤◌, ◌-◌}
-use mathlib.Core.Path.{◌≡◌, refl, ap, sym, ◌∙◌}
-use mathlib.Core.Bool.{not}
-use native.Mathlib.Omega.{arith}
-use lib.ListN.{length, drop}
-use Rattle.model.proofs.RuleLoops.{zeros, zeros_other, zeros_more, zeros_end}
+use mathlib.Core.Path.{◌≡◌}
+use lib.ListN.{drop}
+use Rattle.model.proofs.RuleLoops.{zeros}
 use Rattle.model_rules.proofs.some_count.Given as goal
 
 abbrev pub invariant-loop-i : goal.invariant-loop-i

@@ -1,5 +1,4 @@
 -- `takes_part` is the rule `takes_part`: case by case of the net in which the event idles.
-use borrow.Author.Rules.{rules}
 use Rattle.model.proofs.RuleLoops.{part_move, part_own, part_other}
 use Rattle.model_rules.proofs.takes_part.Goals as goal
 

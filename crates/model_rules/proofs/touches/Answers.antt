@@ -1,8 +1,5 @@
-use borrow.Author.Rules.{rules}
-use Prim.Native.Nat.{◌≤◌}
 use mathlib.Core.Path.{◌≡◌, sym, ◌∙◌}
 use native.Mathlib.Omega.{arith}
-use Rattle.model.specs.Rules.{nth, touches}
 use Rattle.model.proofs.RuleLoops.{touch_here, touch_other, touch_none, touch_zero}
 use Rattle.model_rules.proofs.touches.Goals as goal
 

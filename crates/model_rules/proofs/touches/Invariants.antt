@@ -1,10 +1,7 @@
 -- `touches` is the rule of this name. The loop's invariant: the first n places touch exactly if the first i do.
-use borrow.Author.Rules.{rules}
 use Prim.Native.Nat.{◌≤◌}
-use mathlib.Core.Path.{◌≡◌, sym, ◌∙◌}
-use native.Mathlib.Omega.{arith}
+use mathlib.Core.Path.{◌≡◌}
 use Rattle.model.specs.Rules.{nth, touches}
-use Rattle.model.proofs.RuleLoops.{touch_here, touch_other, touch_none, touch_zero}
 use Rattle.model_rules.proofs.touches.Given as goal
 
 abbrev pub invariant-loop-i : goal.invariant-loop-i

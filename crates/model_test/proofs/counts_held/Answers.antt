@@ -1,5 +1,4 @@
 -- `counts_held` is the test of the model's counts.
-use borrow.Author.Rules.{rules}
 use Rattle.model_test.proofs.counts_held.Goals as goal
 
 pub returns : goal.returns

@@ -1,5 +1,4 @@
 -- `empty_behind` is `empty_past` at one width for all used rows.
-use borrow.Author.Rules.{rules}
 use mathlib.Core.Path.{◌∙◌}
 use Rattle.model.proofs.HeldTestLoops.{one_width}
 use Rattle.model_test.proofs.empty_behind.Goals as goal

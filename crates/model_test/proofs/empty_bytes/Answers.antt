@@ -1,9 +1,4 @@
-use borrow.Author.Rules.{rules}
-use Prim.Native.Nat.{◌-◌}
-use mathlib.Core.Path.{◌≡◌, refl, ◌∙◌}
-use mathlib.Core.Bool.{◌&&◌}
-use lib.ListN.{length, drop}
-use Rattle.model.specs.Test.{empty}
+use mathlib.Core.Path.{refl, ◌∙◌}
 use Rattle.model.proofs.HeldTestLoops.{empty_turn, empty_end}
 use Rattle.model_test.proofs.empty_bytes.Goals as goal
 

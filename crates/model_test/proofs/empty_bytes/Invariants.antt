@@ -1,11 +1,9 @@
 -- `empty_bytes` says whether a list is 0 from an index on. The loop's invariant: `all` and the rest from i on make the answer.
-use borrow.Author.Rules.{rules}
 use Prim.Native.Nat.{◌-◌}
-use mathlib.Core.Path.{◌≡◌, refl, ◌∙◌}
+use mathlib.Core.Path.{◌≡◌}
 use mathlib.Core.Bool.{◌&&◌}
 use lib.ListN.{length, drop}
 use Rattle.model.specs.Test.{empty}
-use Rattle.model.proofs.HeldTestLoops.{empty_turn, empty_end}
 use Rattle.model_test.proofs.empty_bytes.Given as goal
 
 abbrev pub invariant-loop-i : goal.invariant-loop-i

@@ -1,10 +1,9 @@
 use borrow.Author.Rules.{rules}
-use Prim.Native.Nat.{ℕ, ◌-◌, ◌≤◌, ◌+◌, ◌*◌}
+use Prim.Native.Nat.{ℕ, ◌-◌, ◌+◌, ◌*◌}
 use mathlib.Core.Path.{◌≡◌, sym, ap, ◌∙◌}
-use mathlib.Core.Bool.{◌&&◌, and-true}
+use mathlib.Core.Bool.{and-true}
 use native.Mathlib.Omega.{arith}
 use lib.ListN.{take, drop}
-use Rattle.eos.specs.Firing.{all_below}
 use Rattle.model.specs.Rules.{nth}
 use Rattle.model.specs.Test.{empty, empty_at}
 use Rattle.model.proofs.HeldTestLoops.{turn, past_rows}

@@ -1,14 +1,11 @@
 -- `empty_past` is `empty_past`. The loop's invariant: `all` says that the part behind the used rows is 0, and the unused room of the first i rows.
-use borrow.Author.Rules.{rules}
-use Prim.Native.Nat.{ℕ, ◌-◌, ◌≤◌, ◌+◌, ◌*◌}
-use mathlib.Core.Path.{◌≡◌, sym, ap, ◌∙◌}
-use mathlib.Core.Bool.{◌&&◌, and-true}
-use native.Mathlib.Omega.{arith}
-use lib.ListN.{take, drop}
+use Prim.Native.Nat.{◌-◌, ◌≤◌, ◌*◌}
+use mathlib.Core.Path.{◌≡◌}
+use mathlib.Core.Bool.{◌&&◌}
+use lib.ListN.{drop}
 use Rattle.eos.specs.Firing.{all_below}
 use Rattle.model.specs.Rules.{nth}
 use Rattle.model.specs.Test.{empty, empty_at}
-use Rattle.model.proofs.HeldTestLoops.{turn, past_rows}
 use Rattle.model_test.proofs.empty_past.Given as goal
 
 abbrev pub invariant-loop-i : goal.invariant-loop-i

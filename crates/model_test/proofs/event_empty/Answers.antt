@@ -1,5 +1,4 @@
 -- `event_empty` is `empty_event`.
-use borrow.Author.Rules.{rules}
 use Rattle.model.specs.Test.{empty_event}
 use Rattle.model_test.proofs.event_empty.Goals as goal
 

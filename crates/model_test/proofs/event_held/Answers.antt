@@ -1,5 +1,4 @@
 -- `event_held` is `held_event`: kind and index first, so that the place's type can be looked up.
-use borrow.Author.Rules.{rules}
 use mathlib.Core.Path.{sym, ◌∙◌}
 use borrow.Author.Tests.{not-true, not-false}
 use Rattle.model.specs.Test.{held_event, framed}

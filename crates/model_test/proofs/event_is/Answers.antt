@@ -1,5 +1,4 @@
 -- `event_is` is the test of one event, by whether it is used.
-use borrow.Author.Rules.{rules}
 use mathlib.Core.Path.{◌∙◌}
 use Rattle.model.proofs.HeldTestLoops.{below, past}
 use Rattle.model_test.proofs.event_is.Goals as goal

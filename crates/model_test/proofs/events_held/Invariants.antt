@@ -1,16 +1,8 @@
 -- `events_held` is the test of all events. The loop's invariant: `all` is the test of the first k events.
-use borrow.Author.Rules.{rules}
 use Prim.Native.Nat.{◌-◌, ◌≤◌}
-use mathlib.Core.Path.{◌≡◌, refl, ap, ◌∙◌}
-use mathlib.Core.List.{[]}
-use mathlib.Core.Bool.{true}
-use native.Mathlib.Omega.{arith}
-use lib.ListN.{length}
+use mathlib.Core.Path.{◌≡◌}
 use Rattle.eos.specs.Firing.{all_below}
-use Rattle.model.specs.Held.{no_event}
-use Rattle.model.specs.Test.{framed, event_is, event_at}
-use Rattle.model.specs.declared.Event.{Event}
-use Rattle.model.proofs.HeldTestLoops.{turn, at_any}
+use Rattle.model.specs.Test.{framed, event_at}
 use Rattle.model_test.proofs.events_held.Given as goal
 
 abbrev pub invariant-loop-k : goal.invariant-loop-k

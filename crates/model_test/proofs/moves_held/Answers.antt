@@ -1,5 +1,4 @@
 -- `moves_held` is the test of the moves, by its three parts.
-use borrow.Author.Rules.{rules}
 use Rattle.model_test.proofs.moves_held.Goals as goal
 
 pub returns : goal.returns

@@ -1,5 +1,4 @@
 -- `net_held` is `held_net`: the unused room of both tables.
-use borrow.Author.Rules.{rules}
 use Rattle.model.specs.Test.{held_net}
 use Rattle.model_test.proofs.net_held.Goals as goal
 

@@ -1,5 +1,4 @@
 -- `net_is` is the test of one net: its counts first, so that its tables can be looked at.
-use borrow.Author.Rules.{rules}
 use mathlib.Core.Path.{sym, ◌∙◌}
 use borrow.Author.Tests.{not-true, not-false}
 use Rattle.model.proofs.HeldTestLoops.{and_no, and_yes, few-steps}

@@ -1,11 +1,9 @@
 use borrow.Author.Rules.{rules}
-use Prim.Native.Nat.{◌-◌, ◌≤◌}
 use mathlib.Core.Path.{◌≡◌, refl, ap, ◌∙◌}
 use mathlib.Core.List.{[]}
 use mathlib.Core.Bool.{true}
 use native.Mathlib.Omega.{arith}
 use lib.ListN.{length}
-use Rattle.eos.specs.Firing.{all_below}
 use Rattle.model.specs.Held.{no_net}
 use Rattle.model.specs.Test.{net_is, net_at}
 use Rattle.model.specs.declared.ObjectNet.{ObjectNet}

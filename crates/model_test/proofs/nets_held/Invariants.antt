@@ -1,16 +1,8 @@
 -- `nets_held` is the test of all nets. The loop's invariant: `all` is the test of the first k nets.
-use borrow.Author.Rules.{rules}
 use Prim.Native.Nat.{◌-◌, ◌≤◌}
-use mathlib.Core.Path.{◌≡◌, refl, ap, ◌∙◌}
-use mathlib.Core.List.{[]}
-use mathlib.Core.Bool.{true}
-use native.Mathlib.Omega.{arith}
-use lib.ListN.{length}
+use mathlib.Core.Path.{◌≡◌}
 use Rattle.eos.specs.Firing.{all_below}
-use Rattle.model.specs.Held.{no_net}
-use Rattle.model.specs.Test.{net_is, net_at}
-use Rattle.model.specs.declared.ObjectNet.{ObjectNet}
-use Rattle.model.proofs.HeldTestLoops.{turn, at_any}
+use Rattle.model.specs.Test.{net_at}
 use Rattle.model_test.proofs.nets_held.Given as goal
 
 abbrev pub invariant-loop-k : goal.invariant-loop-k

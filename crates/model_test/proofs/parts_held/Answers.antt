@@ -1,9 +1,7 @@
 use borrow.Author.Rules.{rules}
-use Prim.Native.Nat.{◌-◌, ◌≤◌}
 use mathlib.Core.Path.{◌≡◌, refl, ◌∙◌}
 use mathlib.Core.Bool.{true}
 use native.Mathlib.Omega.{arith}
-use Rattle.eos.specs.Firing.{all_below}
 use Rattle.model.specs.Test.{part_at}
 use Rattle.model.proofs.HeldTestLoops.{turn, parts_move}
 use Rattle.model_test.proofs.parts_held.Goals as goal

@@ -1,12 +1,8 @@
 -- `parts_held` is `takes_part` at each net. The loop's invariant: `all` is the test of the first n nets.
-use borrow.Author.Rules.{rules}
 use Prim.Native.Nat.{◌-◌, ◌≤◌}
-use mathlib.Core.Path.{◌≡◌, refl, ◌∙◌}
-use mathlib.Core.Bool.{true}
-use native.Mathlib.Omega.{arith}
+use mathlib.Core.Path.{◌≡◌}
 use Rattle.eos.specs.Firing.{all_below}
 use Rattle.model.specs.Test.{part_at}
-use Rattle.model.proofs.HeldTestLoops.{turn, parts_move}
 use Rattle.model_test.proofs.parts_held.Given as goal
 
 abbrev pub invariant-loop-n : goal.invariant-loop-n

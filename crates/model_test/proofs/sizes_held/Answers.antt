@@ -1,5 +1,4 @@
 -- `sizes_held` is the test of a net's counts, by whether the net is used.
-use borrow.Author.Rules.{rules}
 use Rattle.model.proofs.HeldTestLoops.{below, past}
 use Rattle.model_test.proofs.sizes_held.Goals as goal
 

@@ -1,11 +1,8 @@
 -- `table_row` copies a row. The loop's invariant: the first k numbers are the row's, and the others 0.
-use borrow.Author.Rules.{rules}
-use Prim.Native.Nat.{◌-◌, ◌≤◌, ◌<◌, ◌+◌, ◌*◌}
-use mathlib.Core.Path.{◌≡◌, refl, ◌∙◌}
-use mathlib.Core.List.{append-nil}
-use native.Mathlib.Omega.{arith}
-use lib.ListN.{length, take, drop, replicate}
-use Rattle.model.proofs.HeldTestLoops.{over, over_turn}
+use Prim.Native.Nat.{◌-◌, ◌≤◌, ◌*◌}
+use mathlib.Core.Path.{◌≡◌}
+use lib.ListN.{drop, replicate}
+use Rattle.model.proofs.HeldTestLoops.{over}
 use Rattle.model_test.proofs.table_row.Given as goal
 
 abbrev pub invariant-loop-k : goal.invariant-loop-k

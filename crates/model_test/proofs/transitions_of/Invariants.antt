@@ -1,14 +1,11 @@
 -- `transitions_of` gives the number of transitions of each net. The loop's invariant: it does so below k.
-use borrow.Author.Rules.{rules}
 use Prim.Native.Nat.{ℕ, ◌-◌, ◌≤◌, ◌<◌}
-use mathlib.Core.Path.{◌≡◌, refl, ap}
-use mathlib.Core.List.{List, []}
-use native.Mathlib.Omega.{arith}
-use lib.ListN.{length, get_or, length-set, get_or-eq_default}
+use mathlib.Core.Path.{◌≡◌}
+use mathlib.Core.List.{List}
+use lib.ListN.{length, get_or}
 use Rattle.model.specs.Rules.{nth}
 use Rattle.model.specs.Held.{no_net}
 use Rattle.model.specs.declared.ObjectNet.{ObjectNet}
-use Rattle.model.proofs.HeldTestLoops.{at_any, filled_turn, filled_end}
 use Rattle.model_test.proofs.transitions_of.Given as goal
 
 abbrev pub steps_at : List ObjectNet → ℕ → ℕ

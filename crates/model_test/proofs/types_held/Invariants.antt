@@ -1,12 +1,8 @@
 -- `types_held` is the test of all types. The loop's invariant: `all` is the test of the first p places.
-use borrow.Author.Rules.{rules}
 use Prim.Native.Nat.{◌-◌, ◌≤◌}
-use mathlib.Core.Path.{◌≡◌, refl, ◌∙◌}
-use mathlib.Core.Bool.{true}
-use native.Mathlib.Omega.{arith}
+use mathlib.Core.Path.{◌≡◌}
 use Rattle.eos.specs.Firing.{all_below}
 use Rattle.model.specs.Test.{type_at}
-use Rattle.model.proofs.HeldTestLoops.{turn}
 use Rattle.model_test.proofs.types_held.Given as goal
 
 abbrev pub invariant-loop-p : goal.invariant-loop-p

@@ -1,9 +1,7 @@
 use borrow.Author.Rules.{rules}
-use Prim.Native.Nat.{◌-◌, ◌≤◌}
 use mathlib.Core.Path.{◌≡◌, refl, ◌∙◌}
 use mathlib.Core.Bool.{true}
 use native.Mathlib.Omega.{arith}
-use Rattle.eos.specs.Firing.{all_below}
 use Rattle.model.specs.Test.{move_at}
 use Rattle.model.proofs.HeldTestLoops.{turn}
 use Rattle.model_test.proofs.typing_held.Goals as goal

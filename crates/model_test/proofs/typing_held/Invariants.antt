@@ -1,12 +1,8 @@
 -- `typing_held` is monotonous typing of all moves. The loop's invariant: `all` is the test of the first i moves.
-use borrow.Author.Rules.{rules}
 use Prim.Native.Nat.{◌-◌, ◌≤◌}
-use mathlib.Core.Path.{◌≡◌, refl, ◌∙◌}
-use mathlib.Core.Bool.{true}
-use native.Mathlib.Omega.{arith}
+use mathlib.Core.Path.{◌≡◌}
 use Rattle.eos.specs.Firing.{all_below}
 use Rattle.model.specs.Test.{move_at}
-use Rattle.model.proofs.HeldTestLoops.{turn}
 use Rattle.model_test.proofs.typing_held.Given as goal
 
 abbrev pub invariant-loop-i : goal.invariant-loop-i

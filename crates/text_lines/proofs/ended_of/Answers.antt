@@ -1,5 +1,4 @@
 -- `ended_of` meets its contract: by the line's two cases.
-use borrow.Author.Rules.{rules}
 use mathlib.Core.Path.{ap, sym}
 use Rattle.text.specs.Answers.{ended_in}
 use Rattle.text_lines.proofs.ended_of.Goals as goal

@@ -1,5 +1,4 @@
 -- `head_line` meets its contract: the line stands there, or another does.
-use borrow.Author.Rules.{rules}
 use mathlib.Core.Path.{◌≡◌, ap, sym, ◌∙◌}
 use mathlib.Core.Bool.{true}
 use native.Mathlib.Omega.{arith}

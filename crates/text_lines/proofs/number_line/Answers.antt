@@ -1,5 +1,4 @@
 -- `number_line` meets its contract: the key, the number with LF, and then its range, each from what the callee ensures.
-use borrow.Author.Rules.{rules}
 use Prim.Native.Nat.{◌+◌}
 use mathlib.Core.Path.{◌≡◌, ap, sym, ◌∙◌}
 use mathlib.Core.Bool.{true}

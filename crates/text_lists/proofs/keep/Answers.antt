@@ -1,5 +1,4 @@
 -- `keep` meets its contract: a store past the row's end would change nothing.
-use borrow.Author.Rules.{rules}
 use Prim.Native.Nat.{◌%◌, ◌≤◌}
 use mathlib.Core.Path.{sym}
 use native.Mathlib.Omega.{arith}

@@ -1,5 +1,4 @@
 -- `list_end` meets its contract: the numbers are the parts above 0 of weights without a sign.
-use borrow.Author.Rules.{rules}
 use mathlib.Core.Path.{◌∙◌}
 use Rattle.text.proofs.ListLaws.{numbers_end, numbers_row}
 use Rattle.text_lists.proofs.list_end.Goals as goal

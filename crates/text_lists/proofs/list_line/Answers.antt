@@ -1,5 +1,4 @@
 -- `list_line` meets its contract: the numbers are the parts above 0 of weights without a sign.
-use borrow.Author.Rules.{rules}
 use mathlib.Core.Path.{◌∙◌}
 use Rattle.text.specs.Lines.{read_list}
 use Rattle.text.proofs.ListLaws.{numbers_behind, numbers_row}

@@ -1,5 +1,4 @@
 -- `no_values` meets its contract.
-use borrow.Author.Rules.{rules}
 use mathlib.Core.Path.{ap}
 use Rattle.text.specs.Lines.{bad}
 use Rattle.text.specs.Answers.{weight_row_of, ended_of, kept_or}

@@ -1,16 +1,14 @@
 use borrow.Author.Rules.{rules}
-use Prim.Native.Nat.{◌≤◌, ◌-◌, ◌%◌}
-use mathlib.Core.Path.{◌≡◌, refl, sym, ap, ◌∙◌}
+use Prim.Native.Nat.{◌-◌, ◌%◌}
+use mathlib.Core.Path.{refl, sym, ap, ◌∙◌}
 use mathlib.Core.Bool.{true, false}
 use native.Mathlib.Omega.{arith}
 use native.Mathlib.Nat.{sub-zero}
 use lib.ListN.{length, length-set}
 use Rattle.text.specs.Number.{signed_if, item}
-use Rattle.text.specs.Lists.{items, stop_of}
-use Rattle.text.specs.Lines.{judged, every, modest}
-use Rattle.text.specs.Answers.{weight_row_of}
+use Rattle.text.specs.Lists.{stop_of}
 use Rattle.text.proofs.NumberLaws.{Exact, CappedSigned, missing-signed, exact_signed}
-use Rattle.text.proofs.ListLaws.{rows_if, going, going_start, turn_missing, turn_more, turn_done}
+use Rattle.text.proofs.ListLaws.{rows_if, going_start, turn_missing, turn_more, turn_done}
 use Rattle.text_lists.proofs.values.Goals as goal
 
 pub loop-i-init : goal.loop-i-init

@@ -1,18 +1,13 @@
 -- `values` meets its contract. The invariant: the answer is that of going on from here with both rows, the range so far and the
 -- position in hand; each row has 32 values.
-use borrow.Author.Rules.{rules}
-use Prim.Native.Nat.{◌≤◌, ◌-◌, ◌%◌}
-use mathlib.Core.Path.{◌≡◌, refl, sym, ap, ◌∙◌}
-use mathlib.Core.Bool.{true, false}
-use native.Mathlib.Omega.{arith}
-use native.Mathlib.Nat.{sub-zero}
-use lib.ListN.{length, length-set}
-use Rattle.text.specs.Number.{signed_if, item}
-use Rattle.text.specs.Lists.{items, stop_of}
+use Prim.Native.Nat.{◌≤◌, ◌-◌}
+use mathlib.Core.Path.{◌≡◌}
+use lib.ListN.{length}
+use Rattle.text.specs.Number.{signed_if}
+use Rattle.text.specs.Lists.{items}
 use Rattle.text.specs.Lines.{judged, every, modest}
 use Rattle.text.specs.Answers.{weight_row_of}
-use Rattle.text.proofs.NumberLaws.{Exact, CappedSigned, missing-signed, exact_signed}
-use Rattle.text.proofs.ListLaws.{rows_if, going, going_start, turn_missing, turn_more, turn_done}
+use Rattle.text.proofs.ListLaws.{going}
 use Rattle.text_lists.proofs.values.Given as goal
 
 abbrev pub invariant-loop-i : goal.invariant-loop-i

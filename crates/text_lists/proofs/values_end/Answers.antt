@@ -1,7 +1,5 @@
 -- `values_end` meets its contract: at least one value is the loop's, and none is LF alone.
-use borrow.Author.Rules.{rules}
 use mathlib.Core.Path.{sym, ap, ◌∙◌}
-use mathlib.Core.Logic.{⊎_elim}
 use Rattle.text.specs.Number.{signed_if}
 use Rattle.text.specs.Lines.{judged, every, modest}
 use Rattle.text.specs.Answers.{weight_row_of, ended_of, kept_or, padded}
@@ -28,6 +26,6 @@ returns c =
     (ap weight_row_of
     (judged-missing _ _ _
     (elim c.if-at-s.branch [
-      then-at-s+else-s-at-eq10 w ↦ end_other (signed_if a.minus) a.s.now a.at a.n c.if-n-ne0.false w.if-s-at-eq10.false
-    | else-at-s w ↦ end_past (signed_if a.minus) a.s.now a.at a.n c.if-n-ne0.false w.if-at-s.false
+      | then-at-s+else-s-at-eq10 w ↦ end_other (signed_if a.minus) a.s.now a.at a.n c.if-n-ne0.false w.if-s-at-eq10.false
+      | else-at-s w ↦ end_past (signed_if a.minus) a.s.now a.at a.n c.if-n-ne0.false w.if-at-s.false
     ])))

@@ -1,5 +1,4 @@
 -- `values_line` meets its contract: the values are judged behind the key, and without the key there are none.
-use borrow.Author.Rules.{rules}
 use mathlib.Core.Path.{sym, ap, ◌∙◌}
 use native.Mathlib.Omega.{arith}
 use Rattle.text.specs.Number.{signed_if}

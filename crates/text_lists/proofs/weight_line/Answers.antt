@@ -1,5 +1,4 @@
 -- `weight_line` meets its contract: weights are the values that may have a sign.
-use borrow.Author.Rules.{rules}
 use Rattle.text.specs.Number.{signed_if}
 use Rattle.text.specs.Lines.{read_weights}
 use Rattle.text_lists.proofs.weight_line.Goals as goal

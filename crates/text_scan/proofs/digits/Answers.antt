@@ -1,11 +1,6 @@
-use borrow.Author.Rules.{rules}
-use Prim.Native.Nat.{◌≤◌, ◌-◌}
-use mathlib.Core.Path.{◌≡◌, sym, ◌∙◌}
+use mathlib.Core.Path.{sym, ◌∙◌}
 use native.Mathlib.Omega.{arith}
 use borrow.Author.Tests.{not-true, not-false}
-use lib.ListN.{length, drop}
-use Rattle.text.specs.Number.{digits}
-use Rattle.text.specs.Capped.{capped}
 use Rattle.text.proofs.NumberLaws.{capped_stop, capped_end, capped_more}
 use Rattle.text.proofs.NumberSteps.{digit_bounds}
 use Rattle.text_scan.proofs.digits.Goals as goal

@@ -1,14 +1,9 @@
 -- `digits` meets its contract. The invariant: the capped answer is that of going on from here.
-use borrow.Author.Rules.{rules}
 use Prim.Native.Nat.{◌≤◌, ◌-◌}
-use mathlib.Core.Path.{◌≡◌, sym, ◌∙◌}
-use native.Mathlib.Omega.{arith}
-use borrow.Author.Tests.{not-true, not-false}
+use mathlib.Core.Path.{◌≡◌}
 use lib.ListN.{length, drop}
 use Rattle.text.specs.Number.{digits}
 use Rattle.text.specs.Capped.{capped}
-use Rattle.text.proofs.NumberLaws.{capped_stop, capped_end, capped_more}
-use Rattle.text.proofs.NumberSteps.{digit_bounds}
 use Rattle.text_scan.proofs.digits.Given as goal
 
 abbrev pub invariant-loop-k : goal.invariant-loop-k

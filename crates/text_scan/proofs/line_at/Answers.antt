@@ -1,10 +1,7 @@
 use borrow.Author.Rules.{rules}
-use Prim.Native.Nat.{ℕ, ◌≤◌, ◌-◌, ◌+◌}
+use Prim.Native.Nat.{ℕ, ◌+◌}
 use mathlib.Core.Path.{◌≡◌, ap, ◌∙◌}
-use mathlib.Core.Logic.{⊎_elim}
 use native.Mathlib.Omega.{arith}
-use lib.ListN.{length}
-use Rattle.text.specs.Bytes.{line_at}
 use Rattle.text.proofs.ByteLaws.{line_first, line_more, line_same, line_last}
 use Rattle.text_scan.proofs.line_at.Goals as goal
 use Rattle.text_scan.proofs.line_at.Goals.{then-s-i-eq10, else-s-i-eq10}
@@ -22,8 +19,8 @@ loop-i-preserved c =
     let l = c.loop-i in
     let h = c.loop-i-test.true in
     elim c.if-s-i-eq10.branch [
-      then-s-i-eq10 w ↦ (omega arith, omega arith, omega arith, w.n-is ∙ ap (λ (k : ℕ). k + 1) l.invariant.3 ∙ line_more _ l.i h w.if-s-i-eq10.true)
-    | else-s-i-eq10 w ↦ (omega arith, omega arith, omega arith, w.n-is ∙ l.invariant.3 ∙ line_same _ l.i h w.if-s-i-eq10.false)
+      | then-s-i-eq10 w ↦ (omega arith, omega arith, omega arith, w.n-is ∙ ap (λ (k : ℕ). k + 1) l.invariant.3 ∙ line_more _ l.i h w.if-s-i-eq10.true)
+      | else-s-i-eq10 w ↦ (omega arith, omega arith, omega arith, w.n-is ∙ l.invariant.3 ∙ line_same _ l.i h w.if-s-i-eq10.false)
     ]
 
 pub returns : goal.returns

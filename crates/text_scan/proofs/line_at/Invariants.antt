@@ -1,12 +1,8 @@
 -- `line_at` meets its contract. The invariant: one less than n lines end in the first i bytes, and n is at most i and one.
-use borrow.Author.Rules.{rules}
-use Prim.Native.Nat.{ℕ, ◌≤◌, ◌-◌, ◌+◌}
-use mathlib.Core.Path.{◌≡◌, ap, ◌∙◌}
-use mathlib.Core.Logic.{⊎_elim}
-use native.Mathlib.Omega.{arith}
+use Prim.Native.Nat.{◌≤◌, ◌-◌, ◌+◌}
+use mathlib.Core.Path.{◌≡◌}
 use lib.ListN.{length}
 use Rattle.text.specs.Bytes.{line_at}
-use Rattle.text.proofs.ByteLaws.{line_first, line_more, line_same, line_last}
 use Rattle.text_scan.proofs.line_at.Given as goal
 
 abbrev pub invariant-loop-i : goal.invariant-loop-i

@@ -1,5 +1,4 @@
 -- `negated` meets its contract: the number is capped, so it is 0 where its capped value is.
-use borrow.Author.Rules.{rules}
 use mathlib.Core.Path.{sym, ap, ◌∙◌}
 use Rattle.text.specs.Capped.{capped_signed}
 use Rattle.text.proofs.NumberLaws.{missing_of, exact_of, negated-missing, negated_zero, negated-answer}

@@ -1,5 +1,4 @@
 -- `plain` meets its contract.
-use borrow.Author.Rules.{rules}
 use mathlib.Core.Path.{sym, ap, ◌∙◌}
 use Rattle.text.specs.Capped.{capped_signed}
 use Rattle.text.proofs.NumberLaws.{missing_of, exact_of, plain_missing, plain_answer}

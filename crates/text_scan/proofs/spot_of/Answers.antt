@@ -1,5 +1,4 @@
 -- `spot_of` meets its contract.
-use borrow.Author.Rules.{rules}
 use mathlib.Core.Path.{ap}
 use Rattle.text.specs.declared.Spot.{Spot}
 use Rattle.text_scan.proofs.spot_of.Goals as goal

@@ -1,9 +1,5 @@
-use borrow.Author.Rules.{rules}
-use Prim.Native.Nat.{◌≤◌, ◌-◌}
-use mathlib.Core.Path.{◌≡◌, sym, ◌∙◌}
+use mathlib.Core.Path.{sym, ◌∙◌}
 use native.Mathlib.Omega.{arith}
-use lib.ListN.{length, drop}
-use Rattle.text.specs.Bytes.{starts}
 use Rattle.text.proofs.ByteLaws.{starts-nothing, key_end, key-short, key_other, key_more}
 use Rattle.text_scan.proofs.starts.Goals as goal
 

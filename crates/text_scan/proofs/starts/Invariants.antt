@@ -1,11 +1,8 @@
 -- `starts` meets its contract. The invariant: the key stands there exactly if what is left of it, from i on, stands at i.
-use borrow.Author.Rules.{rules}
 use Prim.Native.Nat.{◌≤◌, ◌-◌}
-use mathlib.Core.Path.{◌≡◌, sym, ◌∙◌}
-use native.Mathlib.Omega.{arith}
+use mathlib.Core.Path.{◌≡◌}
 use lib.ListN.{length, drop}
 use Rattle.text.specs.Bytes.{starts}
-use Rattle.text.proofs.ByteLaws.{starts-nothing, key_end, key-short, key_other, key_more}
 use Rattle.text_scan.proofs.starts.Given as goal
 
 abbrev pub invariant-loop-i : goal.invariant-loop-i

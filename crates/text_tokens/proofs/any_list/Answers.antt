@@ -1,11 +1,6 @@
-use borrow.Author.Rules.{rules}
-use Prim.Native.Nat.{◌-◌}
-use mathlib.Core.Path.{◌≡◌, sym, ◌∙◌}
-use mathlib.Core.Logic.{⊎_elim}
+use mathlib.Core.Path.{sym, ◌∙◌}
 use native.Mathlib.Omega.{arith}
-use lib.ListN.{length}
 use Rattle.text.specs.Number.{number}
-use Rattle.text.specs.Lists.{any_list, any_items}
 use Rattle.text.proofs.NumberLaws.{Exact, Capped, missing_of, exact_of, number_forward}
 use Rattle.text.proofs.ListLaws.{any_empty, any_start, any_start_past, any_missing, any_end, any_last, any_other, any_past, any_more}
 use Rattle.text_tokens.proofs.any_list.Goals as goal
@@ -18,8 +13,8 @@ pub loop-at-init : goal.loop-at-init
 loop-at-init c =
     let a = c.args in
     elim c.if-from-s.branch [
-      then-from-s+else-s-from-eq10 w ↦ any_start a.s.now a.from w.if-s-from-eq10.false
-    | else-from-s w ↦ any_start_past a.s.now a.from w.if-from-s.false
+      | then-from-s+else-s-from-eq10 w ↦ any_start a.s.now a.from w.if-s-from-eq10.false
+      | else-from-s w ↦ any_start_past a.s.now a.from w.if-from-s.false
     ]
 
 pub returns-in_default : goal.returns-in_default

@@ -1,5 +1,4 @@
 -- `counted` meets its contract: how the row ended says which outcome it stands for.
-use borrow.Author.Rules.{rules}
 use Rattle.text.specs.Token.{counts_at}
 use Rattle.text_tokens.proofs.TokenLaws.{counts_past, counts_stopped}
 use Rattle.text_tokens.proofs.counted.Goals as goal

@@ -1,5 +1,4 @@
 -- `no_token` meets its contract.
-use borrow.Author.Rules.{rules}
 use mathlib.Core.Path.{ap}
 use Rattle.text.specs.Lines.{bad}
 use Rattle.text.specs.Answers.{token_row_of, ended_of, kept_or}

@@ -1,5 +1,4 @@
 -- `out_of_range` meets its contract.
-use borrow.Author.Rules.{rules}
 use mathlib.Core.Path.{sym, ap, ◌∙◌}
 use Rattle.text.specs.Answers.{token_row_of}
 use Rattle.text.proofs.LineLaws.{need_met, need_unmet}

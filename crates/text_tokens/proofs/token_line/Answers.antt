@@ -1,5 +1,4 @@
 -- `token_line` meets its contract: the key, the place with its colon, and then its range, each from what the callee ensures.
-use borrow.Author.Rules.{rules}
 use Prim.Native.Nat.{◌+◌}
 use mathlib.Core.Path.{◌≡◌, sym, ap, ◌∙◌}
 use mathlib.Core.Bool.{true}

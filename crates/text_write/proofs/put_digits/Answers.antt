@@ -1,10 +1,7 @@
-use Prim.Native.Nat.{◌+◌, ◌/◌, ◌%◌, ◌≤◌, ◌<◌}
+use Prim.Native.Nat.{◌+◌, ◌/◌, ◌%◌, ◌<◌}
 use mathlib.Core.Path.{◌≡◌, refl, ◌∙◌}
 use native.Mathlib.Omega.{arith}
-use lib.ListN.{length, length-set}
-use lib.Seq.{sets}
-use borrow.Author.Rules.{rules}
-use Rattle.text.specs.Printed.{decimal}
+use lib.ListN.{length-set}
 use Rattle.text.proofs.DecimalLaws.{length-positive, length-small, length_large}
 use Rattle.text.proofs.PrintedLaws.{lay_last, lay-one}
 use Rattle.text_write.proofs.put_digits.Goals as goal

@@ -1,14 +1,10 @@
 -- `put_digits`: the digits of n, laid from the last to the first. The loop's invariant: k is where the last digit of v goes,
 -- within the buffer, and the digits of v laid over the buffer as it is now are those of n laid over the buffer as it was.
-use Prim.Native.Nat.{◌+◌, ◌/◌, ◌%◌, ◌≤◌, ◌<◌}
-use mathlib.Core.Path.{◌≡◌, refl, ◌∙◌}
-use native.Mathlib.Omega.{arith}
-use lib.ListN.{length, length-set}
+use Prim.Native.Nat.{◌+◌, ◌≤◌}
+use mathlib.Core.Path.{◌≡◌}
+use lib.ListN.{length}
 use lib.Seq.{sets}
-use borrow.Author.Rules.{rules}
 use Rattle.text.specs.Printed.{decimal}
-use Rattle.text.proofs.DecimalLaws.{length-positive, length-small, length_large}
-use Rattle.text.proofs.PrintedLaws.{lay_last, lay-one}
 use Rattle.text_write.proofs.put_digits.Given as goal
 
 abbrev pub invariant-loop-v : goal.invariant-loop-v

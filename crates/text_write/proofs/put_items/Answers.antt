@@ -1,9 +1,7 @@
-use Prim.Native.Nat.{◌+◌, ◌-◌, ◌≤◌}
+use Prim.Native.Nat.{◌+◌}
 use mathlib.Core.Path.{◌≡◌, refl, ap, ◌∙◌}
 use native.Mathlib.Omega.{arith}
 use lib.ListN.{length, drop, length-set}
-use lib.Seq.{sets}
-use borrow.Author.Rules.{rules}
 use Rattle.text.specs.Printed.{decimal, items_text}
 use Rattle.text.proofs.PrintedLaws.{length-items, lay-item, items_over}
 use Rattle.text_write.proofs.put_items.Goals as goal

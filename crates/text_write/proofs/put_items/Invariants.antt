@@ -1,13 +1,10 @@
 -- `put_items`: the numbers of a list, each with the byte that ends it. The loop's invariant: what is still to come ends where
 -- the whole list ends, and laid over the buffer as it is now it gives the whole list laid over the buffer as it was.
 use Prim.Native.Nat.{◌+◌, ◌-◌, ◌≤◌}
-use mathlib.Core.Path.{◌≡◌, refl, ap, ◌∙◌}
-use native.Mathlib.Omega.{arith}
-use lib.ListN.{length, drop, length-set}
+use mathlib.Core.Path.{◌≡◌}
+use lib.ListN.{length, drop}
 use lib.Seq.{sets}
-use borrow.Author.Rules.{rules}
 use Rattle.text.specs.Printed.{decimal, items_text}
-use Rattle.text.proofs.PrintedLaws.{length-items, lay-item, items_over}
 use Rattle.text_write.proofs.put_items.Given as goal
 
 abbrev pub invariant-loop-i : goal.invariant-loop-i

@@ -2,7 +2,6 @@
 use mathlib.Core.Path.{ap}
 use native.Mathlib.Omega.{arith}
 use lib.ListN.{length}
-use borrow.Author.Rules.{rules}
 use Rattle.text.proofs.PrintedLaws.{end_none, end_some}
 use Rattle.text_write.proofs.put_list.Goals as goal
 

@@ -1,5 +1,4 @@
 -- `put_number_line` meets its contract: the parts of the line, one after the other.
-use borrow.Author.Rules.{rules}
 use native.Mathlib.Omega.{arith}
 use Rattle.text.proofs.LaidLaws.{number_line_length, lay_number_line}
 use Rattle.text_write.proofs.put_number_line.Goals as goal

@@ -1,10 +1,9 @@
-use Prim.Native.Nat.{ℕ, ◌+◌, ◌-◌, ◌≤◌}
-use mathlib.Core.Path.{◌≡◌, refl, ap, ◌∙◌}
+use Prim.Native.Nat.{ℕ, ◌+◌}
+use mathlib.Core.Path.{refl, ap, ◌∙◌}
 use mathlib.Core.List.{List}
 use native.Mathlib.Omega.{arith}
-use lib.ListN.{length, take, set, get_or, length-set}
+use lib.ListN.{set, get_or, length-set}
 use lib.Seq.{sets, take_all}
-use borrow.Author.Rules.{rules}
 use Rattle.text.proofs.SetsLaws.{sets_more}
 use Rattle.text_write.proofs.put_text.Goals as goal
 

@@ -1,9 +1,4 @@
-use Prim.Native.Nat.{◌+◌, ◌≤◌}
-use mathlib.Core.Path.{◌≡◌}
 use native.Mathlib.Omega.{arith}
-use lib.ListN.{length}
-use borrow.Author.Rules.{rules}
-use Rattle.text.specs.Printed.{decimal}
 use Rattle.text.proofs.DecimalLaws.{length-small, length_large}
 use Rattle.text_write.proofs.width.Goals as goal
 

@@ -2,11 +2,8 @@
 -- n; k and v are together at most n + 1, so that k cannot be too large for its type.
 use Prim.Native.Nat.{◌+◌, ◌≤◌}
 use mathlib.Core.Path.{◌≡◌}
-use native.Mathlib.Omega.{arith}
 use lib.ListN.{length}
-use borrow.Author.Rules.{rules}
 use Rattle.text.specs.Printed.{decimal}
-use Rattle.text.proofs.DecimalLaws.{length-small, length_large}
 use Rattle.text_write.proofs.width.Given as goal
 
 abbrev pub invariant-loop-v : goal.invariant-loop-v

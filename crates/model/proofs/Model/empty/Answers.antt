@@ -1,5 +1,4 @@
 -- The empty model is `no_model`: its object nets and events are the empty ones.
-use borrow.Author.Rules.{rules}
 use Rattle.model.proofs.Model.empty.Goals as goal
 
 pub returns : goal.returns

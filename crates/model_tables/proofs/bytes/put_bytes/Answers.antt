@@ -1,10 +1,8 @@
 use borrow.Author.Rules.{rules}
-use Prim.Native.Nat.{◌≤◌, ◌-◌, ◌+◌}
 use mathlib.Core.Path.{◌≡◌, refl}
 use native.Mathlib.Omega.{arith}
 use native.Mathlib.Nat.{add-zero}
-use lib.ListN.{length, drop}
-use lib.Seq.{sets}
+use lib.ListN.{length}
 use Rattle.text.proofs.PaddedLaws.{put_next_lem, put_done}
 use Rattle.model_tables.proofs.bytes.put_bytes.Goals as goal
 

@@ -1,12 +1,8 @@
 -- `put_counts` stores a row. The loop's invariant: the values that are left, stored from at + k on, give the whole.
-use borrow.Author.Rules.{rules}
 use Prim.Native.Nat.{◌≤◌, ◌-◌, ◌+◌}
-use mathlib.Core.Path.{◌≡◌, refl}
-use native.Mathlib.Omega.{arith}
-use native.Mathlib.Nat.{add-zero}
+use mathlib.Core.Path.{◌≡◌}
 use lib.ListN.{length, drop}
 use lib.Seq.{sets}
-use Rattle.text.proofs.PaddedLaws.{put_next_lem, put_done}
 use Rattle.model_tables.proofs.counts.put_counts.Given as goal
 
 abbrev pub invariant-loop-k : goal.invariant-loop-k
