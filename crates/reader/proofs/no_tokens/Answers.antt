@@ -1,0 +1,6 @@
+-- `no_tokens` holds no net-token.
+use borrow.Author.Rules.{rules}
+use Rattle.reader.proofs.no_tokens.Goals as goal
+
+pub returns : goal.returns
+returns c = rw c.empty-marking.ensures

@@ -1,0 +1,33 @@
+-- `write_marking` meets its contract: not held, or what the writer of a marking answers.
+use borrow.Author.Rules.{rules}
+use mathlib.Core.Path.{◌≡◌, sym, ◌∙◌}
+use mathlib.Core.Bool.{true}
+use native.Mathlib.Omega.{arith}
+use borrow.Author.Tests.{not-true, not-false}
+use Rattle.model.proofs.HeldTests.{held-is, most-places}
+use Rattle.marking.specs.Printed.{marking_text}
+use Rattle.reader.specs.Answers.{held_both}
+use Rattle.reader.proofs.ReadingLaws.{both_model}
+use Rattle.reader.proofs.WriteAnswers.{write_asks, write_unheld, write_laid}
+use Rattle.reader.proofs.write_marking.Goals as goal
+
+pub returns-then-not-test_marking : goal.returns-then-not-test_marking
+returns-then-not-test_marking c = write_unheld _ _ _ (sym c.test_marking.ensures ∙ not-true _ c.if-not-test_marking.true-raw)
+
+pub overflow_cast-m : goal.overflow_cast-m
+overflow_cast-m c = let passed : (let a = c.args in held_both a.m a.k ≡ true) = sym c.test_marking.ensures ∙ not-false _ c.if-not-test_marking.false-raw in
+    omega (arith, most-places _ (held-is _ (both_model _ _ (passed))))
+
+pub sizes-requires : goal.sizes-requires
+sizes-requires c = let passed : (let a = c.args in held_both a.m a.k ≡ true) = sym c.test_marking.ensures ∙ not-false _ c.if-not-test_marking.false-raw in
+    both_model _ _ (passed)
+
+pub write-requires : goal.write-requires
+write-requires c = let passed : (let a = c.args in held_both a.m a.k ≡ true) = sym c.test_marking.ensures ∙ not-false _ c.if-not-test_marking.false-raw in
+    let a = write_asks _ _ (passed) _ c.sizes.ensures in
+    (a.0, a.1, omega arith, omega arith)
+
+pub returns : goal.returns
+unfolding marking_text
+returns c = let passed : (let a = c.args in held_both a.m a.k ≡ true) = sym c.test_marking.ensures ∙ not-false _ c.if-not-test_marking.false-raw in
+    write_laid _ _ _ (passed) _ c.sizes.ensures _ _ _ c.written_as.ensures c.write.ensures
