@@ -1,5 +1,5 @@
-// The calls of the engine for C, as include/furzepenny.h declares them. Texts and buffers are lent, held models and markings go by value;
-// an answer's enum is its number in 01's table and what stands beside it.
+// The calls of the engine as C gets them: `capi_c` exports each under its name here, as include/furzepenny.h declares it. Texts and buffers
+// are lent, held models and markings go by value; an answer's enum is its number in 01's table and what stands beside it.
 #![tactic(auto)]
 
 ghost use Rattle.std.specs.Prelude.{◌≡◌};
@@ -80,15 +80,13 @@ pub struct Shared {
     pub ways: u64,
 }
 
-#[unsafe(no_mangle)]
-pub extern "C" fn fp_version() -> usize
+pub fn fp_version() -> usize
     ensures { result ≡ version }
 {
     20000
 }
 
-#[unsafe(no_mangle)]
-pub extern "C" fn fp_read_model(text: &[u8]) -> ModelRead
+pub fn fp_read_model(text: &[u8]) -> ModelRead
     ensures { result ≡ model_read (model_reading text.now) }
 {
     let read = engine::read_model(text);
@@ -104,8 +102,7 @@ pub extern "C" fn fp_read_model(text: &[u8]) -> ModelRead
     }
 }
 
-#[unsafe(no_mangle)]
-pub extern "C" fn fp_read_marking(model: Model, text: &[u8]) -> MarkingRead
+pub fn fp_read_marking(model: Model, text: &[u8]) -> MarkingRead
     ensures { result ≡ marking_read (marking_reading model text.now) }
 {
     let read = engine::read_marking(model, text);
@@ -119,15 +116,13 @@ pub extern "C" fn fp_read_marking(model: Model, text: &[u8]) -> MarkingRead
     }
 }
 
-#[unsafe(no_mangle)]
-pub extern "C" fn fp_test_model(model: Model) -> bool
+pub fn fp_test_model(model: Model) -> bool
     ensures { result ≡ held_model model }
 {
     engine::test_model(model)
 }
 
-#[unsafe(no_mangle)]
-pub extern "C" fn fp_test_marking(model: Model, marking: Marking) -> bool
+pub fn fp_test_marking(model: Model, marking: Marking) -> bool
     ensures { result ≡ held_both model marking }
 {
     engine::test_marking(model, marking)
@@ -145,15 +140,13 @@ fn text_written(answer: WriteAnswer) -> TextWritten
     }
 }
 
-#[unsafe(no_mangle)]
-pub extern "C" fn fp_write_marking(model: Model, marking: Marking, out: &mut [u8]) -> TextWritten
+pub fn fp_write_marking(model: Model, marking: Marking, out: &mut [u8]) -> TextWritten
     ensures { record { answer = result; bytes = out.new } ≡ written_to_c (marking_writing model marking out.old) }
 {
     text_written(engine::write_marking(model, marking, out))
 }
 
-#[unsafe(no_mangle)]
-pub extern "C" fn fp_check_weights(model: Model, marking: Marking, text: &[u8]) -> Weighed
+pub fn fp_check_weights(model: Model, marking: Marking, text: &[u8]) -> Weighed
     ensures { result ≡ weights_checked (weight_checking model marking text.now) }
 {
     let check = engine::check_weights(model, marking, text);
@@ -169,8 +162,7 @@ pub extern "C" fn fp_check_weights(model: Model, marking: Marking, text: &[u8]) 
     }
 }
 
-#[unsafe(no_mangle)]
-pub extern "C" fn fp_step(model: Model, marking: Marking, text: &[u8]) -> StepDone
+pub fn fp_step(model: Model, marking: Marking, text: &[u8]) -> StepDone
     ensures { result ≡ step_done (stepping model marking text.now) }
 {
     let step = engine::step(model, marking, text);
@@ -185,8 +177,7 @@ pub extern "C" fn fp_step(model: Model, marking: Marking, text: &[u8]) -> StepDo
     }
 }
 
-#[unsafe(no_mangle)]
-pub extern "C" fn fp_run(model: Model, marking: Marking, text: &[u8]) -> RunDone
+pub fn fp_run(model: Model, marking: Marking, text: &[u8]) -> RunDone
     ensures { result ≡ run_done (running model marking text.now) }
 {
     let ran = engine::run(model, marking, text);
@@ -202,8 +193,7 @@ pub extern "C" fn fp_run(model: Model, marking: Marking, text: &[u8]) -> RunDone
     }
 }
 
-#[unsafe(no_mangle)]
-pub extern "C" fn fp_ways(tokens: usize, racks: usize) -> Shared
+pub fn fp_ways(tokens: usize, racks: usize) -> Shared
     ensures { result ≡ shared (spread_call tokens racks) }
 {
     let answer = engine::ways(tokens, racks);
@@ -215,13 +205,7 @@ pub extern "C" fn fp_ways(tokens: usize, racks: usize) -> Shared
     }
 }
 
-#[unsafe(no_mangle)]
-pub extern "C" fn fp_listing(
-    model: &[u8],
-    weights: &[u8],
-    trace: &[u8],
-    out: &mut [u8],
-) -> TextWritten
+pub fn fp_listing(model: &[u8], weights: &[u8], trace: &[u8], out: &mut [u8]) -> TextWritten
     ensures { record { answer = result; bytes = out.new }
         ≡ written_to_c (lay_whole (listing_text model.now weights.now trace.now) out.old) }
 {

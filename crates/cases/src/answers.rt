@@ -1,119 +1,93 @@
 // What is printed of the answer of each call.
-use super::line::number_at;
-use bytes::scan::find;
+use super::line::{find, number_at};
 use engine::{Marking, Model, Spread, StepAnswer};
-use libc::STDOUT_FILENO;
 use pairs::Pair;
+use std::io;
 
-pub fn put(text: &[u8]) {
-    io::write_all(STDOUT_FILENO, text);
+fn put_pair(rt: &impl Print, pair: Pair) -> io::Result<()> {
+    println!(rt; "{},{}", pair.number, pair.beside)
 }
 
-fn put_number(n: usize) {
-    io::print_decimal(STDOUT_FILENO, n as u64);
-}
-
-fn put_pair(pair: Pair) {
-    put_number(pair.number as usize);
-    put(b",");
-    put_number(pair.beside);
-    put(b"\n");
-}
-
-pub fn model(text: &[u8]) {
+pub fn model(rt: &impl Print, text: &[u8]) -> io::Result<()> {
     let r = engine::read_model(text);
     let answer = r.answer;
-    put_pair(pairs::read_pair(answer));
+    put_pair(rt, pairs::read_pair(answer))
 }
 
-pub fn marking(m: Model, text: &[u8]) {
+pub fn marking(rt: &impl Print, m: Model, text: &[u8]) -> io::Result<()> {
     let r = engine::read_marking(m, text);
     let answer = r.answer;
-    put_pair(pairs::read_pair(answer));
+    put_pair(rt, pairs::read_pair(answer))
 }
 
 // A step that fired says the bytes that it used.
-fn put_step(answer: StepAnswer) {
+fn put_step(rt: &impl Print, answer: StepAnswer) -> io::Result<()> {
     let StepAnswer::Fired { bytes } = answer else {
-        put_pair(pairs::step_pair(answer));
-        return;
+        return put_pair(rt, pairs::step_pair(answer));
     };
-    put(b"fired, bytes ");
-    put_number(bytes);
-    put(b"\n");
+    println!(rt; "fired, bytes {bytes}")
 }
 
 // Answers the marking after the step.
-pub fn step(m: Model, k: Marking, text: &[u8]) -> Marking {
+pub fn step(rt: &impl Print, m: Model, k: Marking, text: &[u8]) -> io::Result<Marking> {
     let r = engine::step(m, k, text);
     let answer = r.answer;
-    put_step(answer);
-    r.marking
+    put_step(rt, answer)?;
+    Ok(r.marking)
 }
 
 // What writing a marking answers, and the lent bytes after it.
-pub fn written(m: Model, k: Marking, out: &mut [u8]) {
+pub fn written(rt: &impl Print, m: Model, k: Marking, out: &mut [u8]) -> io::Result<()> {
     let answer = engine::write_marking(m, k, out);
-    put_pair(pairs::write_pair(answer));
-    put(out);
-    put(b"\n");
+    put_pair(rt, pairs::write_pair(answer))?;
+    rt.write_all(out)?;
+    rt.write_all(b"\n")
 }
 
 // The marking in a buffer of as many bytes as the text says; this program has room for 256.
-pub fn write(m: Model, k: Marking, text: &[u8]) {
+pub fn write(rt: &impl Print, m: Model, k: Marking, text: &[u8]) -> io::Result<()> {
     let mut out = [46u8; 256];
-    let n = io::count(number_at(text, 0) as isize, &out);
-    written(m, k, &mut out[..n]);
+    let n = (number_at(text, 0) as usize).min(out.len());
+    written(rt, m, k, &mut out[..n])
 }
 
-pub fn run(m: Model, k: Marking, text: &[u8]) {
+pub fn run(rt: &impl Print, m: Model, k: Marking, text: &[u8]) -> io::Result<()> {
     let r = engine::run(m, k, text);
-    put(b"fired ");
-    put_number(r.fired);
-    put(b", at ");
-    put_number(r.at);
-    put(b", stop ");
+    print!(rt; "fired {}, at {}, stop ", r.fired, r.at)?;
     let stop = r.stop;
-    put_pair(pairs::stop_pair(stop));
+    put_pair(rt, pairs::stop_pair(stop))?;
     let after = r.marking;
     let mut out = [46u8; 40];
-    put(b"held: ");
-    written(m, after, &mut out);
+    print!(rt; "held: ")?;
+    written(rt, m, after, &mut out)
 }
 
 // The pair, the sum, and 1 or 0 for the cover.
-pub fn weigh(m: Model, k: Marking, text: &[u8]) {
+pub fn weigh(rt: &impl Print, m: Model, k: Marking, text: &[u8]) -> io::Result<()> {
     let r = engine::check_weights(m, k, text);
     let answer = r.answer;
-    put_pair(pairs::weight_pair(answer));
+    put_pair(rt, pairs::weight_pair(answer))?;
     let sum = r.sum;
-    put(b"  sum ");
+    let cover = r.cover as usize;
     if sum.below > 0 {
-        put(b"-");
-        put_number(sum.below as usize);
+        println!(rt; "  sum -{}, cover {cover}", sum.below)
     } else {
-        put_number(sum.above as usize);
+        println!(rt; "  sum {}, cover {cover}", sum.above)
     }
-    put(b", cover ");
-    put_number(r.cover as usize);
-    put(b"\n");
 }
 
-pub fn count(k: Marking) {
-    put_number(k.len);
-    put(b"\n");
+pub fn count(rt: &impl Print, k: Marking) -> io::Result<()> {
+    println!(rt; "{}", k.len)
 }
 
 // The text has the tokens and the racks, with a comma between them.
-pub fn ways(text: &[u8]) {
-    let comma = find(text, 0, text.len(), b',');
+pub fn ways(rt: &impl Print, text: &[u8]) -> io::Result<()> {
+    let comma = find(text, b',');
     let tokens = number_at(text, 0);
     let racks = number_at(&text[comma..], 1);
     let answer = engine::ways(tokens as usize, racks as usize);
     let Spread::Ways { value } = answer else {
-        put_pair(pairs::spread_pair(answer));
-        return;
+        return put_pair(rt, pairs::spread_pair(answer));
     };
-    put_number(value as usize);
-    put(b"\n");
+    println!(rt; "{value}")
 }

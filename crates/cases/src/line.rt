@@ -1,9 +1,24 @@
 // The text of a case, in which \n stands for LF and \r for CR.
-ghost use Rattle.std.specs.Prelude.{◌≤◌, ◌<◌, length};
-ghost use Rattle.io.specs.Counts.{IsPrefixLen};
+ghost use Rattle.std.specs.Prelude.{◌≡◌, ◌≢◌, ◌≤◌, ◌<◌, length, take, slice_index, All};
 
 use text::Decimal;
 use text_scan::{number, starts};
+
+// The position of the first such byte of s; where there is none, the length of s.
+pub fn find(s: &[u8], byte: u8) -> usize
+    ensures in_bounds { result ≤ length s.now }
+    ensures first { All (λ b. b ≢ byte) (take result s.now) }
+    ensures found { result < length s.now → slice_index s.now result ≡ byte }
+{
+    let mut at = 0;
+    while at < s.len() {
+        if s[at] == byte {
+            return at;
+        }
+        at += 1;
+    }
+    at
+}
 
 // A byte of the text, and the position after what stands for it.
 #[derive(Clone, Copy)]
@@ -42,7 +57,8 @@ fn byte_from(s: &[u8], at: usize) -> Byte
 
 // Puts the text behind a colon and a blank, with which s begins, into out, and answers how many bytes there are.
 pub fn decoded(s: &[u8], out: &mut [u8]) -> usize
-    ensures { IsPrefixLen result out.new }
+    ensures in_bounds { result ≤ length out.new }
+    ensures prefix { result ≡ length (take result out.new) }
 {
     let mut at = 2;
     let mut n = 0;

@@ -2,12 +2,14 @@
 // beside it. The cases are the lines of the file `cases`; those on held things that no reading gives are in `held`.
 #![tactic(auto)]
 
-ghost use Rattle.io.specs.Counts.{IsPrefixLen};
+ghost use Rattle.std.specs.Prelude.{◌≡◌, ◌≤◌, length, take};
 
-use answers::put;
-use bytes::scan::find;
 use engine::{Marking, Model};
-use line::decoded;
+use line::{decoded, find};
+use std::fs::File;
+use std::io::Read;
+use std::rt::Files;
+use std::{io, str};
 use text_scan::starts;
 
 mod answers;
@@ -30,103 +32,127 @@ fn hand_of(text: &[u8]) -> Hand {
 }
 
 // Reads the file at `path` into buf and answers how many bytes there are; of one that cannot be opened, none.
-fn load(path: &[u8], buf: &mut [u8]) -> usize
-    ensures { IsPrefixLen result buf.new }
+fn load(rt: &impl Files, path: &str, buf: &mut [u8]) -> usize
+    ensures in_bounds { result ≤ length buf.new }
+    ensures prefix { result ≡ length (take result buf.new) }
 {
-    let fd = os::open_read(path);
-    if fd < 0 {
+    let Ok(mut file) = File::open(rt, path) else {
         return 0;
+    };
+    let mut done = 0;
+    while done < buf.len() {
+        let Ok(n) = file.read(&mut buf[done..]) else {
+            break;
+        };
+        if n == 0 {
+            break;
+        }
+        done += n;
     }
-    let n = io::read_full(fd, buf);
-    libc::close(fd);
-    n
+    done
 }
 
-fn loaded(path: &[u8]) -> Hand {
-    let mut buf = io::large_buffer();
-    let n = load(path, &mut buf);
+fn loaded(rt: &impl Files, path: &str) -> Hand {
+    let mut buf = [0u8; 65536];
+    let n = load(rt, path, &mut buf);
     hand_of(&buf[..n])
 }
 
+// The hand of the file that a case names; a name that is not UTF-8 is no file's.
+fn loaded_by_name(rt: &impl Files, name: &[u8]) -> Hand {
+    let Ok(path) = str::from_utf8(name) else {
+        return hand_of(b"");
+    };
+    loaded(rt, path)
+}
+
 // What a case that leaves the hand as it is prints after its name.
-fn print(hand: Hand, kind: &[u8], text: &[u8]) {
+fn print(rt: &impl Print, hand: Hand, kind: &[u8], text: &[u8]) -> io::Result<()> {
     let m = hand.model;
     let k = hand.marking;
     if starts(kind, 0, b"model ") {
-        answers::model(text);
+        answers::model(rt, text)
     } else if starts(kind, 0, b"marking ") {
-        answers::marking(m, text);
+        answers::marking(rt, m, text)
     } else if starts(kind, 0, b"step ") {
-        answers::step(m, k, text);
+        answers::step(rt, m, k, text)?;
+        Ok(())
     } else if starts(kind, 0, b"run ") {
-        answers::run(m, k, text);
+        answers::run(rt, m, k, text)
     } else if starts(kind, 0, b"weigh ") {
-        answers::weigh(m, k, text);
+        answers::weigh(rt, m, k, text)
     } else if starts(kind, 0, b"write ") {
-        answers::write(m, k, text);
+        answers::write(rt, m, k, text)
     } else if starts(kind, 0, b"count ") {
-        answers::count(k);
+        answers::count(rt, k)
     } else if starts(kind, 0, b"ways ") {
-        answers::ways(text);
+        answers::ways(rt, text)
     } else {
-        put(b"no such kind\n");
+        println!(rt; "no such kind")
     }
 }
 
 // The case of a kind, a name and a text; answers what is in hand after it.
-fn case(hand: Hand, kind: &[u8], name: &[u8], text: &[u8]) -> Hand {
+fn case(
+    rt: &(impl Files + Print),
+    hand: Hand,
+    kind: &[u8],
+    name: &[u8],
+    text: &[u8],
+) -> io::Result<Hand> {
     if starts(kind, 0, b"use ") {
-        return hand_of(text);
+        return Ok(hand_of(text));
     }
     if starts(kind, 0, b"load ") {
-        return loaded(text);
+        return Ok(loaded_by_name(rt, text));
     }
-    put(name);
-    put(b": ");
+    rt.write_all(name)?;
+    rt.write_all(b": ")?;
     if starts(kind, 0, b"go ") {
         let model = hand.model;
         let k = hand.marking;
-        let marking = answers::step(model, k, text);
-        return Hand { model, marking };
+        let marking = answers::step(rt, model, k, text)?;
+        return Ok(Hand { model, marking });
     }
-    print(hand, kind, text);
-    hand
+    print(rt, hand, kind, text)?;
+    Ok(hand)
 }
 
 // The case of a line; a line that is empty or a comment has none.
-fn case_of(hand: Hand, line: &[u8]) -> Hand {
-    let colon = find(line, 0, line.len(), b':');
-    let blank = find(line, 0, colon, b' ');
+fn case_of(rt: &(impl Files + Print), hand: Hand, line: &[u8]) -> io::Result<Hand> {
+    let colon = find(line, b':');
+    let blank = find(&line[..colon], b' ');
     if starts(line, 0, b"#") {
-        return hand;
+        return Ok(hand);
     }
     if blank == colon {
-        return hand;
+        return Ok(hand);
     }
-    let mut text = io::large_buffer();
+    let mut text = [0u8; 65536];
     let n = decoded(&line[colon..], &mut text);
-    case(hand, line, &line[blank + 1..colon], &text[..n])
+    case(rt, hand, line, &line[blank + 1..colon], &text[..n])
 }
 
-fn all_cases(text: &[u8]) {
+fn all_cases(rt: &(impl Files + Print), text: &[u8]) -> io::Result<()> {
     let mut hand = hand_of(b"");
     let mut at = 0;
     while at < text.len() {
-        let end = find(text, at, text.len(), b'\n');
-        hand = case_of(hand, &text[at..end]);
+        let end = at + find(&text[at..], b'\n');
+        hand = case_of(rt, hand, &text[at..end])?;
         if end == text.len() {
-            return;
+            return Ok(());
         }
         at = end + 1;
     }
+    Ok(())
 }
 
-fn main() {
-    let mut text = io::large_buffer();
-    let n = load(b"cases", &mut text);
-    all_cases(&text[..n]);
-    let listing = loaded(b"listing");
+fn main(rt: HostRuntime) -> io::Result<()> {
+    let mut text = [0u8; 65536];
+    let n = load(&rt, "cases", &mut text);
+    all_cases(&rt, &text[..n])?;
+    let listing = loaded(&rt, "listing");
     let m = listing.model;
     let k = listing.marking;
-    held::run(m, k);
+    held::run(&rt, m, k)
 }
