@@ -7,4 +7,3 @@ pub mod HeldExactly
 pub mod GivenLaws
 pub mod ReadsBack
 pub mod RefusedLeaves
-pub mod Passing

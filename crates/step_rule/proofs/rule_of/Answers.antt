@@ -6,16 +6,15 @@ use Rattle.step.specs.RuleParts.{PackedEvent}
 use Rattle.step.proofs.PlanLaws.{length_side, packed_of, rule_in_lem}
 use Rattle.step_rule.proofs.rule_of.Goals as goal
 
-packed : (s : goal.Start) → PackedEvent s.args.plan.now s.args.e
-packed s = packed_of s.args.plan.now s.args.e s.requires.0 s.requires.1 s.requires.2
-
 pub side_of-requires : goal.side_of-requires
 side_of-requires c =
-    (packed c, omega arith, omega arith, c.requires.3)
+    let packed = packed_of c.args.plan.now c.args.e c.requires.0 c.requires.1 c.requires.2 in
+    (packed, omega arith, omega arith, c.requires.3)
 
 pub side_of-requires-2 : goal.side_of-requires-2
 side_of-requires-2 c =
-    (packed c, omega arith, omega arith, c.requires.4)
+    let packed = packed_of c.args.plan.now c.args.e c.requires.0 c.requires.1 c.requires.2 in
+    (packed, omega arith, omega arith, c.requires.4)
 
 pub returns : goal.returns
 returns c =
