@@ -1,7 +1,6 @@
 use mathlib.Core.Path.{◌≡◌, refl, sym, ◌∙◌}
 use mathlib.Core.Bool.{true}
 use native.Mathlib.Omega.{arith}
-use borrow.Author.Tests.{not-true, not-false}
 use Rattle.marking.proofs.RowWalk.{order_on, order_off, order_end}
 use Rattle.marking_rows.proofs.in_order.Goals as goal
 

@@ -1,12 +1,10 @@
 use borrow.Author.Rules.{rules}
-use Prim.Native.Nat.{◌+◌, ◌-◌, ◌*◌, ◌≤◌}
+use Prim.Native.Nat.{◌+◌, ◌-◌, ◌*◌}
 use mathlib.Core.Path.{◌≡◌, ap, sym, ◌∙◌}
 use native.Mathlib.Omega.{arith}
 use native.Mathlib.Nat.{sub-zero}
 use lib.ListN.{length}
 use lib.Seq.{sets}
-use Rattle.text.specs.Repeat.{fill}
-use Rattle.model.specs.Held.{row, put_row, listed}
 use Rattle.model.specs.Rules.{nth}
 use Rattle.step.specs.RuleParts.{net_sum_in}
 use Rattle.step.proofs.ArcSums.{nets_next, nets_done}

@@ -1,17 +1,10 @@
 -- `inner_side` lays the rows of the nets. The loop's invariant: those from n on are still to be laid.
-use borrow.Author.Rules.{rules}
-use Prim.Native.Nat.{◌+◌, ◌-◌, ◌*◌, ◌≤◌}
-use mathlib.Core.Path.{◌≡◌, ap, sym, ◌∙◌}
-use native.Mathlib.Omega.{arith}
-use native.Mathlib.Nat.{sub-zero}
+use Prim.Native.Nat.{◌+◌, ◌-◌, ◌≤◌}
+use mathlib.Core.Path.{◌≡◌}
 use lib.ListN.{length}
-use lib.Seq.{sets}
 use Rattle.text.specs.Repeat.{fill}
 use Rattle.model.specs.Held.{row, put_row, listed}
-use Rattle.model.specs.Rules.{nth}
 use Rattle.step.specs.RuleParts.{net_sum_in}
-use Rattle.step.proofs.ArcSums.{nets_next, nets_done}
-use Rattle.step.proofs.PlanLaws.{length_part, sum_in}
 use Rattle.step_rule.proofs.inner_side.Given as goal
 
 abbrev pub invariant-loop-n : goal.invariant-loop-n

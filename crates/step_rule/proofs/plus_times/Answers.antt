@@ -1,8 +1,8 @@
 use borrow.Author.Rules.{rules}
-use Prim.Native.Nat.{ℕ, ◌-◌, ◌≤◌, ◌<◌, ◌+◌, ◌*◌}
+use Prim.Native.Nat.{◌≤◌, ◌+◌, ◌*◌}
 use mathlib.Core.Path.{◌≡◌, refl, sym, ◌∙◌}
 use native.Mathlib.Omega.{arith}
-use lib.ListN.{length, get_or}
+use lib.ListN.{get_or}
 use lib.Seq.{ext_get_or, get_or-set_other}
 use Rattle.eos.specs.Vector.{◌⊕◌, times}
 use Rattle.model.specs.Rules.{nth}
@@ -10,14 +10,15 @@ use Rattle.model.specs.Held.{row_in}
 use Rattle.model.proofs.HeldTestLoops.{filled_turn}
 use Rattle.step.proofs.ArcSums.{plus_at, plus_none, length_plus, bytes_product, set_below}
 use Rattle.step_rule.proofs.plus_times.Goals as goal
+use Rattle.step_rule.proofs.plus_times.Goals.{In-loop-k}
 
 -- the arc that is read is a byte
-arc : (c : goal.After-shared_slice_known-1) →
+arc : (c : In-loop-k) →
     let a = c.args in
     get_or a.table.now (a.t * 32 + c.loop-k.k) 0 ≤ 255
-arc c = omega (arith, c.shared_slice_known-1.given (c.args.t * 32 + c.loop-k.k))
+arc c = omega (arith, c.type_inv.table (c.args.t * 32 + c.loop-k.k))
 
-product : (c : goal.After-shared_slice_known-1) →
+product : (c : In-loop-k) →
     let a = c.args in
     a.count * get_or a.table.now (a.t * 32 + c.loop-k.k) 0 ≤ 65025
 product c =
@@ -35,14 +36,14 @@ loop-k-init c =
     (omega arith, c.requires.0, (λ i h. absurd (omega arith)), (λ i h. refl), λ i. omega arith)
 
 pub overflow_cast-sum-in-loop-k : goal.overflow_cast-sum-in-loop-k
-overflow_cast-sum-in-loop-k c = omega (arith, arc c)
+overflow_cast-sum-in-loop-k c = omega (arith, arc (goal.at.overflow_cast-sum-in-loop-k c).In-loop-k)
 
 pub overflow_mul-sum : goal.overflow_mul-sum
-overflow_mul-sum c = omega (arith, product c)
+overflow_mul-sum c = omega (arith, product (goal.at.overflow_mul-sum c).In-loop-k)
 
 pub overflow_add-sum-in-loop-k : goal.overflow_add-sum-in-loop-k
 overflow_add-sum-in-loop-k c =
-    omega (arith, product c, c.requires.2 c.loop-k.k, c.loop-k.invariant.3 c.loop-k.k (omega arith))
+    omega (arith, product (goal.at.overflow_add-sum-in-loop-k c).In-loop-k, c.requires.2 c.loop-k.k, c.loop-k.invariant.3 c.loop-k.k (omega arith))
 
 pub loop-k-preserved : goal.loop-k-preserved
 loop-k-preserved c =
@@ -56,7 +57,7 @@ loop-k-preserved c =
       search rules,
       filled_turn (nth (a.sum.now ⊕ times a.count (row_in 32 a.table.now a.t))) c.loop-k.sum k _ (omega arith) c.loop-k.invariant.2 e,
       (λ i q. get_or-set_other c.loop-k.sum k i _ 0 (λ z. absurd (omega arith)) ∙ c.loop-k.invariant.3 i (omega arith)),
-      set_below (λ i. nth a.sum.now i + 65025) c.loop-k.sum k _ c.loop-k.invariant.4 (omega (arith, product c, p)),
+      set_below (λ i. nth a.sum.now i + 65025) c.loop-k.sum k _ c.loop-k.invariant.4 (omega (arith, product (goal.at.loop-k-preserved c).In-loop-k, p)),
     )
 
 pub returns : goal.returns

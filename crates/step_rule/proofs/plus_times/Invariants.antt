@@ -1,15 +1,10 @@
 -- `plus_times` adds a row to the sum. The loop's invariant: the numbers before k are added, those from k on are as they were.
-use borrow.Author.Rules.{rules}
-use Prim.Native.Nat.{ℕ, ◌-◌, ◌≤◌, ◌<◌, ◌+◌, ◌*◌}
-use mathlib.Core.Path.{◌≡◌, refl, sym, ◌∙◌}
-use native.Mathlib.Omega.{arith}
-use lib.ListN.{length, get_or}
-use lib.Seq.{ext_get_or, get_or-set_other}
+use Prim.Native.Nat.{ℕ, ◌-◌, ◌≤◌, ◌<◌, ◌+◌}
+use mathlib.Core.Path.{◌≡◌}
+use lib.ListN.{length}
 use Rattle.eos.specs.Vector.{◌⊕◌, times}
 use Rattle.model.specs.Rules.{nth}
 use Rattle.model.specs.Held.{row_in}
-use Rattle.model.proofs.HeldTestLoops.{filled_turn}
-use Rattle.step.proofs.ArcSums.{plus_at, plus_none, length_plus, bytes_product, set_below}
 use Rattle.step_rule.proofs.plus_times.Given as goal
 
 abbrev pub invariant-loop-k : goal.invariant-loop-k

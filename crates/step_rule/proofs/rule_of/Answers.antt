@@ -2,19 +2,16 @@
 use mathlib.Core.Path.{ap, ◌∙◌}
 use lib.ListN.{length}
 use native.Mathlib.Omega.{arith}
-use Rattle.step.specs.RuleParts.{PackedEvent}
 use Rattle.step.proofs.PlanLaws.{length_side, packed_of, rule_in_lem}
 use Rattle.step_rule.proofs.rule_of.Goals as goal
 
 pub side_of-requires : goal.side_of-requires
 side_of-requires c =
-    let packed = packed_of c.args.plan.now c.args.e c.requires.0 c.requires.1 c.requires.2 in
-    (packed, omega arith, omega arith, c.requires.3)
+    (packed_of c.args.plan.now c.args.e c.requires.0 c.requires.1 c.requires.2, omega arith, omega arith, c.requires.3)
 
 pub side_of-requires-2 : goal.side_of-requires-2
 side_of-requires-2 c =
-    let packed = packed_of c.args.plan.now c.args.e c.requires.0 c.requires.1 c.requires.2 in
-    (packed, omega arith, omega arith, c.requires.4)
+    (packed_of c.args.plan.now c.args.e c.requires.0 c.requires.1 c.requires.2, omega arith, omega arith, c.requires.4)
 
 pub returns : goal.returns
 returns c =

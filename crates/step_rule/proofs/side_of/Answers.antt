@@ -6,6 +6,11 @@ use native.Mathlib.Omega.{arith}
 use lib.ListN.{length, length-replicate}
 use Rattle.step.proofs.PlanLaws.{length_part, side_laid}
 use Rattle.step_rule.proofs.side_of.Goals as goal
+use Rattle.step_rule.proofs.side_of.Goals.{Start}
+
+-- the room for the side
+long : (c : Start) → length c.args.side.now ≡ 288
+long c = ap length c.requires.3 ∙ length-replicate {A = ℕ} 288 0
 
 pub outer_side-outer-requires : goal.outer_side-outer-requires
 outer_side-outer-requires c =
@@ -13,12 +18,11 @@ outer_side-outer-requires c =
     (f.index_some, f.index-few, length_part c.args.plan.now c.args.moves 1024 (omega (arith, f.long, c.requires.1)))
 
 pub put_sums-requires : goal.put_sums-requires
-put_sums-requires c = let long : (length c.args.side.now ≡ 288) = ap length c.requires.3 ∙ length-replicate {A = ℕ} 288 0 in
-    omega (arith, long)
+put_sums-requires c = omega (arith, long (goal.at.put_sums-requires c).Start)
 
 pub inner_side-requires : goal.inner_side-requires
-inner_side-requires c = let long : (length c.args.side.now ≡ 288) = ap length c.requires.3 ∙ length-replicate {A = ℕ} 288 0 in
-    (c.requires.0, c.requires.2, c.put_sums.auto.table ∙ long)
+inner_side-requires c =
+    (c.requires.0, c.requires.2, c.put_sums.auto.table ∙ long (goal.at.inner_side-requires c).Start)
 
 pub returns : goal.returns
 returns c =

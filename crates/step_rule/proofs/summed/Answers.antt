@@ -1,14 +1,11 @@
-use borrow.Author.Rules.{rules}
-use Prim.Native.Nat.{ℕ, ◌-◌, ◌≤◌, ◌+◌, ◌*◌}
-use mathlib.Core.Path.{◌≡◌, refl, ap, sym, ◌∙◌}
+use Prim.Native.Nat.{◌+◌}
+use mathlib.Core.Path.{refl, ap, sym, ◌∙◌}
 use native.Mathlib.Omega.{arith}
 use native.Mathlib.Nat.{sub-zero}
 use lib.ListN.{length}
-use Rattle.eos.specs.Vector.{zeros}
 use Rattle.model.specs.Rules.{nth}
 use Rattle.model.specs.Held.{row_in}
 use Rattle.model.proofs.PaddedRows.{nth-zeros}
-use Rattle.step.specs.RuleParts.{sum_rows}
 use Rattle.step.proofs.ArcSums.{length_plus, sum_next, sum_done}
 use Rattle.step_rule.proofs.summed.Goals as goal
 
