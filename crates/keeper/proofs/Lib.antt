@@ -16,6 +16,5 @@ pub mod JudgeLaws
 pub mod WeightsReadBack
 pub mod WeightsRefused
 pub mod CheckLaws
-pub mod Passing
 pub mod WeightsExactly
 pub mod SumBound
