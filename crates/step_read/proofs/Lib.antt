@@ -1,3 +1,1 @@
-pub mod RowsFrom
-pub mod Passing
 pub mod GivingLaws
