@@ -2,4 +2,3 @@ pub mod TraceSteps
 pub mod TurnLaws
 pub mod TraceLaws
 pub mod StopLaws
-pub mod Arrays
