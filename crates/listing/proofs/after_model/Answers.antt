@@ -1,0 +1,32 @@
+-- `after_model` meets its contract: the pair of the weights ends the listing, or the sum and the cover stand in the head and the run follows.
+use borrow.Author.Rules.{rules}
+use mathlib.Core.Path.{ap, sym, ◌∙◌}
+use native.Mathlib.Omega.{arith}
+use lib.Seq.{length-take-le}
+use borrow.Author.Tests.{not-true, not-false}
+use Rattle.text.specs.Bytes.{Text}
+use Rattle.reader.specs.Answers.{lay_whole}
+use Rattle.listing.proofs.StageLaws.{weights_end, weights-listed}
+use Rattle.listing.proofs.after_model.Goals as goal
+
+pub slice_bounds-lay_head-end-then-not-is_accepted : goal.slice_bounds-lay_head-end-then-not-is_accepted
+slice_bounds-lay_head-end-then-not-is_accepted c =
+    sym (length-take-le _ _ (omega (arith, c.put_pair-next.ensures.2, c.put_pair-next.auto.out)))
+
+pub returns-then-not-is_accepted : goal.returns-then-not-is_accepted
+returns-then-not-is_accepted c =
+    let a = c.args in
+    c.lay_head.ensures
+    ∙ ap (λ (text : Text). lay_whole text a.out.now)
+    (weights_end a.head.now a.at a.m a.k a.weights.now a.trace.now c.weights_file-check.result c.weights_file-check.ensures _ c.weight_pair-judged.ensures
+    (sym c.is_accepted.ensures ∙ c.if-not-is_accepted.true) (c.put_pair-next.ensures.0, c.put_pair-next.ensures.1) (omega (arith, c.put_pair-next.ensures.2, c.requires.1)))
+
+pub returns : goal.returns
+returns c =
+    let a = c.args in
+    c.after_weights.ensures
+    ∙ ap (λ (text : Text). lay_whole text a.out.now)
+    (weights-listed a.head.now a.at a.m a.k a.weights.now a.trace.now c.weights_file-check.result c.weights_file-check.ensures _ c.weight_pair-judged.ensures
+    (sym c.is_accepted.ensures ∙ c.if-not-is_accepted.false) (c.put_pair-next.ensures.0, c.put_pair-next.ensures.1)
+    (c.put_sum-cover.ensures.0, c.put_sum-cover.ensures.1) (c.put_cover-end.ensures.0, c.put_cover-end.ensures.1)
+    (omega (arith, c.put_pair-next.ensures.2, c.put_sum-cover.ensures.2, c.put_cover-end.ensures.2, c.requires.1)))

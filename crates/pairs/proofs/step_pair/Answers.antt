@@ -1,0 +1,21 @@
+-- `step_pair` meets its contract: a case for each answer.
+use borrow.Author.Rules.{rules}
+use mathlib.Core.Path.{ap, sym, ◌∙◌}
+use Rattle.runner.specs.Answers.{step_pair}
+use Rattle.pairs.specs.Pairs.{refusal_of}
+use Rattle.pairs.proofs.step_pair.Goals as goal
+
+pub returns-in-Fired : goal.returns-in-Fired
+returns-in-Fired c = ap refusal_of c.row.ensures ∙ ap step_pair (sym c.in-Fired.is)
+
+pub returns-in-TooLong : goal.returns-in-TooLong
+returns-in-TooLong c = ap refusal_of c.row-in-TooLong.ensures ∙ ap step_pair (sym c.in-TooLong.is)
+
+pub returns-in-NotHeld : goal.returns-in-NotHeld
+returns-in-NotHeld c = ap refusal_of c.row-in-NotHeld.ensures ∙ ap step_pair (sym c.in-NotHeld.is)
+
+pub returns-in-Faulty : goal.returns-in-Faulty
+returns-in-Faulty c = ap refusal_of c.row-in-Faulty.ensures ∙ ap step_pair (sym c.in-Faulty.is)
+
+pub returns-in-Turned : goal.returns-in-Turned
+returns-in-Turned c = ap refusal_of c.row-in-Turned.ensures ∙ ap step_pair (sym c.in-Turned.is)
