@@ -1,5 +1,4 @@
 -- `answer_of` meets its contract: a fault is named by its line.
-use borrow.Author.Rules.{rules}
 use mathlib.Core.Path.{ap, sym, ◌∙◌}
 use Rattle.reader.specs.Parts.{answer_of}
 use Rattle.reader.specs.declared.ReadAnswer.TheVariants.{Faulty}

@@ -1,5 +1,4 @@
 -- `no_reading` holds the empty model and no net-token.
-use borrow.Author.Rules.{rules}
 use Rattle.reader.proofs.no_reading.Goals as goal
 
 pub returns : goal.returns

@@ -1,5 +1,4 @@
 -- `no_tokens` holds no net-token.
-use borrow.Author.Rules.{rules}
 use Rattle.reader.proofs.no_tokens.Goals as goal
 
 pub returns : goal.returns

@@ -1,5 +1,4 @@
 -- `read_marking` meets its contract: a text that is too long, a model that is not held, or what the lines answer.
-use borrow.Author.Rules.{rules}
 use mathlib.Core.Path.{◌≡◌, sym, ◌∙◌}
 use mathlib.Core.Bool.{true}
 use borrow.Author.Tests.{not-true, not-false}

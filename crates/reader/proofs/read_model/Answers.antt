@@ -1,5 +1,4 @@
 -- `read_model` meets its contract: a text that is too long, or what its lines answer.
-use borrow.Author.Rules.{rules}
 use mathlib.Core.Path.{◌∙◌}
 use Rattle.reader.proofs.ReadingLaws.{model-long, model-answered}
 use Rattle.reader.proofs.read_model.Goals as goal

@@ -1,5 +1,4 @@
 -- `test_marking` meets its contract: the model first, then the marking.
-use borrow.Author.Rules.{rules}
 use mathlib.Core.Path.{◌≡◌, sym, ◌∙◌}
 use mathlib.Core.Bool.{true}
 use native.Mathlib.Omega.{arith}

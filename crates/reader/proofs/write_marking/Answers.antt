@@ -1,5 +1,4 @@
 -- `write_marking` meets its contract: not held, or what the writer of a marking answers.
-use borrow.Author.Rules.{rules}
 use mathlib.Core.Path.{◌≡◌, sym, ◌∙◌}
 use mathlib.Core.Bool.{true}
 use native.Mathlib.Omega.{arith}

@@ -1,5 +1,4 @@
 -- `written_as` meets its contract: a case for each answer.
-use borrow.Author.Rules.{rules}
 use mathlib.Core.Path.{ap, sym}
 use Rattle.reader.specs.Answers.{written_as}
 use Rattle.reader.proofs.written_as.Goals as goal

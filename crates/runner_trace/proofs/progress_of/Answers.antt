@@ -1,5 +1,4 @@
 -- `progress_of` meets its contract: a case for each turn.
-use borrow.Author.Rules.{rules}
 use mathlib.Core.Path.{ap, sym, subst}
 use native.Mathlib.Omega.{arith}
 use Rattle.runner_trace.specs.declared.Turn.TheVariants.{On}

@@ -1,9 +1,7 @@
 -- `run` meets its contract: 1, then 14, then the header, then the steps.
-use borrow.Author.Rules.{rules}
 use mathlib.Core.Path.{◌≡◌, ap, sym, subst, ◌∙◌}
 use mathlib.Core.Bool.{true}
 use lib.ListN.{length, drop}
-use borrow.Author.Tests.{not-true, not-false}
 use Rattle.text.specs.declared.Ended.{Ended}
 use Rattle.text.proofs.Loops.{head_got, bad_of}
 use Rattle.model.specs.Held.{SizedModel}

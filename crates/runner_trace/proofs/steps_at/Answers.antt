@@ -1,9 +1,6 @@
 use Prim.Native.Nat.{◌<◌}
-use mathlib.Core.Path.{◌≡◌, refl, sym, ◌∙◌}
-use Rattle.model.specs.declared.Model.{Model}
+use mathlib.Core.Path.{refl}
 use Rattle.model_packed.specs.Packed.{model_in}
-use Rattle.marking.specs.declared.Marking.{Marking}
-use Rattle.text.specs.Bytes.{Text}
 use Rattle.runner_trace.specs.Parts.{Come}
 use Rattle.runner_trace.proofs.TurnLaws.{Standing, turns_left, standing_start, standing_turn}
 use Rattle.runner_trace.proofs.steps_at.Goals as goal

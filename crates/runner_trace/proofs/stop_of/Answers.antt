@@ -1,5 +1,4 @@
 -- `stop_of` meets its contract: a fault is named by its line.
-use borrow.Author.Rules.{rules}
 use mathlib.Core.Path.{ap, sym, ◌∙◌}
 use Rattle.runner_trace.specs.Parts.{stop_in}
 use Rattle.runner_trace.specs.declared.Stop.TheVariants.{Faulty}

@@ -1,5 +1,4 @@
 -- `turn_of` meets its contract: a case for each answer.
-use borrow.Author.Rules.{rules}
 use mathlib.Core.Path.{ap, sym}
 use Rattle.runner_trace.specs.Parts.{turn_of}
 use Rattle.runner_trace.proofs.turn_of.Goals as goal

@@ -1,5 +1,4 @@
 -- `end_at` meets its contract: the net-tokens are refused or bytes stand behind them, or neither.
-use borrow.Author.Rules.{rules}
 use Rattle.reader.proofs.LineLaws.{end_refused, end_passed}
 use Rattle.reader.proofs.lines.end_at.Goals as goal
 

@@ -1,5 +1,4 @@
 -- `loaded_of` meets its contract: the model's lines are refused, or its start's, or both are read.
-use borrow.Author.Rules.{rules}
 use mathlib.Core.Path.{◌∙◌}
 use Rattle.reader.proofs.LineLaws.{plant-refused, start-refused, both_passed}
 use Rattle.reader.proofs.lines.loaded_of.Goals as goal

@@ -1,5 +1,4 @@
 -- `no_lines` holds the empty model and no net-token.
-use borrow.Author.Rules.{rules}
 use Rattle.reader.proofs.lines.no_lines.Goals as goal
 
 pub returns : goal.returns

@@ -1,5 +1,4 @@
 -- `place_sizes` meets its contract: a held model has at most 32 places.
-use borrow.Author.Rules.{rules}
 use native.Mathlib.Omega.{arith}
 use Rattle.model.proofs.HeldTests.{held-is, most-places}
 use Rattle.reader.proofs.lines.place_sizes.Goals as goal

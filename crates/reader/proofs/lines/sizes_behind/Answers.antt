@@ -1,5 +1,4 @@
 -- `sizes_behind` meets its contract: the lines of the model are refused, or the model is held.
-use borrow.Author.Rules.{rules}
 use mathlib.Core.Path.{◌∙◌}
 use Rattle.reader.proofs.LineLaws.{sizes_refused, sizes_passed}
 use Rattle.reader.proofs.lines.sizes_behind.Goals as goal

@@ -1,14 +1,12 @@
 -- `fire` meets its contract: a step that meets no cause has its rows in the marking and room, so the rows are changed; one that meets a
 -- cause leaves them.
-use borrow.Author.Rules.{rules}
 use mathlib.Core.Path.{◌≡◌, sym, ◌∙◌}
-use mathlib.Core.List.{List}
 use native.Mathlib.Omega.{arith}
 use Rattle.eos.specs.Causes.{first}
-use Rattle.marking.specs.Rows.{Row, rows_in}
+use Rattle.marking.specs.Rows.{rows_in}
 use Rattle.marking.proofs.RowLaws.{length-rows}
 use Rattle.step.proofs.MoveLaws.{taken-few}
-use Rattle.step.specs.Rule.{Rule, rule_in}
+use Rattle.step.specs.Rule.{rule_in}
 use Rattle.step.specs.declared.Verdict.TheVariants.{Fires}
 use Rattle.step.specs.Verdict.{causes_in, verdict_of}
 use Rattle.step.proofs.FiresLaws.{fires-within, fires-room}

@@ -1,21 +1,15 @@
 -- `step_on` meets its contract: what was read is a right step of the held model, so that the verdict and the change may be asked.
 use borrow.Author.Rules.{rules}
 use mathlib.Core.Path.{◌≡◌, refl, ap, ◌∙◌}
-use mathlib.Core.List.{List}
-use mathlib.Core.Bool.{true}
 use native.Mathlib.Omega.{arith}
-use Rattle.marking.specs.Rows.{Row, rows_in}
-use Rattle.model.specs.Test.{held_model}
-use Rattle.model.specs.declared.Model.{Model}
+use Rattle.marking.specs.Rows.{rows_in}
 use Rattle.model_packed.specs.Packed.{model_in}
 use Rattle.model.proofs.HeldTests.{held-is, most-places, most-events}
-use Rattle.marking.specs.declared.Marking.{Marking}
 use Rattle.marking.specs.Sizes.{sizes_for}
 use Rattle.reader.proofs.ReadingLaws.{both_model, roomy_of}
 use Rattle.step.specs.Answers.{step_rows}
 use Rattle.runner.specs.declared.StepAnswer.{StepAnswer}
 use Rattle.runner.specs.Answers.{stays}
-use Rattle.runner.proofs.StandsLaws.{Stands}
 use Rattle.runner.proofs.ReadLaws.{ReadRows, lines-bad, lines-got}
 use Rattle.runner.proofs.RuledLaws.{RightStep, read_right, rule_is_sound, rows-placed}
 use Rattle.runner.proofs.StepAnswers.{both_stands, reading, reading_is, step-refused, step-ruled}

@@ -1,10 +1,8 @@
 -- `step` meets its contract: 1, then 14, then the step on the marking's rows.
-use borrow.Author.Rules.{rules}
 use Rattle.model.specs.Limits.{room_limit}
 use native.Mathlib.Omega.{arith}
 use mathlib.Core.Path.{◌≡◌, ap, sym, subst, ◌∙◌}
 use mathlib.Core.Bool.{true}
-use borrow.Author.Tests.{not-true, not-false}
 use Rattle.model.specs.Held.{SizedModel}
 use Rattle.model.specs.declared.Model.{Model}
 use Rattle.model.proofs.HeldTests.{held-is}
