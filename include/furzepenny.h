@@ -76,7 +76,7 @@ extern "C" {
 #define FP_LISTING_TEXT 65536  /* bytes into which every text that fp_listing writes fits */
 #define FP_SPREAD_TOKENS 31    /* tokens of fp_ways */
 #define FP_SPREAD_RACKS 16     /* racks of fp_ways */
-#define FP_STACK (512 * 1024)  /* bytes of stack, for any call */
+#define FP_STACK (560 * 1024)  /* bytes of stack, for any call */
 
 /* ==== Held things. Their fields may be read; they are made by readings and steps. */
 
@@ -146,7 +146,7 @@ size_t fp_version(void);
  * `steps`, and for each transition `pre`, `post`; `events`; for each `event` or `idle`, and for each net `sync`; `start`, and so many `token`
  * lines. Refused by 1 to 5; the model is then the empty one, which every other call refuses, and the start has no net-token. The form
  * in _at leaves both as they were. */
-#define FP_STACK_READ_MODEL (304 * 1024)
+#define FP_STACK_READ_MODEL (528 * 1024)
 typedef struct fp_read_model_answer {
     size_t number;
     size_t beside;
@@ -168,7 +168,7 @@ static inline fp_read_at fp_read_model_at(const uint8_t *text, size_t len, fp_mo
 
 /* Reads a marking of a held model. The text: `start`, and so many `token` lines in any order, as fp_write_marking writes them. Refused by
  * 1, 14, 2, 3; the marking then has no net-token. The form in _at leaves it as it was. */
-#define FP_STACK_READ_MARKING (176 * 1024)
+#define FP_STACK_READ_MARKING (208 * 1024)
 typedef struct fp_read_marking_answer {
     size_t number;
     size_t beside;
@@ -186,7 +186,7 @@ static inline fp_read_at fp_read_marking_at(const fp_model *model, const uint8_t
 }
 
 /* Whether some accepted reading gives this held model. */
-#define FP_STACK_TEST_MODEL (112 * 1024)
+#define FP_STACK_TEST_MODEL (128 * 1024)
 bool fp_test_model(fp_model model);
 
 static inline bool fp_test_model_at(const fp_model *model) {
@@ -215,7 +215,7 @@ static inline fp_written fp_write_marking_at(const fp_model *model, const fp_mar
 /* Fires a step on a held marking of a held model. The text begins with the step: `fire`; `take`, and so many `token` lines; `give`, and so
  * many `token` lines; what follows is not read. Gives the bytes that the step used and the marking after it. Refused by 1, 14, 2, 3, 8 to
  * 12, with 0 bytes used and the marking as it was lent. */
-#define FP_STACK_STEP (320 * 1024)
+#define FP_STACK_STEP (352 * 1024)
 typedef struct fp_stepped {
     size_t number;
     size_t beside;
@@ -242,7 +242,7 @@ static inline fp_stepped_at fp_step_at(const fp_model *model, fp_marking *markin
  * steps fired, the marking then, and the byte of the text where the run stopped: where the step that was turned down begins, or the whole
  * length at the end. Refused before the first step by 1, 14, or 2 at the first line, with 0 steps, byte 0 and the marking as it was lent;
  * a step that is turned down stops the run with its number, and the steps before it stay fired. */
-#define FP_STACK_RUN (384 * 1024)
+#define FP_STACK_RUN (400 * 1024)
 typedef struct fp_ran {
     size_t number;
     size_t beside;
@@ -299,7 +299,7 @@ static inline fp_weighed fp_check_weights_at(const fp_model *model, const fp_mar
 
 /* Writes what the program rackrun prints for the texts of its three files, any bytes, at most FP_LISTING_TEXT bytes; a text over FP_FILE
  * bytes is 1 in it. Refused by 13, with no byte written; bytes of the buffer past the text are left as they were. */
-#define FP_STACK_LISTING (512 * 1024)
+#define FP_STACK_LISTING (560 * 1024)
 fp_written fp_listing(const uint8_t *model, size_t model_len, const uint8_t *weights, size_t weights_len,
                       const uint8_t *trace, size_t trace_len, uint8_t *out, size_t room);
 

@@ -2,7 +2,6 @@
 // of each is an equation with a definition, named beside it.
 #![tactic(auto)]
 
-
 // The held model and the held marking.
 pub use marking::Marking;
 pub use model::{Event, Model, ObjectNet};

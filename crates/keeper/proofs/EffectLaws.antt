@@ -13,7 +13,7 @@ use Rattle.text.specs.Lines.{in_range}
 use Rattle.text.proofs.TestLaws.{within-is}
 use Rattle.eos.specs.Vector.{zeros, unit}
 use Rattle.eos.specs.Model as eos
-use Rattle.eos.specs.Firing.{pre, post, outer_of, inner_of}
+use Rattle.eos.specs.Firing.{outer_of, inner_of}
 use Rattle.eos.specs.Weights.{Weights}
 use Rattle.model.specs.Rules.{nth}
 use Rattle.model.specs.Held.{no_net, no_event, row_in, sides_in, tabled, sync_in, net_of, event_of, model_of}

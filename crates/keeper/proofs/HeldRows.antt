@@ -11,7 +11,6 @@ use Rattle.eos.specs.Weights.{Weights, Shaped}
 use Rattle.model.specs.Rules.{nth}
 use Rattle.model.specs.Held.{no_net, no_event, tabled, net_of, model_of}
 use Rattle.model.specs.Test.{held_event, empty_event, frame_in, held_model}
-use Rattle.model.specs.declared.ObjectNet.{ObjectNet}
 use Rattle.model.specs.declared.Model.{Model}
 use Rattle.model.proofs.PaddedRows.{nth-padded}
 use Rattle.model.proofs.SlotLaws.{cond_below}

@@ -19,7 +19,6 @@ use Rattle.eos.specs.Weights.{Weights}
 use Rattle.model.specs.Limits.{room_limit}
 use Rattle.model.specs.Rules.{nth}
 use Rattle.model.specs.Test.{empty}
-use Rattle.model.specs.declared.Model.{Model}
 use Rattle.model.proofs.PaddedRows.{empty-at}
 use Rattle.marking.specs.Rows.{rows_in, ascending}
 use Rattle.marking.proofs.RowLaws.{length-rows, row_at}

@@ -11,7 +11,6 @@ use borrow.Author.Tests.{le-leb, lt-leb}
 use Rattle.text.specs.Bytes.{Text, line_at}
 use Rattle.text.specs.Lines.{Outcome, got, bad}
 use Rattle.text.specs.declared.Fault.{Fault}
-use Rattle.eos.specs.Model as eos
 use Rattle.eos.specs.Firing.{Step}
 use Rattle.eos.specs.Causes.{Refusal, Cause, first, refusal}
 use Rattle.eos.specs.Weights.{Weights, WeightCause, weight_refusal, weigh}

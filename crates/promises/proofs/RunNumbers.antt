@@ -28,7 +28,6 @@ use Rattle.runner.specs.declared.StepAnswer.{StepAnswer}
 use Rattle.runner.specs.declared.StepAnswer.TheVariants as step
 use Rattle.runner.proofs.StepAnswers.{step-held}
 use Rattle.runner_trace.specs.Running.{stop_pair, stopped_by, onward, run_from, headed, run_where_held, running}
-use Rattle.runner_trace.specs.declared.Stop.TheVariants as stop
 use Rattle.runner_trace.specs.declared.Ran.{Ran}
 use Rattle.runner_trace.proofs.TraceSteps.{run_keeps}
 use Rattle.runner_trace.proofs.TraceLaws.{trace_headed}

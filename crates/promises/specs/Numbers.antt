@@ -1,7 +1,7 @@
 -- Demand 1 (00) at what the caller sees: a call answers with one number of 01's table ("Why a thing is turned down"), for the first cause in
 -- the stated order, and beside it stands what the table says. 0 is no cause: accepted, written, passed, fired, at the trace's end.
 use Rattle.std.specs.Prelude.{ℕ, suc, ◌+◌, ◌≤◌, ◌<◌, ◌≡◌, ◌↔◌, ◌⊎◌, Bool, true, false, not, List, [], ◌∷◌, ◌++◌, leb, length, drop}
-use Rattle.std.proofs.Math.Option.{Option, none}
+use Rattle.std.proofs.Math.Option.{Option}
 use Rattle.text.specs.Bytes.{Text, bytes, newlines, line_at}
 use Rattle.text.specs.Lines.{Outcome, got, bad, read_head}
 use Rattle.text.specs.Printed.{texts, number_text}

@@ -1,5 +1,4 @@
 -- `all_zero` is the test of both tables.
-use borrow.Author.Rules.{rules}
 use mathlib.Core.Bool.{◌&&◌}
 use mathlib.Core.Path.{ap₂}
 use Rattle.keeper.proofs.all_zero.Goals as goal

@@ -1,5 +1,4 @@
 -- `difference` is the difference by its two parts, of which one is 0.
-use borrow.Author.Rules.{rules}
 use Rattle.keeper.proofs.Differences.{below_zero, above_zero}
 use Rattle.keeper.proofs.difference.Goals as goal
 

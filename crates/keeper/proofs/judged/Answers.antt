@@ -1,12 +1,8 @@
 -- `judged` meets its contract: all weights 0, an event that is not balanced, or weights that pass.
-use borrow.Author.Rules.{rules}
-use mathlib.Core.Path.{◌≡◌, sym, ◌∙◌}
+use mathlib.Core.Path.{sym, ◌∙◌}
 use native.Mathlib.Omega.{arith}
-use lib.ListN.{length}
 use Rattle.model.proofs.HeldTests.{held-is, most-nets}
 use Rattle.model.proofs.RoomLaws.{types-room, objects-room}
-use Rattle.eos.specs.Weights.{Weights, all_zero}
-use Rattle.keeper.specs.Parts.{Holds}
 use Rattle.keeper.proofs.HeldRows.{Kept}
 use Rattle.keeper.proofs.ZeroLaws.{zero_is}
 use Rattle.keeper.proofs.JudgeLaws.{model-held, turned_zero, turned-event, none_turned}

@@ -1,9 +1,7 @@
 -- `after_model` meets its contract: the pair of the weights ends the listing, or the sum and the cover stand in the head and the run follows.
-use borrow.Author.Rules.{rules}
 use mathlib.Core.Path.{ap, sym, ◌∙◌}
 use native.Mathlib.Omega.{arith}
 use lib.Seq.{length-take-le}
-use borrow.Author.Tests.{not-true, not-false}
 use Rattle.text.specs.Bytes.{Text}
 use Rattle.reader.specs.Answers.{lay_whole}
 use Rattle.listing.proofs.StageLaws.{weights_end, weights-listed}

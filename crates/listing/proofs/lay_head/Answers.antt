@@ -1,6 +1,5 @@
 -- `lay_head` meets its contract: the text does not fit, or it is laid.
 use native.Mathlib.Omega.{arith}
-use borrow.Author.Rules.{rules}
 use Rattle.reader.proofs.WriteAnswers.{whole-fits, whole-short}
 use Rattle.listing.proofs.lay_head.Goals as goal
 

@@ -1,5 +1,4 @@
 -- `lay_with_held` meets its contract: the net-tokens do not fit behind the head, or both are laid.
-use borrow.Author.Rules.{rules}
 use mathlib.Core.Path.{◌∙◌}
 use native.Mathlib.Omega.{arith}
 use Rattle.model.proofs.HeldTests.{held-is, most-places}

@@ -1,11 +1,9 @@
 -- `listing` meets its contract: the pair of the model ends the listing, or the weights follow.
-use borrow.Author.Rules.{rules}
 use Prim.Native.Nat.{◌≤◌}
 use mathlib.Core.Path.{◌≡◌, ap, sym, ◌∙◌}
 use native.Mathlib.Omega.{arith}
 use lib.ListN.{length, replicate}
 use lib.Seq.{length-take-le}
-use borrow.Author.Tests.{not-true, not-false}
 use Rattle.text.specs.Bytes.{Text}
 use Rattle.reader.specs.Answers.{lay_whole}
 use Rattle.listing.proofs.ThreeFiles.{model-held}

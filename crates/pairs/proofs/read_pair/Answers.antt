@@ -1,5 +1,4 @@
 -- `read_pair` meets its contract: a case for each answer.
-use borrow.Author.Rules.{rules}
 use mathlib.Core.Path.{ap, sym, ◌∙◌}
 use Rattle.reader.specs.Answers.{read_pair}
 use Rattle.pairs.specs.Pairs.{refusal_of}

@@ -1,5 +1,4 @@
 -- `spread_pair` meets its contract: a case for each answer.
-use borrow.Author.Rules.{rules}
 use mathlib.Core.Path.{ap, sym, ◌∙◌}
 use Rattle.spread.specs.Call.{spread_pair}
 use Rattle.pairs.specs.Pairs.{refusal_of}

@@ -1,5 +1,4 @@
 -- `stop_pair` meets its contract: a case for each answer.
-use borrow.Author.Rules.{rules}
 use mathlib.Core.Path.{ap, sym, ◌∙◌}
 use Rattle.runner_trace.specs.Running.{stop_pair}
 use Rattle.pairs.specs.Pairs.{refusal_of}

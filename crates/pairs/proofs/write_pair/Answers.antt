@@ -1,5 +1,4 @@
 -- `write_pair` meets its contract: a case for each answer.
-use borrow.Author.Rules.{rules}
 use mathlib.Core.Path.{ap, sym, ◌∙◌}
 use Rattle.reader.specs.Answers.{write_pair}
 use Rattle.pairs.specs.Pairs.{refusal_of}

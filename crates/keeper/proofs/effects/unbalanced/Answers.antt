@@ -1,7 +1,4 @@
 -- `unbalanced` is the number of the least event whose effect is not 0, for the weights that are held.
-use borrow.Author.Rules.{rules}
-use mathlib.Core.Path.{◌≡◌}
-use lib.ListN.{length}
 use Rattle.model.proofs.HeldTests.{held-is, most-nets, most-events}
 use Rattle.model.proofs.RoomLaws.{types-room, pre-room, post-room, objects-room}
 use Rattle.keeper.proofs.HeldRows.{Kept}

@@ -1,5 +1,4 @@
 -- `end_at` meets its contract: the lines are refused or bytes stand behind them, or they are kept.
-use borrow.Author.Rules.{rules}
 use mathlib.Core.Path.{◌∙◌}
 use Rattle.keeper.proofs.ChainLaws.{end_refused, end_kept}
 use Rattle.keeper.proofs.weightfile.end_at.Goals as goal

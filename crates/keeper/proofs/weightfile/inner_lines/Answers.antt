@@ -1,10 +1,7 @@
 use borrow.Author.Rules.{rules}
-use Prim.Native.Nat.{◌≤◌, ◌-◌}
-use mathlib.Core.Path.{◌≡◌, ◌∙◌}
+use mathlib.Core.Path.{◌∙◌}
 use native.Mathlib.Omega.{arith}
 use native.Mathlib.Nat.{sub-zero}
-use lib.ListN.{length}
-use Rattle.text.specs.Repeat.{many_at, filled}
 use Rattle.text.proofs.Loops.{done_at}
 use Rattle.keeper.specs.Parts.{read_net_weights}
 use Rattle.keeper.proofs.WeightFileLines.{put_above, put_below, above_more, below_more, nets_stop, inners_bad, inners_read}

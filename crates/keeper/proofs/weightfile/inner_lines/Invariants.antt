@@ -1,15 +1,11 @@
 -- `inner_lines` holds the weights that are read. The loop's invariant: in each table, what is read from the start and put from the first
 -- net on is what is read from here and put from net i on.
-use borrow.Author.Rules.{rules}
 use Prim.Native.Nat.{◌≤◌, ◌-◌}
-use mathlib.Core.Path.{◌≡◌, ◌∙◌}
-use native.Mathlib.Omega.{arith}
-use native.Mathlib.Nat.{sub-zero}
+use mathlib.Core.Path.{◌≡◌}
 use lib.ListN.{length}
 use Rattle.text.specs.Repeat.{many_at, filled}
-use Rattle.text.proofs.Loops.{done_at}
 use Rattle.keeper.specs.Parts.{read_net_weights}
-use Rattle.keeper.proofs.WeightFileLines.{put_above, put_below, above_more, below_more, nets_stop, inners_bad, inners_read}
+use Rattle.keeper.proofs.WeightFileLines.{put_above, put_below}
 use Rattle.keeper.proofs.weightfile.inner_lines.Given as goal
 
 abbrev pub invariant-loop-i : goal.invariant-loop-i

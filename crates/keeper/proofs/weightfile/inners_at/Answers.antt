@@ -1,5 +1,4 @@
 -- `inners_at` meets its contract: refused outer weights are handed on, the lines of the nets follow accepted ones.
-use borrow.Author.Rules.{rules}
 use mathlib.Core.Path.{◌∙◌}
 use Rattle.keeper.proofs.ChainLaws.{inners_handed_on, inners_follow}
 use Rattle.keeper.proofs.weightfile.inners_at.Goals as goal

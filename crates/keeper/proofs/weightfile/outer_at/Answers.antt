@@ -1,5 +1,4 @@
 -- `outer_at` answers what the first line and the outer weights say: a case for each line that is refused, and one for weights.
-use borrow.Author.Rules.{rules}
 use mathlib.Core.Path.{◌≡◌, sym, ◌∙◌}
 use Rattle.text.specs.Bytes.{bytes}
 use Rattle.text.specs.Lines.{read_head}

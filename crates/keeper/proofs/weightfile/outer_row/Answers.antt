@@ -1,5 +1,4 @@
 -- `outer_row` lays the two parts of the outer weights into their rows.
-use borrow.Author.Rules.{rules}
 use mathlib.Core.Path.{ap₂}
 use Prim.Native.Nat.{ℕ}
 use mathlib.Core.List.{List}

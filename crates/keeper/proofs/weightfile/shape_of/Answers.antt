@@ -1,13 +1,10 @@
-use borrow.Author.Rules.{rules}
-use Prim.Native.Nat.{ℕ, ◌-◌, ◌≤◌, ◌<◌}
+use Prim.Native.Nat.{ℕ}
 use mathlib.Core.Path.{◌≡◌, refl, ap}
 use mathlib.Core.List.{List, []}
 use native.Mathlib.Omega.{arith}
-use lib.ListN.{length, length-set, get_or}
-use Rattle.model.specs.Rules.{nth}
+use lib.ListN.{length-set}
 use Rattle.model.specs.Held.{no_net}
 use Rattle.model.specs.declared.ObjectNet.{ObjectNet}
-use Rattle.model.specs.declared.Model.{Model}
 use Rattle.model.proofs.HeldTestLoops.{at_any, filled_turn}
 use Rattle.model.proofs.RoomLaws.{objects-room}
 use Rattle.marking.proofs.SizeLaws.{listed_all}

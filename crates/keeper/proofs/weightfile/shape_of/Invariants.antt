@@ -1,18 +1,10 @@
 -- `shape_of` meets its contract. The loop's invariant: the sizes of the first n nets are laid.
-use borrow.Author.Rules.{rules}
 use Prim.Native.Nat.{ℕ, ◌-◌, ◌≤◌, ◌<◌}
-use mathlib.Core.Path.{◌≡◌, refl, ap}
-use mathlib.Core.List.{List, []}
-use native.Mathlib.Omega.{arith}
-use lib.ListN.{length, length-set, get_or}
+use mathlib.Core.Path.{◌≡◌}
+use lib.ListN.{length, get_or}
 use Rattle.model.specs.Rules.{nth}
 use Rattle.model.specs.Held.{no_net}
-use Rattle.model.specs.declared.ObjectNet.{ObjectNet}
 use Rattle.model.specs.declared.Model.{Model}
-use Rattle.model.proofs.HeldTestLoops.{at_any, filled_turn}
-use Rattle.model.proofs.RoomLaws.{objects-room}
-use Rattle.marking.proofs.SizeLaws.{listed_all}
-use Rattle.keeper.specs.Parts.{shape_of}
 use Rattle.keeper.proofs.weightfile.shape_of.Given as goal
 
 -- how many places net n has

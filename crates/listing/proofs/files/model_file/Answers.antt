@@ -1,5 +1,4 @@
 -- `model_file` meets its contract: too long, or read by the call that it is for.
-use borrow.Author.Rules.{rules}
 use mathlib.Core.Path.{◌∙◌}
 use Rattle.listing.proofs.ThreeFiles.{model-long, model-short}
 use Rattle.listing.proofs.files.model_file.Goals as goal

@@ -1,5 +1,4 @@
 -- `trace_file` meets its contract: too long, or read by the call that it is for.
-use borrow.Author.Rules.{rules}
 use mathlib.Core.Path.{◌∙◌}
 use Rattle.listing.proofs.ThreeFiles.{trace_long, trace_short}
 use Rattle.listing.proofs.files.trace_file.Goals as goal

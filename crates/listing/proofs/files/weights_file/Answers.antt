@@ -1,5 +1,4 @@
 -- `weights_file` meets its contract: too long, or read by the call that it is for.
-use borrow.Author.Rules.{rules}
 use mathlib.Core.Path.{◌∙◌}
 use Rattle.listing.proofs.ThreeFiles.{weights-long, weights-short}
 use Rattle.listing.proofs.files.weights_file.Goals as goal

@@ -1,5 +1,4 @@
 -- `put_cover` meets its contract: 1 or 0.
-use borrow.Author.Rules.{rules}
 use native.Mathlib.Omega.{arith}
 use Rattle.listing.proofs.ListingLines.{laid_as, cover_length, cover_is}
 use Rattle.listing.proofs.head.put_cover.Goals as goal

@@ -1,5 +1,4 @@
 -- `put_pair` meets its contract: the parts of the line, one after the other.
-use borrow.Author.Rules.{rules}
 use native.Mathlib.Omega.{arith}
 use Rattle.text.specs.Bytes.{bytes}
 use Rattle.text.proofs.DecimalLaws.{length-below}

@@ -1,5 +1,4 @@
 -- `put_sum` meets its contract: a sum below 0, or not.
-use borrow.Author.Rules.{rules}
 use Prim.Native.Nat.{◌-◌}
 use native.Mathlib.Omega.{arith}
 use Rattle.text.specs.Bytes.{bytes}
