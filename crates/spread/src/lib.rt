@@ -20,9 +20,9 @@ pub enum Spread {
 
 // The entry of n tokens and k racks. The table is lent: who wants many of its entries lays it once.
 fn entry(spreads: &[u64; 544], n: usize, k: usize) -> u64
-    requires fact_1 { n ≤ 31 }
-    requires fact_2 { k ≤ 16 }
-    requires fact_3 { SpreadTable spreads.now }
+    requires n_within { n ≤ 31 }
+    requires k_within { k ≤ 16 }
+    requires the_table { SpreadTable spreads.now }
     ensures { result ≡ spread n k }
 {
     spreads[n * 17 + k]

@@ -4,4 +4,4 @@ use Rattle.spread.proofs.entry.Goals as goal
 
 pub returns : goal.returns
 unfolding SpreadTable
-returns c = c.requires.fact_3 _ _ c.requires.fact_1 c.requires.fact_2
+returns c = c.requires.the_table _ _ c.requires.n_within c.requires.k_within

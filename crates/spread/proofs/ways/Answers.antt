@@ -11,8 +11,8 @@ pub returns-then-k-gt16 : goal.returns-then-k-gt16
 returns-then-k-gt16 c = call_racks _ _ (omega arith) (omega arith)
 
 -- `tt`: the rule's test, computed over the whole of `SPREADS`
-pub entry-requires-clause-fact_3 : goal.entry-requires-clause-fact_3
-entry-requires-clause-fact_3 c = holds_spreads _ tt
+pub entry-requires-clause-the_table : goal.entry-requires-clause-the_table
+entry-requires-clause-the_table c = holds_spreads _ tt
 
 pub returns : goal.returns
 returns c = rw c.entry.ensures (call_ways _ _ (omega arith) (omega arith))
