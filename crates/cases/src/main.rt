@@ -2,12 +2,9 @@
 // beside it. The cases are the lines of the file `cases`; those on held things that no reading gives are in `held`.
 #![tactic(auto)]
 
-ghost use Rattle.std.specs.Prelude.{◌≡◌, ◌≤◌, length, take};
-
 use engine::{Marking, Model};
+use files::load;
 use line::{decoded, find};
-use std::fs::File;
-use std::io::Read;
 use std::rt::Files;
 use std::{io, str};
 use text_scan::starts;
@@ -29,27 +26,6 @@ fn hand_of(text: &[u8]) -> Hand {
     let model = r.model;
     let marking = r.start;
     Hand { model, marking }
-}
-
-// Reads the file at `path` into buf and answers how many bytes there are; of one that cannot be opened, none.
-fn load(rt: &impl Files, path: &str, buf: &mut [u8]) -> usize
-    ensures in_bounds { result ≤ length buf.new }
-    ensures prefix { result ≡ length (take result buf.new) }
-{
-    let Ok(mut file) = File::open(rt, path) else {
-        return 0;
-    };
-    let mut done = 0;
-    while done < buf.len() {
-        let Ok(n) = file.read(&mut buf[done..]) else {
-            break;
-        };
-        if n == 0 {
-            break;
-        }
-        done += n;
-    }
-    done
 }
 
 fn loaded(rt: &impl Files, path: &str) -> Hand {

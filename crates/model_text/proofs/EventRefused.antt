@@ -172,7 +172,7 @@ module _ (f : Frame) (s : Text) (at : ℕ) where
 pub record IdlesBlack (f : Frame) (s : Text) (at : ℕ) : Type 0 where
   pub place : ℕ
   pub stands : Stands s at (number_text (bytes "idle=") place)
-  pub in_range_lem : in_range 1 f.places place ≡ true
+  pub in-range : in_range 1 f.places place ≡ true
   pub black : f.type (pred place) ≡ 0
 
 -- an event stands there and is right as far as the counts of its first nets; those of the next net stand at x, in range, but are all 0 where
@@ -193,7 +193,7 @@ module _ (f : Frame) (s : Text) (at x : ℕ) where
   act_part : Failing s act_line_text (act_ranged f) (act_ruled f) at → IdlesBlack f s at
   unfolding act_line_text
   act_part (event_line n, st, li, ty) = absurd (true≢false ty)
-  act_part (idle_line n, st, li, ty) = let b = leb-false 1 (f.type (pred n)) ty in record { place = n; stands = st; in_range_lem = li; black = omega (arith, b) }
+  act_part (idle_line n, st, li, ty) = let b = leb-false 1 (f.type (pred n)) ty in record { place = n; stands = st; in-range = li; black = omega (arith, b) }
 
   sync_part : (a : Act) → Stands s at (act_text a) → right_act f a ≡ true
       → ManyFaults s (list_text (bytes "sync=")) (SyncFaults s f (own_net f.type a)) (right_sync f (own_net f.type a)) 0 f.nets (at + length (act_text a)) (fault 5 x)
@@ -229,7 +229,7 @@ module _ (f : Frame) (s : Text) (at x : ℕ) where
         (⊎_elim
         (λ k.
         let b = k.1 in
-        inl (inr (rw k.0, (idle_line b.place, b.stands, b.in_range_lem, rw b.black))))
+        inl (inr (rw k.0, (idle_line b.place, b.stands, b.in-range, rw b.black))))
         (λ w.
         let a = w.event.act in
         let l = w.event.sync in

@@ -64,7 +64,7 @@ step_lines lim z events s t next e =
           ∙ ap (λ (l : Text). take ++ (taken ++ l)) (append_assoc give given rest));
       fire-line = number-line (bytes "fire=") refl (suc t.event);
       take-line = number-line (bytes "take=") refl (length t.taken);
-      token_line_lem = λ x. token_line_lem (bytes "token=") refl (token_line x);
+      token-line = λ x. token_line_lem (bytes "token=") refl (token_line x);
     }
 
 nets_are : (m : Model) → length (model_of m).nets ≡ m.nets

@@ -113,7 +113,7 @@ pub record StepLines (s : Text) (t : Step) : Type 0 where
       ++ (number_text (bytes "take=") (length t.taken) ++ (texts net_token_text t.taken ++ (number_text (bytes "give=") (length t.given) ++ rest)))
   pub fire-line : newlines (number_text (bytes "fire=") (suc t.event)) ≡ 1
   pub take-line : newlines (number_text (bytes "take=") (length t.taken)) ≡ 1
-  pub token_line_lem : (x : eos.NetToken) → newlines (net_token_text x) ≡ 1
+  pub token-line : (x : eos.NetToken) → newlines (net_token_text x) ≡ 1
 
 -- ---- the tests of weights
 

@@ -1,35 +1,9 @@
 // Reads the files `model`, `weights` and `trace` of its folder and prints their listing.
 #![tactic(auto)]
 
-ghost use Rattle.std.specs.Prelude.{◌≡◌, ◌≤◌, length, take};
-
 use engine::{WriteAnswer, listing};
-use std::fs::File;
+use files::load;
 use std::io;
-use std::io::Read;
-use std::rt::Files;
-
-// Reads the file at `path` into buf and answers how many bytes there are; of one that cannot be opened, none. A file over 65,536 bytes
-// fills a buffer of one byte more, and so the listing sees that it is too long.
-fn load(rt: &impl Files, path: &str, buf: &mut [u8]) -> usize
-    ensures in_bounds { result ≤ length buf.new }
-    ensures prefix { result ≡ length (take result buf.new) }
-{
-    let Ok(mut file) = File::open(rt, path) else {
-        return 0;
-    };
-    let mut done = 0;
-    while done < buf.len() {
-        let Ok(n) = file.read(&mut buf[done..]) else {
-            break;
-        };
-        if n == 0 {
-            break;
-        }
-        done += n;
-    }
-    done
-}
 
 // Prints the listing of three texts; `out` is room for it.
 fn print_listing(
@@ -47,6 +21,7 @@ fn print_listing(
 }
 
 fn main(rt: HostRuntime) -> io::Result<()> {
+    // A file over 65,536 bytes fills a buffer of one byte more, and so the listing sees that it is too long.
     let mut model = [0u8; 65537];
     let mut weights = [0u8; 65537];
     let mut trace = [0u8; 65537];

@@ -75,7 +75,7 @@ pub record Ready (plan sizes : List ℕ) (s : Text) (at : ℕ) (c : Come) : Type
   pub plan_long : length plan ≡ packed_long
   pub sized : SizedModel (model_in plan)
   pub held : held_both (model_in plan) (marking_in c) ≡ true
-  pub sizes_are_lem : sizes ≡ sizes_in (model_in plan)
+  pub sizes-are : sizes ≡ sizes_in (model_in plan)
   pub within : length s ≤ longest
   pub rows_long : length c.rows ≡ rows_room
   pub behind : c.far.fired ≤ at

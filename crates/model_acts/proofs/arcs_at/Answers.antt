@@ -12,7 +12,7 @@ loop-k-init c = (search rules, refl)
 
 pub overflow_cast-row : goal.overflow_cast-row
 overflow_cast-row c =
-    omega (arith, c.shared_slice_known-1.given (c.args.i * 32 + c.loop-k.k))
+    omega (arith, c.type_inv.table (c.args.i * 32 + c.loop-k.k))
 
 pub loop-k-preserved : goal.loop-k-preserved
 loop-k-preserved c =

@@ -10,27 +10,31 @@ use Rattle.model_text.specs.declared.Acting.TheVariants.{Refused}
 use Rattle.model_text.proofs.LineAnswers.{value_in}
 use Rattle.model_text.proofs.ActLaws.{idle-refused, idle_black, idle_read}
 use Rattle.model_events.proofs.idle_at.Goals as goal
+use Rattle.model_events.proofs.idle_at.Goals.{In-Value}
+
+-- the line that was accepted
+first : (c : In-Value) → Value c.in-Value.value c.in-Value.next
+    ≡ line_of (read_number (bytes "idle=") (in_range 1 c.args.f.places) c.args.s.now c.args.at)
+first c = sym c.in-Value.is ∙ c.number_line-a.ensures
 
 pub overflow_sub-value : goal.overflow_sub-value
-overflow_sub-value c = let first : (Value c.in-Value.value c.in-Value.next ≡ line_of (read_number (bytes "idle=") (in_range 1 c.args.f.places) c.args.s.now c.args.at)) = sym c.in-Value.is ∙ c.number_line-a.ensures in
-    omega (arith, (value_in _ 1 c.args.f.places _ _ _ _ (first)).0)
+overflow_sub-value c = omega (arith, (value_in _ 1 c.args.f.places _ _ _ _ (first (goal.at.overflow_sub-value c).In-Value)).0)
 
 pub bounds-types-value : goal.bounds-types-value
-bounds-types-value c = let first : (Value c.in-Value.value c.in-Value.next ≡ line_of (read_number (bytes "idle=") (in_range 1 c.args.f.places) c.args.s.now c.args.at)) = sym c.in-Value.is ∙ c.number_line-a.ensures in
-    let p = value_in _ 1 c.args.f.places _ _ _ _ (first) in
+bounds-types-value c =
+    let p = value_in _ 1 c.args.f.places _ _ _ _ (first (goal.at.bounds-types-value c).In-Value) in
     omega (arith, p.0, p.1, c.requires.places)
 
 pub returns-then-types-value-eq0 : goal.returns-then-types-value-eq0
-returns-then-types-value-eq0 c = let first : (Value c.in-Value.value c.in-Value.next ≡ line_of (read_number (bytes "idle=") (in_range 1 c.args.f.places) c.args.s.now c.args.at)) = sym c.in-Value.is ∙ c.number_line-a.ensures in
-    ap Refused c.fault_at.ensures ∙ idle_black (as_frame (c.args.f)) _ _ _ _ (first) c.if-types-value-eq0.true
+returns-then-types-value-eq0 c =
+    ap Refused c.fault_at.ensures ∙ idle_black (as_frame (c.args.f)) _ _ _ _ (first (goal.at.returns-then-types-value-eq0 c).In-Value) c.if-types-value-eq0.true
 
 pub overflow_cast-result : goal.overflow_cast-result
-overflow_cast-result c = let first : (Value c.in-Value.value c.in-Value.next ≡ line_of (read_number (bytes "idle=") (in_range 1 c.args.f.places) c.args.s.now c.args.at)) = sym c.in-Value.is ∙ c.number_line-a.ensures in
-    omega (arith, (value_in _ 1 c.args.f.places _ _ _ _ (first)).1, c.requires.places)
+overflow_cast-result c =
+    omega (arith, (value_in _ 1 c.args.f.places _ _ _ _ (first (goal.at.overflow_cast-result c).In-Value)).1, c.requires.places)
 
 pub returns-else-types-value-eq0 : goal.returns-else-types-value-eq0
-returns-else-types-value-eq0 c = let first : (Value c.in-Value.value c.in-Value.next ≡ line_of (read_number (bytes "idle=") (in_range 1 c.args.f.places) c.args.s.now c.args.at)) = sym c.in-Value.is ∙ c.number_line-a.ensures in
-    idle_read (as_frame (c.args.f)) _ _ _ _ (first) c.if-types-value-eq0.false
+returns-else-types-value-eq0 c = idle_read (as_frame (c.args.f)) _ _ _ _ (first (goal.at.returns-else-types-value-eq0 c).In-Value) c.if-types-value-eq0.false
 
 pub returns-in-Refused : goal.returns-in-Refused
 returns-in-Refused c = idle-refused _ _ _ _ (sym c.in-Refused.is ∙ c.number_line-a.ensures)

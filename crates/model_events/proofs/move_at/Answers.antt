@@ -9,9 +9,10 @@ use Rattle.model_text.specs.Answers.{as_frame}
 use Rattle.model_text.proofs.LineAnswers.{value_in}
 use Rattle.model_text.proofs.ActLaws.{move-refused, move_read}
 use Rattle.model_events.proofs.move_at.Goals as goal
+use Rattle.model_events.proofs.move_at.Goals.{In-Value}
 
 -- the line that was accepted
-first : (c : goal.In-Value) → Value c.in-Value.value c.in-Value.next
+first : (c : In-Value) → Value c.in-Value.value c.in-Value.next
     ≡ line_of (read_number (bytes "event=") (in_range 1 c.args.f.moves) c.args.s.now c.args.at)
 first c = sym c.in-Value.is ∙ c.number_line-a.ensures
 

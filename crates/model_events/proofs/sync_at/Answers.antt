@@ -1,6 +1,5 @@
 -- `sync_at` answers what the line of a net's counts says: refused, against the rule on who takes part, or read.
 use mathlib.Core.Path.{ap, ◌∙◌}
-use borrow.Author.Tests.{not-true, not-false}
 use lib.ListN.{replicate}
 use Rattle.text.specs.declared.Ended.TheVariants.{Stopped}
 use Rattle.model_text.specs.Answers.{as_frame}
@@ -17,9 +16,9 @@ pub returns-then-not-takes_part : goal.returns-then-not-takes_part
 returns-then-not-takes_part c =
     ap {B = Counts} (λ d. record { ended = Stopped d; counts = replicate 32 0 }) c.fault_at.ensures
     ∙ no_part (as_frame c.args.f) _ _ c.args.n _ _ c.list_line-a.ensures (c.requires.fitting.steps c.args.n) _ c.in-Past.is
-    _ c.narrow-counts.ensures _ c.takes_part.ensures (not-true _ c.if-not-takes_part.true-raw)
+    _ c.narrow-counts.ensures _ c.takes_part.ensures c.if-not-takes_part.true
 
 pub returns : goal.returns
 returns c =
     sync_read (as_frame c.args.f) _ _ c.args.n _ _ c.list_line-a.ensures (c.requires.fitting.steps c.args.n) _ c.in-Past.is
-    _ c.narrow-counts.ensures _ c.takes_part.ensures (not-false _ c.if-not-takes_part.false-raw)
+    _ c.narrow-counts.ensures _ c.takes_part.ensures c.if-not-takes_part.false

@@ -1,6 +1,5 @@
 -- `sides_at` answers what the two lines of a transition say: a case for each line that is refused, for types that are lost, and for two sides.
 use mathlib.Core.Path.{ap, ◌∙◌}
-use borrow.Author.Tests.{not-true, not-false}
 use Rattle.text.specs.Lines.{bad}
 use Rattle.text.specs.declared.Fault.{Fault}
 use Rattle.model_text.specs.Answers.{sides_of}
@@ -19,9 +18,9 @@ pub returns-then-not-monotonous : goal.returns-then-not-monotonous
 returns-then-not-monotonous c =
     c.no_sides.ensures ∙ ap (λ (d : Fault). sides_of (bad d)) c.fault_at.ensures
     ∙ types_lost _ _ _ _ _ c.requires _ c.list_line-a.ensures _ c.in-Past.is _ c.list_line-b.ensures _ c.in-Past-f.is
-    _ _ c.narrow-pre.ensures c.narrow-post.ensures _ c.monotonous.ensures (not-true _ c.if-not-monotonous.true-raw)
+    _ _ c.narrow-pre.ensures c.narrow-post.ensures _ c.monotonous.ensures c.if-not-monotonous.true
 
 pub returns : goal.returns
 returns c =
     types-kept _ _ _ _ _ c.requires _ c.list_line-a.ensures _ c.in-Past.is _ c.list_line-b.ensures _ c.in-Past-f.is
-    _ _ c.narrow-pre.ensures c.narrow-post.ensures _ c.monotonous.ensures (not-false _ c.if-not-monotonous.false-raw)
+    _ _ c.narrow-pre.ensures c.narrow-post.ensures _ c.monotonous.ensures c.if-not-monotonous.false

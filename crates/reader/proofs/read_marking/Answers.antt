@@ -1,30 +1,29 @@
 -- `read_marking` meets its contract: a text that is too long, a model that is not held, or what the lines answer.
 use mathlib.Core.Path.{◌≡◌, sym, ◌∙◌}
 use mathlib.Core.Bool.{true}
-use borrow.Author.Tests.{not-true, not-false}
 use Rattle.model.specs.Test.{held_model}
 use Rattle.reader.proofs.ReadingLaws.{sizes_roomy, marking_long, marking_unheld, marking_answered}
 use Rattle.reader.proofs.read_marking.Goals as goal
+use Rattle.reader.proofs.read_marking.Goals.{Else-not-is_held}
 
 -- the model passed its test
-passed : (c : goal.Else-not-is_held) → held_model c.args.m ≡ true
-passed c = sym c.is_held.ensures ∙ not-false _ c.if-not-is_held.false-raw
+passed : (c : Else-not-is_held) → held_model c.args.m ≡ true
+passed c = sym c.is_held.ensures ∙ c.if-not-is_held.false
 
 pub returns-then-s-gt-LONGEST : goal.returns-then-s-gt-LONGEST
 returns-then-s-gt-LONGEST c = c.no_tokens.ensures ∙ marking_long _ _ c.if-s-gt-LONGEST.true
 
 pub returns-then-not-is_held : goal.returns-then-not-is_held
 returns-then-not-is_held c =
-    c.no_tokens-then-not-is_held.ensures ∙ marking_unheld _ _ c.if-s-gt-LONGEST.false (sym c.is_held.ensures ∙ not-true _ c.if-not-is_held.true-raw)
+    c.no_tokens-then-not-is_held.ensures ∙ marking_unheld _ _ c.if-s-gt-LONGEST.false (sym c.is_held.ensures ∙ c.if-not-is_held.true)
 
 pub place_sizes-requires : goal.place_sizes-requires
 place_sizes-requires c = passed c
 
 pub marking_lines-lines-requires : goal.marking_lines-lines-requires
-marking_lines-lines-requires c = let passed : (held_model c.args.m ≡ true) = sym c.is_held.ensures ∙ not-false _ c.if-not-is_held.false-raw in
-    sizes_roomy _ (passed) _ c.place_sizes.ensures
+marking_lines-lines-requires c = sizes_roomy _ (passed (goal.at.marking_lines-lines-requires c).Else-not-is_held) _ c.place_sizes.ensures
 
 pub returns : goal.returns
-returns c = let passed : (held_model c.args.m ≡ true) = sym c.is_held.ensures ∙ not-false _ c.if-not-is_held.false-raw in
-    marking_answered _ _ c.if-s-gt-LONGEST.false (passed) _ c.place_sizes.ensures
+returns c =
+    marking_answered _ _ c.if-s-gt-LONGEST.false (passed (goal.at.returns c).Else-not-is_held) _ c.place_sizes.ensures
     c.marking_lines-lines.result c.marking_lines-lines.ensures _ c.answer_of.ensures

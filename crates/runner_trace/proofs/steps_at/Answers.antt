@@ -21,7 +21,7 @@ turn_from-p-requires c =
     let i = c.loop-p.invariant in
     let g = i.stands.going c.loop-p-test.true in
     rw (i.src_kept, i.at_reached)
-    (record { plan_long = h.plan_long; sized = h.sized; held = g.kept.held; sizes_are_lem = h.sizes_are_lem; within = h.within; rows_long = g.kept.long; behind = g.behind })
+    (record { plan_long = h.plan_long; sized = h.sized; held = g.kept.held; sizes-are = h.sizes-are; within = h.within; rows_long = g.kept.long; behind = g.behind })
 
 -- after a turn the run stands, with fewer turns left
 turned : (c : After-moved-r) →

@@ -3,7 +3,6 @@ use Prim.Native.Nat.{◌+◌}
 use mathlib.Core.Path.{◌≡◌, sym, ap, ◌∙◌}
 use mathlib.Core.Bool.{true}
 use native.Mathlib.Omega.{arith}
-use borrow.Author.Tests.{not-true, not-false}
 use lib.ListN.{length, drop}
 use Rattle.text.specs.Bytes.{colon, starts}
 use Rattle.text.proofs.ByteLaws.{key_past}
@@ -12,35 +11,39 @@ use Rattle.text.specs.Answers.{token_row_of}
 use Rattle.text.proofs.NumberLaws.{Exact, Capped, missing_of, exact_of}
 use Rattle.text_tokens.proofs.TokenLaws.{token_other, token_missing, token_low, token_high, token_in}
 use Rattle.text_tokens.proofs.token_line.Goals as goal
+use Rattle.text_tokens.proofs.token_line.Goals.{Else-not-starts, In-Found}
 
-key-is : (c : goal.Else-not-starts) → let a = c.args in starts a.key.now (drop a.at a.s.now) ≡ true
-key-is c = sym c.starts.ensures ∙ not-false _ c.if-not-starts.false-raw
+key-is : (c : Else-not-starts) → let a = c.args in starts a.key.now (drop a.at a.s.now) ≡ true
+key-is c = sym c.starts.ensures ∙ c.if-not-starts.false
+
+-- what `item` read
+read : (c : In-Found) →
+    let a = c.args in
+    Exact (item number colon a.s.now (a.at + length a.key.now)) (Capped c.in-Found.value) c.in-Found.end
+read c = exact_of _ _ _ (sym c.in-Found.is ∙ c.item.ensures)
 
 pub returns-then-not-starts : goal.returns-then-not-starts
-returns-then-not-starts c = c.no_token.ensures ∙ sym (ap token_row_of (token_other _ _ _ _ _ _ (sym c.starts.ensures ∙ not-true _ c.if-not-starts.true-raw)))
+returns-then-not-starts c = c.no_token.ensures ∙ sym (ap token_row_of (token_other _ _ _ _ _ _ (sym c.starts.ensures ∙ c.if-not-starts.true)))
 
 pub overflow_add-at : goal.overflow_add-at
 overflow_add-at c = let a = c.args in omega (arith, key_past a.key.now a.s.now a.at (key-is c))
 
 pub returns-in_default : goal.returns-in_default
-returns-in_default c = let key-is : (let a = c.args in starts a.key.now (drop a.at a.s.now) ≡ true) = sym c.starts.ensures ∙ not-false _ c.if-not-starts.false-raw in
+returns-in_default c =
     c.no_token-in_default.ensures
-    ∙ sym (ap token_row_of (token_missing _ _ _ _ _ _ (key-is) (missing_of _ (sym c.in_default.is ∙ c.item.ensures))))
+    ∙ sym (ap token_row_of (token_missing _ _ _ _ _ _ (key-is (goal.at.returns-in_default c).Else-not-starts) (missing_of _ (sym c.in_default.is ∙ c.item.ensures))))
 
 pub returns-then-value-eq0 : goal.returns-then-value-eq0
-returns-then-value-eq0 c = let read : (let a = c.args in Exact (item number colon a.s.now (a.at + length a.key.now)) (Capped c.in-Found.value) c.in-Found.end) = exact_of _ _ _ (sym c.in-Found.is ∙ c.item.ensures) in
-    let key-is : (let a = c.args in starts a.key.now (drop a.at a.s.now) ≡ true) = sym c.starts.ensures ∙ not-false _ c.if-not-starts.false-raw in
+returns-then-value-eq0 c =
     let f = c.ranges in
-    c.out_of_range.ensures ∙ sym (ap token_row_of (token_low _ _ _ _ _ _ (key-is) f.places.fits _ _ (read) c.if-value-eq0.true))
+    c.out_of_range.ensures ∙ sym (ap token_row_of (token_low _ _ _ _ _ _ (key-is (goal.at.returns-then-value-eq0 c).Else-not-starts) f.places.fits _ _ (read (goal.at.returns-then-value-eq0 c).In-Found) c.if-value-eq0.true))
 
 pub returns-then-places-value : goal.returns-then-places-value
-returns-then-places-value c = let read : (let a = c.args in Exact (item number colon a.s.now (a.at + length a.key.now)) (Capped c.in-Found.value) c.in-Found.end) = exact_of _ _ _ (sym c.in-Found.is ∙ c.item.ensures) in
-    let key-is : (let a = c.args in starts a.key.now (drop a.at a.s.now) ≡ true) = sym c.starts.ensures ∙ not-false _ c.if-not-starts.false-raw in
+returns-then-places-value c =
     let f = c.ranges in
-    c.out_of_range-then-places-value.ensures ∙ sym (ap token_row_of (token_high _ _ _ _ _ _ (key-is) f.places.fits _ _ (read) c.if-places-value.true))
+    c.out_of_range-then-places-value.ensures ∙ sym (ap token_row_of (token_high _ _ _ _ _ _ (key-is (goal.at.returns-then-places-value c).Else-not-starts) f.places.fits _ _ (read (goal.at.returns-then-places-value c).In-Found) c.if-places-value.true))
 
 pub returns : goal.returns
-returns c = let read : (let a = c.args in Exact (item number colon a.s.now (a.at + length a.key.now)) (Capped c.in-Found.value) c.in-Found.end) = exact_of _ _ _ (sym c.in-Found.is ∙ c.item.ensures) in
-    let key-is : (let a = c.args in starts a.key.now (drop a.at a.s.now) ≡ true) = sym c.starts.ensures ∙ not-false _ c.if-not-starts.false-raw in
+returns c =
     let f = c.ranges in
-    (rw c.byte_at-n.ensures at c.counted.ensures) ∙ sym (ap token_row_of (token_in _ _ _ _ _ _ (key-is) f.places.fits _ _ (read) c.if-value-eq0.false c.if-places-value.false))
+    (rw c.byte_at-n.ensures at c.counted.ensures) ∙ sym (ap token_row_of (token_in _ _ _ _ _ _ (key-is (goal.at.returns c).Else-not-starts) f.places.fits _ _ (read (goal.at.returns c).In-Found) c.if-value-eq0.false c.if-places-value.false))

@@ -19,7 +19,7 @@ pub loop-i-init : goal.loop-i-init
 loop-i-init c = (omega arith, refl, refl, refl)
 
 pub overflow_cast-n : goal.overflow_cast-n
-overflow_cast-n c = omega (arith, c.shared_slice_known-in-loop-i-1.given c.loop-i.i)
+overflow_cast-n c = omega (arith, c.type_inv.values c.loop-i.i)
 
 pub put_digits-requires : goal.put_digits-requires
 put_digits-requires c =

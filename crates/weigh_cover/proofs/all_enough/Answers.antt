@@ -1,7 +1,6 @@
 use borrow.Author.Rules.{rules}
 use mathlib.Core.Path.{refl, sym, ◌∙◌}
 use native.Mathlib.Omega.{arith}
-use borrow.Author.Tests.{not-true, not-false}
 use Rattle.weigh.proofs.WeightLoops.{below-bad, below-good, below_end}
 use Rattle.weigh_cover.proofs.all_enough.Goals as goal
 
@@ -10,11 +9,11 @@ loop-i-init c = (search rules, refl)
 
 pub returns-then-not-weight_covers : goal.returns-then-not-weight_covers
 returns-then-not-weight_covers c =
-    sym (c.loop-i.invariant.1 ∙ below-bad _ _ c.loop-i-test.true (sym c.weight_covers.ensures ∙ not-true _ c.if-not-weight_covers.true-raw))
+    sym (c.loop-i.invariant.1 ∙ below-bad _ _ c.loop-i-test.true (sym c.weight_covers.ensures ∙ c.if-not-weight_covers.true))
 
 pub loop-i-preserved : goal.loop-i-preserved
 loop-i-preserved c =
-    (omega arith, c.loop-i.invariant.1 ∙ below-good _ _ c.loop-i-test.true (sym c.weight_covers.ensures ∙ not-false _ c.if-not-weight_covers.false-raw))
+    (omega arith, c.loop-i.invariant.1 ∙ below-good _ _ c.loop-i-test.true (sym c.weight_covers.ensures ∙ c.if-not-weight_covers.false))
 
 pub returns : goal.returns
 returns c = sym (c.loop-i.invariant.1 ∙ below_end _ _ c.loop-i-test.false)

@@ -3,7 +3,6 @@ use Prim.Native.Nat.{ℕ, ◌-◌}
 use mathlib.Core.Path.{◌≡◌, refl, ap, sym, ◌∙◌}
 use mathlib.Core.List.{[]}
 use native.Mathlib.Omega.{arith}
-use borrow.Author.Tests.{not-true, not-false}
 use lib.ListN.{length}
 use Rattle.model.specs.Held.{no_net}
 use Rattle.model.specs.declared.ObjectNet.{ObjectNet}
@@ -36,7 +35,7 @@ returns-then-not-all_enough c =
     let m : length a.objects ≡ 8 = search rules in
     let same = at_any a.objects i outside no_net (omega (arith, c.requires.1, c.loop-i.invariant.0, c.loop-i-test.true)) in
     let test = net-at a.sum a.w.now a.objects i outside same _ c.all_enough.ensures in
-    sym (c.loop-i.invariant.1 ∙ below-bad _ _ c.loop-i-test.true (test ∙ not-true _ c.if-not-all_enough.true-raw))
+    sym (c.loop-i.invariant.1 ∙ below-bad _ _ c.loop-i-test.true (test ∙ c.if-not-all_enough.true))
 
 pub loop-i-preserved : goal.loop-i-preserved
 loop-i-preserved c =
@@ -45,7 +44,7 @@ loop-i-preserved c =
     let m : length a.objects ≡ 8 = search rules in
     let same = at_any a.objects i outside no_net (omega (arith, c.requires.1, c.loop-i.invariant.0, c.loop-i-test.true)) in
     let test = net-at a.sum a.w.now a.objects i outside same _ c.all_enough.ensures in
-    (omega arith, c.loop-i.invariant.1 ∙ below-good _ _ c.loop-i-test.true (test ∙ not-false _ c.if-not-all_enough.false-raw))
+    (omega arith, c.loop-i.invariant.1 ∙ below-good _ _ c.loop-i-test.true (test ∙ c.if-not-all_enough.false))
 
 pub returns : goal.returns
 returns c = sym (c.loop-i.invariant.1 ∙ below_end _ _ c.loop-i-test.false)

@@ -1,0 +1,30 @@
+// A file read into a lent buffer, for the programs.
+#![tactic(auto)]
+
+ghost use Rattle.std.specs.Prelude.{◌≡◌, ◌≤◌, length, take};
+
+use std::fs::File;
+use std::io::Read;
+use std::rt::Files;
+
+// Reads the file at `path` into buf and answers how many bytes there are: as many as there is room for, and up to a read that fails; of
+// one that cannot be opened, none.
+pub fn load(rt: &impl Files, path: &str, buf: &mut [u8]) -> usize
+    ensures in_bounds { result ≤ length buf.new }
+    ensures prefix { result ≡ length (take result buf.new) }
+{
+    let Ok(mut file) = File::open(rt, path) else {
+        return 0;
+    };
+    let mut done = 0;
+    while done < buf.len() {
+        let Ok(n) = file.read(&mut buf[done..]) else {
+            break;
+        };
+        if n == 0 {
+            break;
+        }
+        done += n;
+    }
+    done
+}
