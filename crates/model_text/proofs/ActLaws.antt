@@ -27,6 +27,7 @@ use Rattle.model_text.specs.Answers.{acting_of, counts_of}
 use Rattle.model_text.specs.declared.Acting.TheVariants.{Acts, Refused}
 use Rattle.text.proofs.Loops.{line-got, line-bad}
 use Rattle.model_text.proofs.LineAnswers.{number_in, value_in, row-bad, Bytes, bytes-got}
+use Rattle.text.specs.declared.Cause.TheVariants.{Idling}
 
 -- ---- the first line
 
@@ -40,7 +41,7 @@ module _ (f : Frame) (s : Text) (at : ℕ) where
   move-refused d e = rw (line-bad _ d e)
 
   module _ (p x : ℕ) (e : line.Value p x ≡ line_of (read_number (bytes "idle=") (in_range 1 f.places) s at)) where
-    pub idle_black : f.type (p - 1) ≡ 0 → Refused (fault 5 at) ≡ acting_of (read_idle f s at)
+    pub idle_black : f.type (p - 1) ≡ 0 → Refused (fault Idling at) ≡ acting_of (read_idle f s at)
     unfolding read_idle then need acting_of
     idle_black h = rw (line-got _ p x e, ← sub-one p, h)
 
@@ -71,7 +72,7 @@ module _ (f : Frame) (places : f.places ≤ 32) (moves : f.moves ≤ 32) (s : Te
   unfolding read_idle
   idle-few e =
       let p = then-got (read_number (bytes "idle=") (in_range 1 f.places) s at) _ a next e in
-      let q = need-got (leb 1 (f.type (pred p.value))) 5 at (got (idle (pred p.value)) p.next) a next p.rest in
+      let q = need-got (leb 1 (f.type (pred p.value))) Idling at (got (idle (pred p.value)) p.next) a next p.rest in
       let k = got-is q.1 in
       let n = number_in (bytes "idle=") 1 f.places s at p.value p.next p.first in
       rw (← k.0) (omega (arith, n.0, n.1, sub-one p.value))
@@ -106,7 +107,7 @@ module _ (f : Frame) (own : ℕ) (s : Text) (n at : ℕ) where
   sync-bad d e = rw e
 
   module _ (v : List ℕ) (x : ℕ) (e : read_list (bytes "sync=") (f.steps n) byte s at ≡ got v x) where
-    sync_out : takes_part own n v ≡ false → read_sync f own s n at ≡ bad (fault 5 at)
+    sync_out : takes_part own n v ≡ false → read_sync f own s n at ≡ bad (fault Idling at)
     unfolding read_sync then need
     sync_out h = rw (e, h)
 
@@ -126,8 +127,8 @@ module _ (f : Frame) (own : ℕ) (s : Text) (n at : ℕ) where
       judged-is : takes_part own n l_is.list ≡ t
       judged-is = sym (judged ∙ ap (takes_part own n) (v-is ∙ l_is.row) ∙ part_padded own n l_is.list (omega (arith, few, l_is.long)))
 
-      pub no_part : t ≡ false → record { ended = Stopped (fault 5 at); counts = replicate 32 0 } ≡ counts_of (read_sync f own s n at)
-      no_part e = counts-bad _ _ (fault 5 at) refl (sync_out l_is.list x l_is.is (judged-is ∙ e))
+      pub no_part : t ≡ false → record { ended = Stopped (fault Idling at); counts = replicate 32 0 } ≡ counts_of (read_sync f own s n at)
+      no_part e = counts-bad _ _ (fault Idling at) refl (sync_out l_is.list x l_is.is (judged-is ∙ e))
 
       pub sync_read : t ≡ true → record { ended = Past x; counts = v } ≡ counts_of (read_sync f own s n at)
       sync_read e = counts-got _ l_is.list v x (sync_in_lem l_is.list x l_is.is (judged-is ∙ e)) (v-is ∙ l_is.row)

@@ -25,6 +25,7 @@ use Rattle.model.proofs.RuleFails.{PartFails, wrong_part}
 use Rattle.model_text.specs.Reading.{read_idle, read_move, read_act, read_sync, read_event}
 use Rattle.model_text.specs.Printed.{act_text, event_text}
 use Rattle.model_text.proofs.EventExactly.{act_exactly, sync_exactly}
+use Rattle.text.specs.declared.Cause.TheVariants.{Syntax, Range, Idling}
 
 -- ---- the first line of an event
 
@@ -144,28 +145,28 @@ module _ (f : Frame) (s : Text) where
 
 module _ (f : Frame) (s : Text) (at : ℕ) where
   -- the first line of an event is 2 exactly where no such line stands there, whatever its number
-  pub act_two : (read_act f s at ≡ bad (fault 2 at)) ↔ Formless s act_line_text (λ a. true) at
+  pub act_two : (read_act f s at ≡ bad (fault Syntax at)) ↔ Formless s act_line_text (λ a. true) at
   act_two = ruled_two s (read_act f s) act_line_text (λ a. true) (act_ranged f) (act_ranged f) (act_ruled f) 5 (lit< tt) (act_refuses f s) at
 
   -- 3 exactly where one does whose number is that of no move, or of no place
-  pub act_three : (read_act f s at ≡ bad (fault 3 at)) ↔ Failing s act_line_text (λ a. true) (act_ranged f) at
+  pub act_three : (read_act f s at ≡ bad (fault Range at)) ↔ Failing s act_line_text (λ a. true) (act_ranged f) at
   act_three = ruled_three s (read_act f s) act_line_text (λ a. true) (act_ranged f) (act_ranged f) (act_ruled f) 5 (lit< tt) (act_refuses f s) at
 
   -- 5 exactly where one in range idles at a place of black tokens
-  pub act_five : (read_act f s at ≡ bad (fault 5 at)) ↔ Failing s act_line_text (act_ranged f) (act_ruled f) at
+  pub act_five : (read_act f s at ≡ bad (fault Idling at)) ↔ Failing s act_line_text (act_ranged f) (act_ruled f) at
   act_five = ruled_why s (read_act f s) act_line_text (λ a. true) (act_ranged f) (act_ranged f) (act_ruled f) 5 (lit< tt) (act_refuses f s) at
 
   module _ (own n : ℕ) where
     -- the counts of net n are 2 exactly where no list of as many numbers stands there as the net has transitions
-    pub sync_two : (read_sync f own s n at ≡ bad (fault 2 at)) ↔ Formless s (list_text (bytes "sync=")) (λ v. eqb (length v) (f.steps n)) at
+    pub sync_two : (read_sync f own s n at ≡ bad (fault Syntax at)) ↔ Formless s (list_text (bytes "sync=")) (λ v. eqb (length v) (f.steps n)) at
     sync_two = ruled_two s (read_sync f own s n) (list_text (bytes "sync=")) _ (every byte) (list_of (f.steps n) byte) (takes_part own n) 5 (lit< tt) (sync_refuses f s own n) at
 
     -- 3 exactly where one does that has a number over 255
-    pub sync_three : (read_sync f own s n at ≡ bad (fault 3 at)) ↔ Failing s (list_text (bytes "sync=")) (λ v. eqb (length v) (f.steps n)) (every byte) at
+    pub sync_three : (read_sync f own s n at ≡ bad (fault Range at)) ↔ Failing s (list_text (bytes "sync=")) (λ v. eqb (length v) (f.steps n)) (every byte) at
     sync_three = ruled_three s (read_sync f own s n) (list_text (bytes "sync=")) _ (every byte) (list_of (f.steps n) byte) (takes_part own n) 5 (lit< tt) (sync_refuses f s own n) at
 
     -- 5 exactly where one in range takes part and should not, or should and does not
-    pub sync_five : (read_sync f own s n at ≡ bad (fault 5 at)) ↔ Failing s (list_text (bytes "sync=")) (list_of (f.steps n) byte) (takes_part own n) at
+    pub sync_five : (read_sync f own s n at ≡ bad (fault Idling at)) ↔ Failing s (list_text (bytes "sync=")) (list_of (f.steps n) byte) (takes_part own n) at
     sync_five = ruled_why s (read_sync f own s n) (list_text (bytes "sync=")) _ (every byte) (list_of (f.steps n) byte) (takes_part own n) 5 (lit< tt) (sync_refuses f s own n) at
 
 -- an event that idles at a place of black tokens stands there
@@ -196,7 +197,7 @@ module _ (f : Frame) (s : Text) (at x : ℕ) where
   act_part (idle_line n, st, li, ty) = let b = leb-false 1 (f.type (pred n)) ty in record { place = n; stands = st; in-range = li; black = omega (arith, b) }
 
   sync_part : (a : Act) → Stands s at (act_text a) → right_act f a ≡ true
-      → ManyFaults s (list_text (bytes "sync=")) (SyncFaults s f (own_net f.type a)) (right_sync f (own_net f.type a)) 0 f.nets (at + length (act_text a)) (fault 5 x)
+      → ManyFaults s (list_text (bytes "sync=")) (SyncFaults s f (own_net f.type a)) (right_sync f (own_net f.type a)) 0 f.nets (at + length (act_text a)) (fault Idling x)
       → WrongPart f s at x
   unfolding event_text
   sync_part a st ri (l, lt, sts, ev, inl k) = absurd (no_line_cause (lit< tt) k)
@@ -216,16 +217,16 @@ module _ (f : Frame) (s : Text) (at x : ℕ) where
       }
 
   -- the lines of an event are 5 exactly where it idles at a place of black tokens, there, or has the wrong part, at x
-  pub event_five : (read_event f s at ≡ bad (fault 5 x)) ↔ (((x ≡ at) × IdlesBlack f s at) ⊎ WrongPart f s at x)
+  pub event_five : (read_event f s at ≡ bad (fault Idling x)) ↔ (((x ≡ at) × IdlesBlack f s at) ⊎ WrongPart f s at x)
   unfolding event_text act_line_text
   event_five = (
     λ h.
         ⊎_elim
         (⊎_elim (λ k. absurd (no_line_cause (lit< tt) k)) (λ k. inl (one_place k.0, act_part k.1)))
         (λ k. inr (sync_part k.0 k.1 k.2 k.3))
-        ((event_refuses f s).back at (fault 5 x) h),
+        ((event_refuses f s).back at (fault Idling x) h),
     λ h.
-        (event_refuses f s).forth at (fault 5 x)
+        (event_refuses f s).forth at (fault Idling x)
         (⊎_elim
         (λ k.
         let b = k.1 in

@@ -25,6 +25,7 @@ use Rattle.model_text.specs.Answers.{sides_of, tables_of}
 use Rattle.model_text.specs.declared.Sides.{Sides}
 use Rattle.model_text.specs.declared.Tables.{Tables}
 use Rattle.model_text.proofs.LineAnswers.{Bytes, bytes-got, row-bad, turn_past, turn_stopped, filled-got, filled-bad}
+use Rattle.text.specs.declared.Cause.TheVariants.{Typing}
 
 -- ---- the two lines
 
@@ -39,7 +40,7 @@ module _ (size : ℕ) (fine : Transition → Bool) (s : Text) (at : ℕ) where
     post-bad d b = rw (first, b)
 
     module _ (q : List ℕ) (x₂ : ℕ) (second : read_list (bytes "post=") size byte s x₁ ≡ got q x₂) where
-      not_fine : fine (record { pre = p; post = q }) ≡ false → read_sides size fine s at ≡ bad (fault 4 x₁)
+      not_fine : fine (record { pre = p; post = q }) ≡ false → read_sides size fine s at ≡ bad (fault Typing x₁)
       unfolding read_sides then need
       not_fine c = rw (first, second, c)
 
@@ -95,7 +96,7 @@ module _ (nets size : ℕ) (type : ℕ → ℕ) (s : Text) (at : ℕ) (few : siz
             sym (judged ∙ mono_rows nets size type pre post p_is.list q_is.list (pre_is ∙ p_is.row) (post_is ∙ q_is.row)
             (omega (arith, p_is.long)) (omega (arith, q_is.long)))
 
-        pub types_lost : t ≡ false → sides_of (bad (fault 4 x₁)) ≡ sides_of sides
+        pub types_lost : t ≡ false → sides_of (bad (fault Typing x₁)) ≡ sides_of sides
         types_lost e = ap sides_of (sym (not_fine size _ s at p_is.list x₁ p_is.is q_is.list x₂ q_is.is (judged-is ∙ e)))
 
         pub types-kept : t ≡ true → record { ended = Past x₂; pre = pre; post = post } ≡ sides_of sides

@@ -24,6 +24,7 @@ use Rattle.marking.specs.Printed.{marking_text}
 use Rattle.marking.proofs.BlockExactly.{block_exactly}
 use Rattle.reader.specs.Reading.{bounds, Loaded, read_end, read_lines, read_model, read_marking, right_loaded, read_model_at}
 use Rattle.reader.specs.Printed.{model_text}
+use Rattle.text.specs.declared.Cause.TheVariants.{Syntax}
 
 -- ---- a text, whole
 
@@ -33,7 +34,7 @@ module _ {A : Type 0} where
   unfolding read_end
   ended o s a next e =
       let p = then-got o (read_end s) a next e in
-      let q = need-got (leb (length s) p.next) 2 p.next (got p.value p.next) a next p.rest in
+      let q = need-got (leb (length s) p.next) Syntax p.next (got p.value p.next) a next p.rest in
       let k = got-is q.1 in
       (p.first ∙ rw (k.0, k.1), leb-true (length s) next (rw k.1 at q.0))
 

@@ -8,6 +8,7 @@ use Rattle.model.specs.Rules.{right_model}
 use Rattle.model_text.specs.Reading.{read_plant}
 use Rattle.marking.specs.Held.{Sizes, sizes_of}
 use Rattle.marking.specs.Reading.{Limits, limits, read_block, right_block}
+use Rattle.text.specs.declared.Cause.TheVariants.{Syntax}
 
 -- 01's limits on the token lines of a block and on a count
 abbrev pub bounds : Limits
@@ -19,7 +20,7 @@ pub record Loaded : Type 0 where
 
 -- nothing stands after the last line
 unfoldable pub read_end : {A : Type 0} → Text → A → ℕ → Outcome A
-read_end s a at = need (leb (length s) at) 2 at (got a at)
+read_end s a at = need (leb (length s) at) Syntax at (got a at)
 
 -- the lines of the model, and those of its start
 unfoldable pub read_lines : Text → ℕ → Outcome Loaded

@@ -9,6 +9,7 @@ use Rattle.text.specs.declared.Fault.{Fault}
 use Rattle.text.specs.declared.Ended.{Ended}
 use Rattle.text.specs.declared.Ended.TheVariants.{Past, Stopped}
 use Rattle.text_reader.specs.Place.{closed}
+use Rattle.text.specs.declared.Cause.TheVariants.{Syntax}
 
 module _ (s : Text) (at : ℕ) (e : Ended) where
   pub closed-refused : (d : Fault) → e ≡ Stopped d → e ≡ closed s at e
@@ -16,7 +17,7 @@ module _ (s : Text) (at : ℕ) (e : Ended) where
   closed-refused d is = rw is refl
 
   module _ (next : ℕ) (is : e ≡ Past next) where
-    pub closed-behind : at < length s → Stopped (fault 2 at) ≡ closed s at e
+    pub closed-behind : at < length s → Stopped (fault Syntax at) ≡ closed s at e
     unfolding closed
     closed-behind h = rw (is, lt-leb (length s) at h, closed)
 

@@ -5,6 +5,7 @@ use Rattle.text.specs.Lines.{fault}
 use Rattle.text.specs.declared.Ended.{Ended}
 use Rattle.text.specs.declared.Ended.TheVariants.{Past, Stopped}
 use Rattle.text_reader.specs.declared.Reader.{Reader}
+use Rattle.text.specs.declared.Cause.TheVariants.{Syntax}
 
 -- the reader of the same bytes at another place
 abbrev pub placed : Reader → ℕ → Reader
@@ -17,5 +18,5 @@ reached (Stopped e) = e.at
 
 -- how the reading of a whole text ended, whose lines ended at a place: 01 has "bytes after the last line" as a fault
 unfoldable pub closed : Text → ℕ → Ended → Ended
-closed s at (Past next) = elim (leb (length s) at) [ true ↦ Past next | false ↦ Stopped (fault 2 at) ]
+closed s at (Past next) = elim (leb (length s) at) [ true ↦ Past next | false ↦ Stopped (fault Syntax at) ]
 closed s at (Stopped e) = Stopped e
