@@ -13,6 +13,17 @@ use Rattle.text.specs.declared.Parsed.{Parsed}
 use Rattle.text_reader.specs.Place.{placed, Reads}
 use Rattle.text_reader.specs.declared.Reader.{Reader}
 
+-- ---- an outcome
+
+module _ {A : Type 0} {old new : Reader} (o : Outcome A) where
+  pub at_got : (a : A) → o ≡ got a new.at → new.src ≡ old.src → Reads o old new (Ok a)
+  unfolding accepted
+  at_got a e same = rw e (record { answers = refl; stands = ap (λ (s : _). record { src = s; at = new.at }) same })
+
+  pub at_bad : (e : Fault) → o ≡ bad e → new.src ≡ old.src → Reads o old new (Err e)
+  unfolding accepted
+  at_bad e is same = rw is (record { answers = refl; stands = same })
+
 -- ---- one reading
 
 -- a value that was read up to a place, as it is held

@@ -5,6 +5,7 @@ use Rattle.text.specs.Lines.{Outcome, got, bad, need}
 use Rattle.text.specs.Answers.{accepted}
 use Rattle.text.specs.declared.Cause.TheVariants.{Syntax}
 use Rattle.text.specs.declared.Fault.{Fault}
+use Rattle.std.specs.declared.result.Result.TheVariants.{Ok, Err}
 use Rattle.text_reader.specs.declared.Reader.{Reader}
 
 -- the reader of the same bytes at another place
@@ -20,6 +21,11 @@ Stands (bad e) old new = new.src ≡ old.src
 pub record Reads {A : Type 0} (o : Outcome A) (old new : Reader) (answer : Result A Fault) : Type 0 where
   pub answers : answer ≡ accepted o
   pub stands : Stands o old new
+
+-- the same of a reading into lent memory: it answers whether it was read, beside what is held there
+abbrev pub lent : {B : Type 0} → B → Result (Unit {0}) Fault → Result B Fault
+lent b (Ok _) = Ok b
+lent b (Err e) = Err e
 
 -- the end of a text: 01 has "bytes after the last line" as a fault
 unfoldable pub closed : Text → ℕ → Outcome (Unit {0})
