@@ -1,0 +1,63 @@
+-- A model's arrays have their room, and bytes in it, from what owning it tells.
+use Prim.Native.Nat.{ℕ, zero, suc, ◌≤◌, ◌<◌}
+use mathlib.Core.List.{List, [], ◌∷◌}
+use native.Mathlib.Omega.{arith}
+use lib.ListN.{length, get_or}
+use mir.Val.{Val}
+use mir.Syntax.{w8}
+use denote.Laws.{Is}
+use denote.Shadow.{shadow}
+use denote.Plain.{UInt}
+use denote.Array.{Array, each}
+use Rattle.model.specs.Held.{Bytes, SizedNet, SizedModel, no_net, no_event}
+use Rattle.model.specs.declared.ObjectNet.{ObjectNet}
+use Rattle.model.specs.declared.Event.{Event}
+use Rattle.model.specs.declared.Model.{Model}
+use Rattle.model.specs.contracts.ObjectNet as net
+use Rattle.model.specs.contracts.Event as event
+use Rattle.model.specs.contracts.Model as model
+use Rattle.model.proofs.RoomLaws.{objects-room, events-room, types-room}
+
+-- an array of bytes
+each-small : (l : List ℕ) (us : List Val) → shadow (each ℕ (UInt w8).own_val l us) → (i : ℕ) → get_or l i 0 ≤ 255
+each-small [] us s i = omega arith
+each-small (v ∷ l) [] s i = absurd s
+each-small (v ∷ l) (u ∷ us) s zero = omega (arith, s.0.1)
+each-small (v ∷ l) (u ∷ us) s (suc i) = each-small l us s.1 i
+
+bytes_in : (n : ℕ) (l : List ℕ) (vs : List Val) → Is (Array (UInt w8) n) l vs → Bytes n l
+bytes_in n l vs p = record { long = p.1.0.1; small = each-small l p.0 p.1.1 }
+
+-- the object nets
+net-sized : (n : ObjectNet) (vs : List Val) → Is net.the_row n vs → SizedNet n
+net-sized n vs p = record { pre = bytes_in 1024 n.pre _ p.1.1.1.1.0; post = bytes_in 1024 n.post _ p.1.1.1.1.1.0 }
+
+each-net : (l : List ObjectNet) (us : List Val) → shadow (each (net.the_row).Denot (net.the_row).own_val l us)
+    → (i : ℕ) → i < length l → SizedNet (get_or l i no_net)
+each-net [] us s i h = absurd (omega arith)
+each-net (n ∷ l) [] s i h = absurd s
+each-net (n ∷ l) (u ∷ us) s zero h = net-sized n (u ∷ []) s.0
+each-net (n ∷ l) (u ∷ us) s (suc i) h = each-net l us s.1 i (omega arith)
+
+-- the events
+each-event : (l : List Event) (us : List Val) → shadow (each (event.the_row).Denot (event.the_row).own_val l us)
+    → (i : ℕ) → i < length l → Bytes 256 (get_or l i no_event).sync
+each-event [] us s i h = absurd (omega arith)
+each-event (e ∷ l) [] s i h = absurd s
+each-event (e ∷ l) (u ∷ us) s zero h = bytes_in 256 e.sync _ s.0.1.1.1.1.0
+each-event (e ∷ l) (u ∷ us) s (suc i) h = each-event l us s.1 i (omega arith)
+
+pub model-sized : (m : Model) (vs : List Val) → Is model.the_row m vs → SizedModel m
+model-sized m vs p =
+    let a = p.1.1.1.1.1.1 in
+    let nets = objects-room m vs p in
+    let events = events-room m vs p in
+    record {
+      types = types-room m vs p;
+      pre = bytes_in 1024 m.pre _ a.1.0;
+      post = bytes_in 1024 m.post _ a.1.1.0;
+      objects = nets;
+      nets = λ i h. each-net m.objects _ a.1.1.1.0.1.1 i (omega arith);
+      events = events;
+      sync = λ i h. each-event m.events _ a.1.1.1.1.0.1.1 i (omega arith);
+    }
