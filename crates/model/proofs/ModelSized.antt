@@ -2,6 +2,7 @@
 use Prim.Native.Nat.{ℕ, zero, suc, ◌≤◌, ◌<◌}
 use mathlib.Core.List.{List, [], ◌∷◌}
 use native.Mathlib.Omega.{arith}
+use mathlib.Core.Path.{◌≡◌}
 use lib.ListN.{length, get_or}
 use mir.Val.{Val}
 use mir.Syntax.{w8}
@@ -60,4 +61,18 @@ model-sized m vs p =
       nets = λ i h. each-net m.objects _ a.1.1.1.0.1.1 i (omega arith);
       events = events;
       sync = λ i h. each-event m.events _ a.1.1.1.1.0.1.1 i (omega arith);
+    }
+
+-- the same from what reading a lent model tells of its arrays
+pub told-sized : (m : Model) {a b c d e : List Val} → Is (Array (UInt w8) 32) m.types a → Is (Array (UInt w8) 1024) m.pre b → Is (Array (UInt w8) 1024) m.post c
+    → Is (Array net.the_row 8) m.objects d → Is (Array event.the_row 64) m.events e → SizedModel m
+told-sized m t p q o v =
+    record {
+      types = t.1.0.1;
+      pre = bytes_in 1024 m.pre _ p;
+      post = bytes_in 1024 m.post _ q;
+      objects = o.1.0.1;
+      nets = λ i h. each-net m.objects _ o.1.1 i (let n : length m.objects ≡ 8 = o.1.0.1 in omega arith);
+      events = v.1.0.1;
+      sync = λ i h. each-event m.events _ v.1.1 i (let n : length m.events ≡ 64 = v.1.0.1 in omega arith);
     }
