@@ -38,7 +38,6 @@ use Rattle.keeper.specs.Reading.{read_weight_file}
 use Rattle.keeper.specs.Answers.{weight_pair, weight_cause_pair, passed_weights, turned_or, judged_weights, weighed, weights_or, weight_checking}
 use Rattle.listing.specs.Listing.{file_longest, model_file, weights_file, trace_file}
 use Rattle.listing.proofs.FileFaults.{weight_file_faults, model_faults}
-use Rattle.text.specs.declared.Cause.{Cause}
 
 -- numbers that fit the line of a pair
 abbrev pub Small : Refusal → Type 0

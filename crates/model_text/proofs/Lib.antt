@@ -1,9 +1,7 @@
 pub mod LineAnswers
-pub mod NarrowRow
 pub mod TransitionLines
 pub mod NetLaws
 pub mod ActLaws
-pub mod EventLaws
 pub mod PartLaws
 pub mod FrameLaws
 pub mod PlantLaws

@@ -30,7 +30,7 @@ module _ (s : Text) where
   abbrev pub SidesFaults : ℕ → (Transition → Bool) → ℕ → Fault → Type 0
   SidesFaults size fine =
       ThenFaults s (list_text (bytes "pre=")) (ListFaults s (bytes "pre=") size byte) (list_of size byte) λ p.
-      RuledFaults s (list_text (bytes "post=")) (ListFaults s (bytes "post=") size byte) (list_of size byte) (λ q. fine (record { pre = p; post = q })) 4
+      RuledFaults s (list_text (bytes "post=")) (ListFaults s (bytes "post=") size byte) (list_of size byte) (λ q. fine (record { pre = p; post = q })) Typing
 
   -- of the lines of an object net
   abbrev pub NetFaults : ℕ → Fault → Type 0
@@ -44,7 +44,7 @@ unfolding read_sides
 sides_refuses size fine s =
     then_refuses (list_exactly (bytes "pre=") size byte s) (list_refuses (bytes "pre=") size byte s)
     (λ p. ruled_refuses (list_exactly (bytes "post=") size byte s) (list_refuses (bytes "post=") size byte s)
-    (λ q. fine (record { pre = p; post = q })) 4 (λ q. record { pre = p; post = q }))
+    (λ q. fine (record { pre = p; post = q })) Typing (λ q. record { pre = p; post = q }))
 
 pub net_refuses : (s : Text) → Refuses (read_net s) (NetFaults s)
 unfolding read_net

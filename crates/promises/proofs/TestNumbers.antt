@@ -18,7 +18,6 @@ use Rattle.reader.specs.Answers.{pair}
 use Rattle.step.specs.Verdict.{has_room, cause_pair}
 use Rattle.keeper.specs.Answers.{weight_cause_pair}
 use Rattle.promises.specs.Numbers.{Among, step_numbers, weight_numbers, step_tests, StepBeside, weight_tests, WeightBeside}
-use Rattle.text.specs.declared.Cause.{Cause}
 
 -- ---- a step
 

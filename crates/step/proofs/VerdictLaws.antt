@@ -19,7 +19,6 @@ use Rattle.step.specs.Verdict.{outer_rows, inner_taken_in, inner_given_in, lacki
 use Rattle.step.specs.VerdictParts.{Inner, even_in}
 use Rattle.step.proofs.FirstFailing.{failing_same}
 use Rattle.step.proofs.LackLaws.{lacking_fewer}
-use Rattle.text.specs.declared.Cause.{Cause}
 
 pub never : {A : Type 0} (n b : ℕ) → Turned n b ≡ Fires → A
 never n b e = let z : ◌≡◌ {A = ℕ} 0 1 = cc in absurd (omega arith)

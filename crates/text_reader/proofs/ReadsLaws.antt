@@ -1,6 +1,15 @@
 -- What functions over the reader of a file read, by what the readings in them say: one after the other, each where the one before has
 -- ended, up to the first that is refused.
-use Prim.Native.Nat.{ℕ}
+use Prim.Native.Nat.{ℕ, ◌≤◌}
+use mathlib.Core.List.{List}
+use mathlib.Core.Bool.{false}
+use lib.Dec.{leb}
+use Rattle.text.specs.Number.{signed_if}
+use Rattle.text.specs.Lists.{list_end}
+use Rattle.text.specs.Lines.{judged, every, modest, behind, read_list}
+use Rattle.text.specs.Values.{number_in}
+use Rattle.text.specs.Answers.{padded, row}
+use Rattle.text.proofs.ListLaws.{numbers_kept, numbers_behind}
 use mathlib.Core.Path.{◌≡◌, refl, sym, ap, subst, ◌∙◌}
 use native.Mathlib.Omega.{arith}
 use Rattle.std.specs.Prelude.{Result}
@@ -98,6 +107,14 @@ module _ {A : Type 0} {old : Reader} (o : Outcome A) (read : Result (Parsed A) F
       go : (o : Outcome A) → parsed o ≡ Ok p → Reads o old (placed old p.end) (Ok p.value)
       go (got a next) k = let z : p ≡ record { value = a; end = next } = cc in rw z (record { answers = refl; stands = refl })
       go (bad d) k = let z : ◌≡◌ {A = ℕ} 0 1 = cc in absurd (omega arith)
+
+-- a line of n numbers, which are held as they are
+pub list_read : (most hi : ℕ) (key : Text) (n : ℕ) (s : Text) (at : ℕ) {old new : Reader} {r : Result (List ℕ) Fault} → hi ≤ most
+    → Reads (kept (row (number_in most)) (judged (every (modest hi)) at (behind key (list_end (signed_if false) n s) s at))) old new r
+    → Reads (kept padded (read_list key n (λ v. leb v hi) s at)) old new r
+unfolding read_list
+list_read most hi key n s at {old} {new} {r} h k =
+    subst (λ (o : Outcome (List ℕ)). Reads o old new r) (numbers_kept most hi at _ _ h (numbers_behind s key n at)) k
 
 -- ---- one after the other
 
