@@ -4,6 +4,7 @@ use mathlib.Core.Path.{◌≡◌, refl, sym, ap, subst, fun_ext, ◌∙◌}
 use mathlib.Core.List.{List, ◌∷◌}
 use native.Mathlib.Nat.{sub-zero}
 use Rattle.std.specs.declared.result.Result.TheVariants.{Ok, Err}
+use Rattle.std.specs.Prelude.{Result}
 use Rattle.text.specs.Bytes.{Text}
 use Rattle.text.specs.Lines.{Outcome, got, bad, then, many}
 use Rattle.text.specs.Repeat.{many_at, fill, filled}
@@ -72,3 +73,11 @@ unfolding many_at many
 many_alike f i zero at = refl
 many_alike f i (suc n) at =
     ap (then (f at)) (fun_ext λ a. fun_ext λ next. ap (λ (o : Outcome (List _)). then o (λ l end. got (a ∷ l) end)) (many_alike f (suc i) n next))
+
+module _ {A T : Type 0} {old new : Reader} {r : Result T Fault} where
+  -- what is filled is what is held of the list
+  pub as_held : (fills hold : List A → T) (o : Outcome (List A)) → ((l : List A) → fills l ≡ hold l) → Reads (kept fills o) old new r → Reads (kept hold o) old new r
+  as_held fills hold o is h = subst (λ (k : List A → T). Reads (kept k o) old new r) (fun_ext is) h
+
+  pub of_many : (hold : List A → T) (f : ℕ → Outcome A) (n at : ℕ) → Reads (kept hold (many_at (λ _. f) 0 n at)) old new r → Reads (kept hold (many f n at)) old new r
+  of_many hold f n at h = subst (λ (o : Outcome (List A)). Reads (kept hold o) old new r) (many_alike f 0 n at) h
