@@ -2,6 +2,7 @@ pub mod LineAnswers
 pub mod TransitionLines
 pub mod NetLaws
 pub mod ActLaws
+pub mod EventLaws
 pub mod PartLaws
 pub mod FrameLaws
 pub mod PlantLaws

@@ -10,7 +10,7 @@ use lib.ListN.{length, replicate}
 use lib.Seq.{sets}
 use mathlib.Core.Bool.{Bool}
 use Rattle.text.specs.Bytes.{Text, bytes}
-use Rattle.text.specs.Lines.{Outcome, got, bad, fault, then, need, read_list}
+use Rattle.text.specs.Lines.{Outcome, got, fault, then, need, read_list}
 use Rattle.text.specs.declared.Cause.TheVariants.{Typing}
 use Rattle.text.specs.Repeat.{fill}
 use Rattle.text.specs.Answers.{kept, padded}
