@@ -4,7 +4,7 @@
 ghost use Rattle.std.specs.Prelude.{◌≡◌, true, ℕ, ◌+◌, ◌*◌, ◌≤◌, ◌<◌, length, get_or, replicate};
 ghost use Rattle.eos.specs.Vector.{◌⊕◌, times, zeros};
 ghost use Rattle.model.specs.Limits.{inner_room};
-ghost use Rattle.model.specs.Held.{row_in, no_net, model_of};
+ghost use Rattle.model.specs.Held.{SizedModel, row_in, no_net, model_of};
 ghost use Rattle.model.specs.Rules.{nth};
 ghost use Rattle.model.specs.Test.{held_model};
 ghost use Rattle.step.specs.Rule.{hold_rule, no_rule};
@@ -59,10 +59,12 @@ fn inner_sides(
     }
 }
 
-// What the firing rule asks of a step of event e, which is one of the held model's, into room that is all 0.
+// What the firing rule asks of a step of event e, which is one of the held model's, into room that is all 0. The arrays of the model that
+// is lent have their room, and bytes in it.
 pub fn rule_of(m: &Model, e: usize, rule: &mut Rule)
     requires { (held_model m.now ≡ true) × (e < m.now.listed) × (rule.old ≡ no_rule) }
-    ensures { rule.new ≡ hold_rule (model_of m.now) e }
+    ensures made { rule.new ≡ hold_rule (model_of m.now) e }
+    ensures sized { SizedModel m.now }
 {
     let event = &m.events[e];
     let act = event.act();
