@@ -7,7 +7,7 @@ use native.Mathlib.Omega.{arith}
 use native.Mathlib.Numerals.{sub-one}
 use lib.Dec.{leb, ltb, eqb}
 use borrow.Author.Tests.{eq-eqb, eqb-true, ltb-true}
-use Rattle.text.proofs.Basics.{by_test, and_true}
+use Rattle.text.proofs.Basics.{and_true}
 use lib.ListN.{length, set, replicate}
 use Rattle.eos.specs.Vector.{◌⊕◌, zeros, unit}
 use Rattle.eos.specs.Model.{Act, move, idle}

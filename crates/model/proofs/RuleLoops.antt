@@ -1,14 +1,13 @@
 -- The rules, asked of each number of a range in turn.
-use Prim.Native.Nat.{ℕ, zero, suc, ◌+◌, ◌-◌, ◌≤◌, ◌<◌}
+use Prim.Native.Nat.{ℕ, zero, suc, ◌+◌, ◌-◌}
 use mathlib.Core.Path.{◌≡◌, refl, ap, sym, ◌∙◌}
 use mathlib.Core.List.{List, [], ◌∷◌}
 use mathlib.Core.Bool.{Bool, true, false, not, ◌&&◌, ◌||◌, beq}
 use native.Mathlib.Omega.{arith}
 use native.Mathlib.Nat.{add-zero}
-use native.Mathlib.Numerals.{add-one}
 use lib.Dec.{eqb}
-use borrow.Author.Tests.{eq-eqb, ne_eqb}
-use Rattle.std.specs.List.{list_all, list_any, range_with_len}
+use lib.ListN.{length, get_or}
+use Rattle.std.specs.List.{list_all, list_any, range_with_len, enumerate_from}
 use Rattle.text.specs.Lines.{every}
 use Rattle.eos.specs.Firing.{all_below}
 use Rattle.model.specs.Rules.{some_below, takes_part}
@@ -52,6 +51,20 @@ all_same n f g h = all_from n 0 f g (λ k. let e : 0 + k ≡ k = omega arith in 
 
 pub some_in_range : (n : ℕ) (f : ℕ → Bool) → list_any f (range_with_len 0 n) ≡ some_below n f
 some_in_range n f = some_from n 0 f f (λ k. let e : 0 + k ≡ k = omega arith in ap f e)
+
+array_from : {A : Type 0} (d : A) (f : ℕ → A → Bool) (l : List A) (i : ℕ) (g : ℕ → Bool) → ((k : ℕ) → f (i + k) (get_or l k d) ≡ g k)
+    → list_all (λ (p : ℕ × A). f p.0 p.1) (enumerate_from i l) ≡ all_below (length l) g
+array_from d f [] i g h = refl
+array_from {A = A} d f (a ∷ l) i g h =
+    let first : f i a ≡ g 0 = rw (add-zero i) at (h 0) in
+    let rest = array_from d f l (i + 1) (λ k. g (suc k)) (λ k. let e : i + 1 + k ≡ i + suc k = omega arith in rw e (h (suc k))) in
+    rw (first, rest) (sym (all_first (length l) g))
+
+-- each element with its index
+pub all_in_array : {A : Type 0} (d : A) (f : ℕ → A → Bool) (l : List A) (n : ℕ) → length l ≡ n
+    → list_all (λ (p : ℕ × A). f p.0 p.1) (enumerate_from 0 l) ≡ all_below n (λ k. f k (get_or l k d))
+all_in_array d f l n e =
+    array_from d f l 0 (λ k. f k (get_or l k d)) (λ k. let z : 0 + k ≡ k = omega arith in rw z) ∙ rw e
 
 pub every_in_list : {A : Type 0} (f : A → Bool) (l : List A) → list_all f l ≡ every f l
 every_in_list f [] = refl

@@ -6,7 +6,7 @@ ghost use Rattle.text.specs.Lines.{in_range};
 ghost use Rattle.eos.specs.Firing.{all_below};
 ghost use Rattle.model.specs.Rules.{nth};
 ghost use Rattle.model.specs.Held.{no_net, no_event, row_in};
-ghost use Rattle.model.specs.Test.{empty, empty_past, used_of, held_net, held_event, empty_event, held_model, used_in, type_at, move_at, sizes_are, net_is, net_at, counts_are, framed, part_at, event_is, event_at};
+ghost use Rattle.model.specs.Test.{empty, empty_past, used_of, held_moves, held_event, empty_event, held_model, used_in, type_at, move_at, sizes_are, net_is, net_at, counts_are, framed, part_at, event_is, event_at};
 
 use model::{Event, Model, ObjectNet};
 use model_acts::{act_held, own_net};
@@ -80,8 +80,7 @@ fn moves_held(m: &Model) -> bool
     ensures { result ≡ held_moves m.now }
 {
     empty_behind(&m.pre, m.moves, m.places)
-        && empty_behind(&m.post, m.moves, m.places)
-        && typing_held(m)
+        && (empty_behind(&m.post, m.moves, m.places) && typing_held(m))
 }
 
 fn in_range(lo: usize, hi: usize, v: usize) -> bool
@@ -107,8 +106,8 @@ fn net_is(nets: usize, k: usize, n: &ObjectNet) -> bool
     ensures { result ≡ net_is nets k n.now }
 {
     sizes_held(nets, k, n.places, n.transitions)
-        && empty_behind(&n.pre, n.transitions, n.places)
-        && empty_behind(&n.post, n.transitions, n.places)
+        && (empty_behind(&n.pre, n.transitions, n.places)
+            && empty_behind(&n.post, n.transitions, n.places))
 }
 
 fn nets_held(nets: usize, objects: &[ObjectNet; 8]) -> bool
@@ -137,14 +136,14 @@ fn event_held(m: &Model, steps: &[usize; 8], e: &Event) -> bool
     ensures { result ≡ held_event (framed m.now.places m.now.moves m.now.nets m.now.types steps.now) e.now }
 {
     act_held(m.places, m.moves, &m.types, e)
-        && empty_past(8, &e.sync, m.nets, steps)
-        && parts_held(own_net(&m.types, e.act()), m.nets, &e.sync)
+        && (empty_past(8, &e.sync, m.nets, steps)
+            && parts_held(own_net(&m.types, e.act()), m.nets, &e.sync))
 }
 
 fn event_empty(e: &Event) -> bool
     ensures { result ≡ empty_event e.now }
 {
-    e.kind == 0 && e.index == 0 && empty_bytes(&e.sync, 0)
+    e.kind == 0 && (e.index == 0 && empty_bytes(&e.sync, 0))
 }
 
 // Whether event k may be e.
@@ -170,9 +169,9 @@ fn counts_held(m: &Model) -> bool
     ensures { result ≡ counts_are m.now.nets m.now.places m.now.moves m.now.listed }
 {
     in_range(0, Model::NETS as usize, m.nets)
-        && in_range(1, Model::PLACES as usize, m.places)
-        && in_range(0, Model::MOVES as usize, m.moves)
-        && in_range(0, Model::EVENTS as usize, m.listed)
+        && (in_range(1, Model::PLACES as usize, m.places)
+            && (in_range(0, Model::MOVES as usize, m.moves)
+                && in_range(0, Model::EVENTS as usize, m.listed)))
 }
 
 // Whether m is held as a model is.
@@ -180,8 +179,8 @@ pub fn is_held(m: &Model) -> bool
     ensures { result ≡ held_model m.now }
 {
     counts_held(m)
-        && types_held(m.nets, m.places, &m.types)
-        && moves_held(m)
-        && nets_held(m.nets, &m.objects)
-        && events_held(m, &transitions_of(&m.objects))
+        && (types_held(m.nets, m.places, &m.types)
+            && (moves_held(m)
+                && (nets_held(m.nets, &m.objects)
+                    && events_held(m, &transitions_of(&m.objects)))))
 }

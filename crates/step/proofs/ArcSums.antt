@@ -5,7 +5,7 @@ use mathlib.Core.List.{List, [], ◌∷◌, append-nil}
 use native.Mathlib.Omega.{arith}
 use native.Mathlib.Nat.{mul-le-mul}
 use native.Mathlib.Numerals.{add-one}
-use lib.ListN.{length, set}
+use lib.ListN.{length, set, replicate}
 use Rattle.eos.specs.Vector.{◌⊕◌, times}
 use Rattle.eos.proofs.VectorLaws.{get_d-⊕}
 use Rattle.eos.proofs.VectorSums.{length-times, nth-times}
@@ -14,7 +14,7 @@ use Rattle.text.specs.Repeat.{fill}
 use Rattle.text.specs.Answers.{padded}
 use Rattle.text.proofs.PaddedLaws.{padded-is}
 use lib.Seq.{sets, ext_get_or}
-use Rattle.model.specs.Held.{row, row_in, put_row, listed}
+use Rattle.model.specs.Held.{row, row_in, put_row, tabled, listed}
 use Rattle.model.proofs.TableLaws.{row_at, length-row}
 use Rattle.step.specs.RuleParts.{sum_rows}
 
@@ -84,6 +84,10 @@ whole_row v e =
     padded-is v (omega arith) ∙ rw z (append-nil v)
 
 -- the rows of the nets from n on are laid into a table
+pub nets_begin : (l : List (List ℕ)) (table : List ℕ) → table ≡ replicate 256 0 → fill (put_row row) 0 l table ≡ tabled row 256 l
+unfolding tabled
+nets_begin l table e = ap (fill (put_row row) 0 l) e
+
 module _ (f : ℕ → List ℕ) where
   pub nets_next : (n nets : ℕ) (table next : List ℕ) → n < nets → length (f n) ≡ 32 → next ≡ sets table (n * 32) (f n)
       → fill (put_row row) (n + 1) (listed f (n + 1) (nets - (n + 1))) next ≡ fill (put_row row) n (listed f n (nets - n)) table

@@ -1,5 +1,5 @@
 -- `act_held` is `held_act`, case by case of the act.
-use mathlib.Core.Path.{◌≡◌, refl, ap, sym, ◌∙◌}
+use mathlib.Core.Path.{refl, ap, sym, ◌∙◌}
 use borrow.Author.Tests.{lt-ltb, le-ltb}
 use Rattle.model.specs.Rules.{right_act}
 use Rattle.model.specs.Acts.{as_act}

@@ -1,11 +1,10 @@
 -- `arcs_at` is a row of the table.
-use Prim.Native.Nat.{◌*◌, ◌+◌, ◌-◌, ◌<◌, ◌≤◌}
+use Prim.Native.Nat.{◌*◌, ◌+◌, ◌-◌}
 use borrow.Author.Rules.{rules}
-use mathlib.Core.Path.{◌≡◌, ap, sym, ◌∙◌}
+use mathlib.Core.Path.{◌≡◌, sym, ◌∙◌}
 use native.Mathlib.Omega.{arith}
 use lib.ListN.{length}
 use lib.Seq.{ext_get_or}
-use Rattle.model.specs.Held.{row_in}
 use Rattle.model_acts.proofs.arcs_at.Goals as goal
 
 pub returns : goal.returns

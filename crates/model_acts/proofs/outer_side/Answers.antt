@@ -1,9 +1,5 @@
 -- `outer_side` is the act's side.
-use mathlib.Core.Path.{ap, ◌∙◌}
 use native.Mathlib.Omega.{arith}
-use Rattle.eos.specs.Firing.{act_side}
-use Rattle.model.specs.Acts.{as_act}
-use Rattle.model.specs.Held.{row_in}
 use Rattle.model.proofs.HeldActs.{set-unit}
 use Rattle.model_acts.proofs.outer_side.Goals as goal
 
