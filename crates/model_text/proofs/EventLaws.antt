@@ -16,7 +16,7 @@ use Rattle.text.specs.declared.Fault.{Fault}
 use Rattle.text.proofs.LineLaws.{need_met, need_unmet}
 use Rattle.text_reader.specs.Place.{Reads}
 use Rattle.text_reader.specs.declared.Reader.{Reader}
-use Rattle.text_reader.proofs.ReadsLaws.{read_of, first_refused, followed, passes, fails}
+use Rattle.text_reader.proofs.ReadsLaws.{read_of, refused_of, first_refused, followed, passes, fails}
 use Rattle.text_reader.proofs.LoopLaws.{filling}
 use Rattle.eos.specs.Model.{Act, move, idle, Event}
 use Rattle.model.specs.Rules.{byte, Frame, own_net, takes_part}
@@ -158,5 +158,10 @@ events_held m none f n at old new t k =
     let held : t ≡ with_listed m m.listed (fill (put_at hold_event) 0 q.value (replicate 64 no_event)) = q.held ∙ laid_is 0 q.value m ∙ ap (λ (es : List held.Event). with_listed m m.listed (fill (put_at hold_event) 0 q.value es)) none in
     let long : length q.value ≡ n = many-long f n at q.value new.at q.is in
     let same : with_listed t n t.events ≡ with_events m q.value =
-        ap (λ (x : Model). with_listed x n x.events) held ∙ ap (λ (k : ℕ). with_listed m k (fill (put_at hold_event) 0 q.value (replicate 64 no_event))) (sym long) in
+    ap (λ (x : Model). with_listed x n x.events) held ∙ ap (λ (k : ℕ). with_listed m k (fill (put_at hold_event) 0 q.value (replicate 64 no_event))) (sym long) in
     subst (λ (x : Model). Reads (kept (with_events m) (many f n at)) old new (Ok x)) (sym same) (passes (with_events m) (many f n at) q.value q.is q.moved)
+
+-- or one of them is refused
+pub events_bad : (m : Model) (f : ℕ → Outcome Event) (n at : ℕ) (old new : Reader) (e : Fault)
+    → Reads (kept (filling hold_event lay_event m) (many f n at)) old new (Err e) → Reads (kept (with_events m) (many f n at)) old new (Err e)
+events_bad m f n at old new e k = let r = refused_of (filling hold_event lay_event m) (many f n at) e k in fails (with_events m) (many f n at) e r.is r.same

@@ -11,7 +11,6 @@ use Rattle.text.specs.Bytes.{bytes}
 use Rattle.text_reader.proofs.ReadsLaws.{list_read}
 use Rattle.model.specs.Held.{no_net}
 use Rattle.model.specs.Test.{frame_in}
-use Rattle.model.specs.declared.Model.{Model}
 use Rattle.model.specs.declared.ObjectNet.{ObjectNet}
 use Rattle.model.proofs.ModelSized.{told-sized}
 use Rattle.model_text.proofs.EventLaws.{sync_refused, no_part, sync_read}
@@ -29,7 +28,7 @@ returns-in_err-counts c =
     let e = there a.m.now.objects a.n (omega (arith, sized.objects, c.requires.n_lt_nets, c.requires.fitting.nets)) in
     let p = err_from_is_err_and c.from_residual.result c.from_residual.ensures.1 in
     rw (p.1, p.2)
-    (sync_refused (frame_in a.m.now) a.own a.n (c.requires.fitting.steps a.n) a.r.now _ (rw e at list_read 255 255 (bytes "sync=") _ _ _ (lit≤ tt) c.in_err-counts.ensures))
+    (sync_refused (frame_in a.m.now) a.own a.n (c.requires.fitting.steps a.n) a.r.now _ (rw e at (list_read 255 255 (bytes "sync=") _ _ _ (lit≤ tt) c.in_err-counts.ensures)))
 
 pub returns-then-not-takes_part : goal.returns-then-not-takes_part
 returns-then-not-takes_part c =
@@ -37,7 +36,7 @@ returns-then-not-takes_part c =
     let sized = told-sized a.m.now c.type_inv.m in
     let e = there a.m.now.objects a.n (omega (arith, sized.objects, c.requires.n_lt_nets, c.requires.fitting.nets)) in
     rw c.fault_at.ensures
-    (no_part (frame_in a.m.now) a.own a.n (c.requires.fitting.steps a.n) a.r.now _ (rw e at list_read 255 255 (bytes "sync=") _ _ _ (lit≤ tt) c.in_ok-counts.ensures)
+    (no_part (frame_in a.m.now) a.own a.n (c.requires.fitting.steps a.n) a.r.now _ (rw e at (list_read 255 255 (bytes "sync=") _ _ _ (lit≤ tt) c.in_ok-counts.ensures))
     (sym c.takes_part.ensures ∙ c.if-not-takes_part.true))
 
 pub returns : goal.returns
@@ -45,5 +44,5 @@ returns c =
     let a = c.args in
     let sized = told-sized a.m.now c.type_inv.m in
     let e = there a.m.now.objects a.n (omega (arith, sized.objects, c.requires.n_lt_nets, c.requires.fitting.nets)) in
-    sync_read (frame_in a.m.now) a.own a.n (c.requires.fitting.steps a.n) a.r.now _ (rw e at list_read 255 255 (bytes "sync=") _ _ _ (lit≤ tt) c.in_ok-counts.ensures)
+    sync_read (frame_in a.m.now) a.own a.n (c.requires.fitting.steps a.n) a.r.now _ (rw e at (list_read 255 255 (bytes "sync=") _ _ _ (lit≤ tt) c.in_ok-counts.ensures))
     (sym c.takes_part.ensures ∙ c.if-not-takes_part.false)
