@@ -68,6 +68,14 @@ not_unlike : (a b : Bool) → b ≡ not a → b ≡ false → a ≡ true
 not_unlike true b e f = refl
 not_unlike false b e f = sym f ∙ e
 
+-- of two lists of numbers
+pub ne_lists : (x y : List ℕ) (b : Bool) → b ≡ not (pointwise nat_eq x y) → b ≡ true → eq_v x y ≡ false
+ne_lists x y b e f = sym (alike x y) ∙ unlike _ b e f
+
+pub eq_lists : (x y : List ℕ) (b : Bool) → b ≡ not (pointwise nat_eq x y) → b ≡ false → eq_v x y ≡ true
+eq_lists x y b e f = sym (alike x y) ∙ not_unlike _ b e f
+
+-- and of two net-tokens
 pub ne_true : (s t : NetToken) (b : Bool) → b ≡ not (pointwise nat_eq (row s) (row t)) → b ≡ true → like s t ≡ false
 ne_true s t b e f = sym (eq_like s t) ∙ unlike _ b e f
 

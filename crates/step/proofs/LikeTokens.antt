@@ -1,4 +1,4 @@
--- Rows are like exactly where their net-tokens are, so that a marking's rows lack what the marking lacks.
+-- Held net-tokens are like exactly where those are that they stand for, so that what a marking lacks is lacking where it is held.
 use Prim.Native.Nat.{ℕ, zero, suc, ◌-◌, ◌≤◌}
 use mathlib.Core.Path.{◌≡◌, refl, ap₂}
 use mathlib.Core.Bool.{Bool, true, cond}
@@ -13,10 +13,10 @@ use Rattle.eos.specs.Causes.{lacking}
 use Rattle.eos.proofs.Basics.{and_l, and_r, and_i}
 use Rattle.model.specs.Rules.{right_model}
 use Rattle.model.proofs.RuleLaws.{right_is, right_type}
-use Rattle.marking.specs.Held.{token_row, sizes_of}
-use Rattle.marking.proofs.RowOrder.{Fitting, All, none, more}
-use Rattle.marking.proofs.CountLaws.{count-rows}
-use Rattle.step.specs.Verdict.{lacking_rows}
+use Rattle.marking.specs.Held.{hold_token, sizes_of}
+use Rattle.marking.proofs.HeldOrder.{Fitting, All, none, more}
+use Rattle.marking.proofs.CountLaws.{count-held}
+use Rattle.step.specs.Verdict.{lacking_tokens}
 use Rattle.step.proofs.SidesHeld.{net-small}
 use Rattle.step.proofs.ProjectionLaws.{fit}
 
@@ -25,7 +25,7 @@ module _ (m : Model) (right : right_model m ≡ true) where
   size_small zero h = omega arith
   size_small (suc n) h = net-small m right n h
 
-  -- a net-token of the model fits a row
+  -- a net-token of the model fits its room
   fitting : (t : NetToken) → T (proper m t) → Fitting (sizes_of m) t
   fitting t h =
       let f = fit m t h in
@@ -37,12 +37,12 @@ module _ (m : Model) (right : right_model m ≡ true) where
   all_fit [] h = none
   all_fit (t ∷ μ) h = more (fitting t (and_l (proper m t) (M.every (proper m) μ) h)) (all_fit μ (and_r (proper m t) (M.every (proper m) μ) h))
 
-  pub lacking-rows : (μ : Marking) (i : ℕ) (seen l : Marking) → T (M.every (proper m) μ) → T (M.every (proper m) seen) → T (M.every (proper m) l)
-      → lacking_rows (map token_row μ) i (map token_row seen) (map token_row l) ≡ lacking μ i seen l
-  lacking-rows μ i seen [] a b c = refl
-  lacking-rows μ i seen (t ∷ l) a b c =
+  pub lacking-held : (μ : Marking) (i : ℕ) (seen l : Marking) → T (M.every (proper m) μ) → T (M.every (proper m) seen) → T (M.every (proper m) l)
+      → lacking_tokens (map hold_token μ) i (map hold_token seen) (map hold_token l) ≡ lacking μ i seen l
+  lacking-held μ i seen [] a b c = refl
+  lacking-held μ i seen (t ∷ l) a b c =
       let p = and_l (proper m t) (M.every (proper m) l) c in
       let f = fitting t p in
       let k = and_i (proper m t) (M.every (proper m) seen) p b in
-      let r = lacking-rows μ (suc i) (t ∷ seen) l a k (and_r (proper m t) (M.every (proper m) l) c) in
-      ap₂ (λ (x : Bool) (y : Option ℕ). cond x y (some i)) (ap₂ leb (count-rows (sizes_of m) t (t ∷ seen) f (all_fit (t ∷ seen) k)) (count-rows (sizes_of m) t μ f (all_fit μ a))) r
+      let r = lacking-held μ (suc i) (t ∷ seen) l a k (and_r (proper m t) (M.every (proper m) l) c) in
+      ap₂ (λ (x : Bool) (y : Option ℕ). cond x y (some i)) (ap₂ leb (count-held (sizes_of m) t (t ∷ seen) f (all_fit (t ∷ seen) k)) (count-held (sizes_of m) t μ f (all_fit μ a))) r
