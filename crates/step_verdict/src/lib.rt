@@ -46,13 +46,7 @@ pub fn on_places(
 }
 
 // The tests on the nets (9 and 10): the tokens inside the net-tokens taken are enough, and those inside the net-tokens given are what is left.
-pub fn on_nets(
-    rule: &Rule,
-    taken: &[u16],
-    take: usize,
-    given: &[u16],
-    give: usize,
-) -> Verdict
+pub fn on_nets(rule: &Rule, taken: &[u16], take: usize, given: &[u16], give: usize) -> Verdict
     requires { Sound rule.now × Placed take taken.now × Placed give given.now }
     ensures { result ≡ verdict_of take (first (inner_causes rule.now (rows_in take taken.now) (rows_in give given.now))) }
 {
@@ -64,13 +58,7 @@ pub fn on_nets(
     }
     let mut made = [0u64; Model::INSIDE];
     inner_of(given, give, &rule.types, &mut made);
-    let unbalanced = unbalanced_net(
-        rule.nets,
-        &made,
-        &held,
-        &rule.pre.inner,
-        &rule.post.inner,
-    );
+    let unbalanced = unbalanced_net(rule.nets, &made, &held, &rule.pre.inner, &rule.post.inner);
     if unbalanced != 0 {
         return turned(10, unbalanced);
     }
