@@ -12,7 +12,7 @@ ghost use Rattle.marking.specs.Printed.{row_text, block_text};
 
 use marking::Marking;
 use marking_test::size_at;
-use text::Wrote;
+use text::TooSmall;
 use text_write::{put_list, put_number, put_number_line, put_text, width};
 
 // How many bytes a list has, to the end of its line.
@@ -105,7 +105,7 @@ pub fn write(
     key: &[u8],
     out: &mut [u8],
     at: usize,
-) -> Wrote
+) -> Result<usize, TooSmall>
     requires { (held_marking room_limit (sizes_at places sizes) k ≡ true) × Roomy (sizes_at places sizes) × (length key.now ≤ 32) × (at ≤ 1048576) }
     ensures { record { answer = result; bytes = out.new }
         ≡ lay (block_text key.now (tokens_of (sizes_at places sizes) k)) out.old at }
@@ -114,9 +114,9 @@ pub fn write(
     let rows = k.rows;
     let end = at + key.len() + width(n as u64) + 1 + rows_length(&rows, n, sizes);
     if out.len() < end {
-        return Wrote::Short { needed: end };
+        return Err(TooSmall { needed: end });
     }
     let next = put_number_line(out, at, key, n as u64);
     put_tokens(out, next, &rows, n, sizes);
-    Wrote::Whole { end }
+    Ok(end)
 }
