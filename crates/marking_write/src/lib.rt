@@ -10,7 +10,7 @@ ghost use Rattle.marking.specs.Held.{as_sizes, Roomy, tokens_of, held_marking};
 ghost use Rattle.marking.specs.Printed.{held_text, block_text};
 
 use marking::{Marking, NetToken, PlaceSizes};
-use text::Wrote;
+use text::TooSmall;
 use text_write::{put_list, put_number, put_number_line, put_text, width};
 
 // How many digits a number has.
@@ -81,16 +81,16 @@ fn put_tokens(out: &mut [u8], at: usize, tokens: &[NetToken], z: &PlaceSizes)
 
 // The line of a key and the number of net-tokens of a held marking, and a line for each, from `at` on: whole, or no byte. The answer is
 // where the text ends, or would end.
-pub fn write(k: &Marking, z: &PlaceSizes, key: &[u8], out: &mut [u8], at: usize) -> Wrote
+pub fn write(k: &Marking, z: &PlaceSizes, key: &[u8], out: &mut [u8], at: usize) -> Result<usize, TooSmall>
     requires { (held_marking room_limit (as_sizes z.now) k.now ≡ true) × Roomy (as_sizes z.now) × (length key.now ≤ 32) × (at ≤ 1048576) }
     ensures { record { answer = result; bytes = out.new } ≡ lay (block_text key.now (tokens_of (as_sizes z.now) k.now)) out.old at }
 {
     let tokens = k.held();
     let end = at + key.len() + digits(k.len as u16) + 1 + tokens_length(tokens, z);
     if out.len() < end {
-        return Wrote::Short { needed: end };
+        return Err(TooSmall { needed: end });
     }
     let next = put_number_line(out, at, key, k.len as u64);
     put_tokens(out, next, tokens, z);
-    Wrote::Whole { end }
+    Ok(end)
 }

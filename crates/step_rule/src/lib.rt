@@ -4,7 +4,7 @@
 ghost use Rattle.std.specs.Prelude.{◌≡◌, true, ℕ, ◌+◌, ◌*◌, ◌≤◌, ◌<◌, length, get_or, replicate};
 ghost use Rattle.eos.specs.Vector.{◌⊕◌, times, zeros};
 ghost use Rattle.model.specs.Limits.{inner_room};
-ghost use Rattle.model.specs.Held.{row_in, no_net, model_of};
+ghost use Rattle.model.specs.Held.{SizedModel, row_in, no_net, model_of};
 ghost use Rattle.model.specs.Rules.{nth};
 ghost use Rattle.model.specs.Test.{held_model};
 ghost use Rattle.step.specs.Rule.{hold_rule, no_rule};
@@ -29,7 +29,12 @@ fn plus_times(sum: &mut [u64; 32], count: u8, table: &[u8; 1024], t: usize)
 }
 
 // The rows of a net's transitions added up, each as often as it is counted; the net's counts begin at `from`.
-fn summed(sync: &[u8; Event::SYNC], from: usize, table: &[u8; 1024], transitions: usize) -> [u64; 32]
+fn summed(
+    sync: &[u8; Event::SYNC],
+    from: usize,
+    table: &[u8; 1024],
+    transitions: usize,
+) -> [u64; 32]
     requires { (from + 32 ≤ length sync.now) × (transitions ≤ 32) }
     ensures { result ≡ sum_rows (λ t. nth sync.now (from + t)) (row_in 32 table.now) 0 transitions (zeros 32) }
 {
@@ -59,10 +64,12 @@ fn inner_sides(
     }
 }
 
-// What the firing rule asks of a step of event e, which is one of the held model's, into room that is all 0.
+// What the firing rule asks of a step of event e, which is one of the held model's, into room that is all 0. The arrays of the model that
+// is lent have their room, and bytes in it.
 pub fn rule_of(m: &Model, e: usize, rule: &mut Rule)
     requires { (held_model m.now ≡ true) × (e < m.now.listed) × (rule.old ≡ no_rule) }
-    ensures { rule.new ≡ hold_rule (model_of m.now) e }
+    ensures made { rule.new ≡ hold_rule (model_of m.now) e }
+    ensures sized { SizedModel m.now }
 {
     let event = &m.events[e];
     let act = event.act();

@@ -1,18 +1,12 @@
 -- `rule_of` meets its contract: on a held model, the two sides are the event's.
 use borrow.Author.Rules.{rules}
-use Prim.Native.Nat.{ℕ, ◌≤◌, ◌<◌}
-use mathlib.Core.Path.{◌≡◌, refl, ap, sym, ◌∙◌}
-use mathlib.Core.List.{List, []}
-use native.Mathlib.Omega.{arith}
-use lib.ListN.{get_or}
-use Rattle.eos.specs.Model.{Act}
+use mathlib.Core.Path.{refl, ap, ◌∙◌}
+use mathlib.Core.List.{[]}
 use Rattle.eos.specs.Firing.{act_side}
-use Rattle.model.specs.Acts.{as_act, act_of}
-use Rattle.model.specs.Held.{row_in, no_event}
+use Rattle.model.specs.Held.{row_in}
 use Rattle.model.specs.declared.Event.{Event}
 use Rattle.model.proofs.ModelSized.{told-sized}
 use Rattle.step.specs.declared.Rule.{Rule}
-use Rattle.step.specs.declared.Sides.{Sides}
 use Rattle.step.specs.RuleParts.{net_sums, pre_arcs, post_arcs}
 use Rattle.step.proofs.RuleMade.{few_nets, few_steps, few_events, act_read, act_few, counts_read, rule_made}
 use Rattle.step_rule.proofs.rule_of.Goals as goal
@@ -48,8 +42,11 @@ inner_sides-requires c =
       ap (λ (r : Rule). r.post.inner) c.requires.2,
     )
 
-pub returns : goal.returns
-returns c =
+pub returns-clause-sized : goal.returns-clause-sized
+returns-clause-sized c = told-sized c.args.m.now c.type_inv.m
+
+pub returns-clause-made : goal.returns-clause-made
+returns-clause-made c =
     let m = c.args.m.now in
     let e = c.args.e in
     let sized = told-sized m c.type_inv.m in
