@@ -3,6 +3,7 @@ use mathlib.Core.Path.{◌≡◌, ap}
 use mathlib.Core.Bool.{cond}
 use mathlib.Core.List.{List}
 use Prim.Native.Nat.{ℕ}
+use Rattle.std.specs.Prelude.{Result}
 use Rattle.eos.specs.Causes.{Refusal}
 use Rattle.pairs.specs.Pairs.{refusal_of}
 use Rattle.pairs.specs.declared.Pair.{Pair}
@@ -17,7 +18,7 @@ use Rattle.runner_trace.specs.declared.Ran.{Ran}
 use Rattle.keeper.specs.Answers.{weight_pair}
 use Rattle.keeper.specs.declared.WeightCheck.{WeightCheck}
 use Rattle.spread.specs.Call.{spread_pair, spread_value}
-use Rattle.spread.specs.declared.Spread.{Spread}
+use Rattle.spread.specs.declared.Beyond.{Beyond}
 use Rattle.capi.specs.declared.TextWritten.{TextWritten}
 use Rattle.capi.specs.Calls.{model_read, marking_read, bytes_of, text_written, written_to_c, weights_checked, step_done, run_done, shared}
 
@@ -53,6 +54,6 @@ pub run_is : (r : Ran) (p : Pair) {s : Ran} → r ≡ s → refusal_of p ≡ sto
     → record { number = p.number; beside = p.beside; fired = r.fired; at = r.at; marking = r.marking } ≡ run_done s
 run_is r p e h = let n = numbers p (stop_pair r.stop) h in rw (n.0, n.1) (ap run_done e)
 
-pub shared-is : (a : Spread) (p : Pair) {n : ℕ} {s : Spread} → a ≡ s → refusal_of p ≡ spread_pair a → n ≡ spread_value a
+pub shared-is : (a : Result ℕ Beyond) (p : Pair) {n : ℕ} {s : Result ℕ Beyond} → a ≡ s → refusal_of p ≡ spread_pair a → n ≡ spread_value a
     → record { number = p.number; beside = p.beside; ways = n } ≡ shared s
 shared-is a p e h f = let n = numbers p (spread_pair a) h in rw (n.0, n.1, f) (ap shared e)

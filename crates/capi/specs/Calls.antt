@@ -1,5 +1,5 @@
 -- What the calls answer to C: the number of 01's table and what stands beside it in the place of an answer's enum, and what was given.
-use Rattle.std.specs.Prelude.{ℕ, cond, List}
+use Rattle.std.specs.Prelude.{ℕ, cond, List, Result}
 use Rattle.reader.specs.Answers.{read_pair, write_pair, Answered}
 use Rattle.reader.specs.declared.ModelReading.{ModelReading}
 use Rattle.reader.specs.declared.MarkingReading.{MarkingReading}
@@ -12,7 +12,7 @@ use Rattle.runner_trace.specs.declared.Ran.{Ran}
 use Rattle.keeper.specs.Answers.{weight_pair}
 use Rattle.keeper.specs.declared.WeightCheck.{WeightCheck}
 use Rattle.spread.specs.Call.{spread_pair, spread_value}
-use Rattle.spread.specs.declared.Spread.{Spread}
+use Rattle.spread.specs.declared.Beyond.{Beyond}
 use Rattle.capi.specs.declared.ModelRead.{ModelRead}
 use Rattle.capi.specs.declared.MarkingRead.{MarkingRead}
 use Rattle.capi.specs.declared.TextWritten.{TextWritten}
@@ -63,5 +63,5 @@ step_done r = record { number = (step_pair r.answer).number; beside = (step_pair
 abbrev pub run_done : Ran → RunDone
 run_done r = record { number = (stop_pair r.stop).number; beside = (stop_pair r.stop).beside; fired = r.fired; at = r.at; marking = r.marking }
 
-abbrev pub shared : Spread → Shared
+abbrev pub shared : Result ℕ Beyond → Shared
 shared a = record { number = (spread_pair a).number; beside = (spread_pair a).beside; ways = spread_value a }

@@ -13,7 +13,7 @@ ghost use Rattle.listing.specs.Listing.{listing_text};
 ghost use Rattle.capi.specs.Calls.{model_read, marking_read, text_written, written_to_c, weights_checked, step_done, run_done, shared, version};
 
 use engine::{Marking, Model, WriteAnswer};
-use pairs::{read_pair, spread_pair, step_pair, stop_pair, weight_pair, write_pair};
+use pairs::Pair;
 use values::{bytes_of, one_or_none, used_by, ways_in};
 
 mod values;
@@ -91,7 +91,7 @@ pub fn fp_read_model(text: &[u8]) -> ModelRead
 {
     let read = engine::read_model(text);
     let answer = read.answer;
-    let pair = read_pair(answer);
+    let pair = Pair::from(answer);
     let model = read.model;
     let start = read.start;
     ModelRead {
@@ -107,7 +107,7 @@ pub fn fp_read_marking(model: Model, text: &[u8]) -> MarkingRead
 {
     let read = engine::read_marking(model, text);
     let answer = read.answer;
-    let pair = read_pair(answer);
+    let pair = Pair::from(answer);
     let marking = read.marking;
     MarkingRead {
         number: pair.number as usize,
@@ -132,7 +132,7 @@ pub fn fp_test_marking(model: Model, marking: Marking) -> bool
 fn text_written(answer: WriteAnswer) -> TextWritten
     ensures { result ≡ text_written answer }
 {
-    let pair = write_pair(answer);
+    let pair = Pair::from(answer);
     TextWritten {
         number: pair.number as usize,
         beside: pair.beside,
@@ -151,7 +151,7 @@ pub fn fp_check_weights(model: Model, marking: Marking, text: &[u8]) -> Weighed
 {
     let check = engine::check_weights(model, marking, text);
     let answer = check.answer;
-    let pair = weight_pair(answer);
+    let pair = Pair::from(answer);
     let sum = check.sum;
     Weighed {
         number: pair.number as usize,
@@ -167,7 +167,7 @@ pub fn fp_step(model: Model, marking: Marking, text: &[u8]) -> StepDone
 {
     let step = engine::step(&model, marking, text);
     let answer = step.answer;
-    let pair = step_pair(answer);
+    let pair = Pair::from(answer);
     let after = step.marking;
     StepDone {
         number: pair.number as usize,
@@ -182,7 +182,7 @@ pub fn fp_run(model: Model, marking: Marking, text: &[u8]) -> RunDone
 {
     let ran = engine::run(&model, marking, text);
     let stop = ran.stop;
-    let pair = stop_pair(stop);
+    let pair = Pair::from(stop);
     let after = ran.marking;
     RunDone {
         number: pair.number as usize,
@@ -197,7 +197,7 @@ pub fn fp_ways(tokens: usize, racks: usize) -> Shared
     ensures { result ≡ shared (spread_call tokens racks) }
 {
     let answer = engine::ways(tokens, racks);
-    let pair = spread_pair(answer);
+    let pair = Pair::from(answer);
     Shared {
         number: pair.number as usize,
         beside: pair.beside,

@@ -4,7 +4,7 @@ ghost use Rattle.runner.specs.Answers.{used_by};
 ghost use Rattle.spread.specs.Call.{spread_value};
 ghost use Rattle.capi.specs.Calls.{bytes_of};
 
-use engine::{Spread, StepAnswer, WriteAnswer};
+use engine::{Beyond, StepAnswer, WriteAnswer};
 
 // The bytes of a text that was written.
 pub fn bytes_of(answer: WriteAnswer) -> usize
@@ -34,14 +34,10 @@ pub fn used_by(answer: StepAnswer) -> usize
 }
 
 // The spread.
-pub fn ways_in(answer: Spread) -> u64
+pub fn ways_in(answer: Result<u64, Beyond>) -> u64
     ensures { result ≡ spread_value answer }
 {
-    match answer {
-        Spread::Ways { value } => value,
-        Spread::TokensOver => 0,
-        Spread::RacksOver => 0,
-    }
+    answer.unwrap_or(0)
 }
 
 // 1 for what is so, and 0 for what is not.

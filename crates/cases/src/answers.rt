@@ -1,6 +1,6 @@
 // What is printed of the answer of each call.
 use super::line::{find, number_at};
-use engine::{Marking, Model, Spread, StepAnswer};
+use engine::{Marking, Model, StepAnswer};
 use pairs::Pair;
 use std::io;
 
@@ -11,19 +11,19 @@ fn put_pair(rt: &impl Print, pair: Pair) -> io::Result<()> {
 pub fn model(rt: &impl Print, text: &[u8]) -> io::Result<()> {
     let r = engine::read_model(text);
     let answer = r.answer;
-    put_pair(rt, pairs::read_pair(answer))
+    put_pair(rt, Pair::from(answer))
 }
 
 pub fn marking(rt: &impl Print, m: Model, text: &[u8]) -> io::Result<()> {
     let r = engine::read_marking(m, text);
     let answer = r.answer;
-    put_pair(rt, pairs::read_pair(answer))
+    put_pair(rt, Pair::from(answer))
 }
 
 // A step that fired says the bytes that it used.
 fn put_step(rt: &impl Print, answer: StepAnswer) -> io::Result<()> {
     let StepAnswer::Fired { bytes } = answer else {
-        return put_pair(rt, pairs::step_pair(answer));
+        return put_pair(rt, Pair::from(answer));
     };
     println!(rt; "fired, bytes {bytes}")
 }
@@ -39,7 +39,7 @@ pub fn step(rt: &impl Print, m: Model, k: Marking, text: &[u8]) -> io::Result<Ma
 // What writing a marking answers, and the lent bytes after it.
 pub fn written(rt: &impl Print, m: Model, k: Marking, out: &mut [u8]) -> io::Result<()> {
     let answer = engine::write_marking(m, k, out);
-    put_pair(rt, pairs::write_pair(answer))?;
+    put_pair(rt, Pair::from(answer))?;
     rt.write_all(out)?;
     rt.write_all(b"\n")
 }
@@ -55,7 +55,7 @@ pub fn run(rt: &impl Print, m: Model, k: Marking, text: &[u8]) -> io::Result<()>
     let r = engine::run(&m, k, text);
     print!(rt; "fired {}, at {}, stop ", r.fired, r.at)?;
     let stop = r.stop;
-    put_pair(rt, pairs::stop_pair(stop))?;
+    put_pair(rt, Pair::from(stop))?;
     let after = r.marking;
     let mut out = [46u8; 40];
     print!(rt; "held: ")?;
@@ -66,7 +66,7 @@ pub fn run(rt: &impl Print, m: Model, k: Marking, text: &[u8]) -> io::Result<()>
 pub fn weigh(rt: &impl Print, m: Model, k: Marking, text: &[u8]) -> io::Result<()> {
     let r = engine::check_weights(m, k, text);
     let answer = r.answer;
-    put_pair(rt, pairs::weight_pair(answer))?;
+    put_pair(rt, Pair::from(answer))?;
     let sum = r.sum;
     let cover = r.cover as usize;
     if sum.below > 0 {
@@ -86,8 +86,8 @@ pub fn ways(rt: &impl Print, text: &[u8]) -> io::Result<()> {
     let tokens = number_at(text, 0);
     let racks = number_at(&text[comma..], 1);
     let answer = engine::ways(tokens as usize, racks as usize);
-    let Spread::Ways { value } = answer else {
-        return put_pair(rt, pairs::spread_pair(answer));
+    let Ok(value) = answer else {
+        return put_pair(rt, Pair::from(answer));
     };
     println!(rt; "{value}")
 }

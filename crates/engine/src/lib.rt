@@ -24,7 +24,7 @@ pub use runner_trace::{Ran, Stop, run};
 pub use keeper::{Sum, WeightAnswer, WeightCheck, check_weights};
 
 // The spread. `spread_call` (spread/specs/Call.antt).
-pub use spread::{Spread, ways};
+pub use spread::{Beyond, ways};
 
 // What the program rackrun prints. `listing_text` (listing/specs/Listing.antt).
 pub use listing::listing;

@@ -8,8 +8,8 @@ use lib.ListN.{length, length-append}
 use lib.Seq.{sets, length-sets}
 use Rattle.text.specs.Bytes.{bytes}
 use Rattle.text.specs.Writing.{Laying, lay}
-use Rattle.text.specs.declared.Wrote.{Wrote}
-use Rattle.text.specs.declared.Wrote.TheVariants.{Whole, Short}
+use Rattle.text.specs.declared.TooSmall.{TooSmall}
+use Rattle.std.specs.Prelude.{Result, Ok, Err}
 use Rattle.text.proofs.Basics.{by_le}
 use Rattle.text.proofs.SetsLaws.{sets_append, sets_apart}
 use Rattle.text.proofs.LaidLaws.{lay-whole, lay-short}
@@ -22,32 +22,38 @@ use Rattle.reader.specs.Answers.{lay_whole}
 use Rattle.reader.specs.declared.WriteAnswer.TheVariants as answer
 use Rattle.reader.proofs.WriteAnswers.{whole-fits, whole-short}
 
-module _ (head block out : List ℕ) {w : Wrote} {mid : List ℕ} (e : record { answer = w; bytes = mid } ≡ lay block out (length head)) where
+-- the bytes that an answer names
+needed_in : Result ℕ TooSmall → ℕ
+needed_in (Ok end) = end
+needed_in (Err e) = e.needed
+
+module _ (head block out : List ℕ) {w : Result ℕ TooSmall} {mid : List ℕ} (e : record { answer = w; bytes = mid } ≡ lay block out (length head)) where
   same : {l : Laying} → l ≡ lay block out (length head) → (w ≡ l.answer) × (mid ≡ l.bytes)
   same f = (ap (λ (l : Laying). l.answer) (e ∙ sym f), ap (λ (l : Laying). l.bytes) (e ∙ sym f))
 
   abbrev Behind : ℕ → Type 0
   Behind end = (length head + length block ≤ length out) × (end ≡ length head + length block) × (mid ≡ sets out (length head) block)
 
-  whole_is : {end : ℕ} → w ≡ Whole end → Behind end
+  whole_is : {end : ℕ} → w ≡ Ok end → Behind end
   whole_is u =
       by_le (length head + length block) (length out)
       (λ h. let f = same (lay-whole block out (length head) h refl refl) in (h, (cc), f.1))
       (λ h. let f = same (lay-short block out (length head) h refl) in let z : ◌≡◌ {A = ℕ} 0 1 = cc in absurd (omega arith))
 
-  short-is : {n : ℕ} → w ≡ Short n → (length out < length head + length block) × (n ≡ length head + length block) × (mid ≡ out)
+  short-is : {n : ℕ} → w ≡ Err (record { needed = n }) → (length out < length head + length block) × (n ≡ length head + length block) × (mid ≡ out)
+  unfolding needed_in
   short-is u =
       by_le (length head + length block) (length out)
       (λ h. let f = same (lay-whole block out (length head) h refl refl) in let z : ◌≡◌ {A = ℕ} 0 1 = cc in absurd (omega arith))
-      (λ h. let f = same (lay-short block out (length head) h refl) in (h, (cc), f.1))
+      (λ h. let f = same (lay-short block out (length head) h refl) in (h, ap needed_in (sym u ∙ f.0), f.1))
 
   -- the head has room before them
-  pub head_room : {end : ℕ} → w ≡ Whole end → 0 + length head ≤ length mid
+  pub head_room : {end : ℕ} → w ≡ Ok end → 0 + length head ≤ length mid
   head_room u =
       let p = whole_is u in
       omega (arith, ap length p.2 ∙ length-sets out (length head) block, p.0)
 
-  pub held_whole : {end : ℕ} {after : List ℕ} → w ≡ Whole end → after ≡ sets mid 0 head
+  pub held_whole : {end : ℕ} {after : List ℕ} → w ≡ Ok end → after ≡ sets mid 0 head
       → record { answer = answer.Written end; bytes = after } ≡ lay_whole (head ++ block) out
   held_whole u a =
       let p = whole_is u in
@@ -56,7 +62,7 @@ module _ (head block out : List ℕ) {w : Wrote} {mid : List ℕ} (e : record { 
       sets_apart head block out 0 (length head) (omega arith) ∙ sym (sets_append head block out 0 ∙ rw (zero-add (length head))) in
       rw (p.1, a, p.2, l, ← n) (whole-fits (head ++ block) out (omega (arith, n, p.0)))
 
-  pub held-short : {n : ℕ} → w ≡ Short n → record { answer = answer.TooSmall n; bytes = mid } ≡ lay_whole (head ++ block) out
+  pub held-short : {n : ℕ} → w ≡ Err (record { needed = n }) → record { answer = answer.TooSmall n; bytes = mid } ≡ lay_whole (head ++ block) out
   held-short u =
       let p = short-is u in
       let n = length-append head block in

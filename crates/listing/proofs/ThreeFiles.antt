@@ -6,7 +6,7 @@ use mathlib.Core.Option.{Option, none, some}
 use native.Mathlib.Omega.{arith}
 use lib.Dec.{leb, eqb}
 use lib.ListN.{length, take}
-use borrow.Author.Tests.{le-leb, lt-leb, eqb-true, ne_eqb}
+use borrow.Author.Tests.{le-leb, lt-leb, eqb-true}
 use Rattle.text.specs.Bytes.{Text, newlines}
 use Rattle.text.proofs.Basics.{by_test, and_true}
 use Rattle.text.specs.Lines.{Outcome, got, bad}
@@ -70,13 +70,6 @@ module _ (m : Model) (k : Marking) (s : Text) where
       (λ t. rw (t, trace_file) h.held)
 
 -- ---- a model whose pair is 0,0
-
--- a pair is tested by its number, and then by what stands beside it
-pub number_weights_refused : (n b : ℕ) → (n ≡ 0 → ⊥) → false ≡ (eqb n 0 && eqb b 0)
-number_weights_refused n b h = rw (ne_eqb n 0 h)
-
-pub number_none : (n b : ℕ) → n ≡ 0 → eqb b 0 ≡ (eqb n 0 && eqb b 0)
-number_none n b h = rw h
 
 -- what is refused is not 0,0: a fault has a line, and a line's number is at least 1
 never : {A : Type 0} (a : Bool) (n : ℕ) → (a && eqb (suc n) 0) ≡ true → A

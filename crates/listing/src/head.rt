@@ -36,18 +36,12 @@ pub fn put_cover(out: &mut [u8], at: usize, cover: bool) -> usize
     requires { at + 8 ≤ length out.old }
     ensures { (result ≡ at + length (cover_text cover)) × (out.new ≡ sets out.old at (cover_text cover)) × (result ≤ at + 8) }
 {
-    if cover {
-        return put_number_line(out, at, b"cover=", 1);
-    }
-    put_number_line(out, at, b"cover=", 0)
+    put_number_line(out, at, b"cover=", cover as u64)
 }
 
 // Whether a pair is 0,0.
 pub fn is_accepted(p: Pair) -> bool
     ensures { result ≡ accepted (refusal_of p) }
 {
-    if p.number != 0 {
-        return false;
-    }
-    p.beside == 0
+    p.number == 0 && p.beside == 0
 }

@@ -15,9 +15,9 @@ use marking::Marking;
 use marking_test::sizes;
 use marking_write::write;
 use model::Model;
-use pairs::{read_pair, stop_pair, weight_pair};
+use pairs::Pair;
 use reader::WriteAnswer;
-use text::Wrote;
+use text::TooSmall;
 use text_write::{put_number_line, put_text};
 
 mod files;
@@ -42,11 +42,11 @@ fn lay_with_held(head: &[u8], m: Model, k: Marking, out: &mut [u8]) -> WriteAnsw
 {
     let wrote = write(k, m.places as u16, sizes(m), b"held=", out, head.len());
     match wrote {
-        Wrote::Short { needed } => WriteAnswer::TooSmall { needed },
-        Wrote::Whole { end } => {
+        Ok(bytes) => {
             put_text(out, 0, head);
-            WriteAnswer::Written { bytes: end }
+            WriteAnswer::Written { bytes }
         }
+        Err(TooSmall { needed }) => WriteAnswer::TooSmall { needed },
     }
 }
 
@@ -66,7 +66,7 @@ fn after_weights(
     let ran = trace_file(m, k, trace);
     let next = put_number_line(head, at, b"fired=", ran.fired as u64);
     let stop = ran.stop;
-    let end = put_pair(head, next, b"stop=", stop_pair(stop));
+    let end = put_pair(head, next, b"stop=", Pair::from(stop));
     let marking = ran.marking;
     lay_with_held(&head[..end], m, marking, out)
 }
@@ -87,7 +87,7 @@ fn after_model(
 {
     let check = weights_file(m, k, weights);
     let answer = check.answer;
-    let judged = weight_pair(answer);
+    let judged = Pair::from(answer);
     let next = put_pair(head, at, b"weights=", judged);
     if !is_accepted(judged) {
         return lay_head(&head[..next], out);
@@ -106,7 +106,7 @@ pub fn listing(model: &[u8], weights: &[u8], trace: &[u8], out: &mut [u8]) -> Wr
     let mut head = [0u8; 192];
     let read = model_file(model);
     let answer = read.answer;
-    let pair = read_pair(answer);
+    let pair = Pair::from(answer);
     let at = put_pair(&mut head, 0, b"model=", pair);
     if !is_accepted(pair) {
         return lay_head(&head[..at], out);

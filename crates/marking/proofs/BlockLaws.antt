@@ -1,12 +1,12 @@
--- Laws of the loop that reads net-tokens and inserts each where it belongs.
+-- Laws of the loop that reads net-tokens and puts each in where it belongs.
 use Prim.Native.Nat.{ℕ, suc, ◌+◌, ◌-◌, ◌≤◌, ◌<◌}
-use mathlib.Core.Path.{◌≡◌, refl, ap, sym, ◌∙◌, subst₂, fun_ext}
+use mathlib.Core.Path.{◌≡◌, refl, ap, sym, ◌∙◌, subst, fun_ext}
 use mathlib.Core.List.{List, [], ◌∷◌, map}
 use mathlib.Core.Bool.{Bool, true, false, cond}
 use native.Mathlib.Omega.{arith}
 use native.Mathlib.Nat.{sub-zero}
 use lib.Dec.{leb, leb-zero}
-use lib.ListN.{length, length-map, replicate}
+use lib.ListN.{length, length-map}
 use Rattle.text.specs.Bytes.{Text, bytes}
 use Rattle.text.proofs.Basics.{and_true}
 use Rattle.text.specs.Lines.{Outcome, got, bad, then, many, in_range, read_number}
@@ -21,20 +21,21 @@ use Rattle.text.proofs.Loops.{got_of, bad_of, loop_turn, loop_bad, loop_done}
 use Rattle.text.proofs.Exactly.{got-is}
 use Rattle.text.proofs.LinesExactly.{number_exactly}
 use Rattle.text.proofs.TokenExactly.{token_exactly}
-use Rattle.eos.specs.Vector.{lex_v}
 use Rattle.eos.specs.Multiset as M
 use Rattle.eos.specs.Model as eos
 use Rattle.eos.proofs.OrderLaws.{insert-sorted}
-use Rattle.eos.proofs.VectorLaws.{lex_order}
 use Rattle.eos.proofs.FiringLaws.{insert_all, after_in_order}
 use Rattle.model.specs.Limits.{line_limit, count_limit}
-use Rattle.marking.specs.Rows.{rows_in, laid, Kept}
-use Rattle.marking.proofs.KeptLaws.{rows-laid, kept-laid}
-use Rattle.marking.specs.Held.{Sizes, Roomy, token_row, hold_marking, no_marking}
+use Rattle.marking.specs.Tokens.{before, holding, tokens_in, Kept, put_in}
+use Rattle.marking.specs.declared.NetToken.{NetToken}
+use Rattle.marking.specs.declared.Marking.{Marking}
+use Rattle.marking.proofs.TokenOrder.{held_order}
+use Rattle.marking.proofs.KeptLaws.{tokens-held, kept-held}
+use Rattle.marking.specs.Held.{Sizes, Roomy, hold_token, hold_marking, no_marking}
 use Rattle.marking.specs.Reading.{Limits, limits, line_token, read_net_token, read_block}
 use Rattle.marking.specs.Answers.{block_of}
 use Rattle.marking.proofs.BlockExactly.{net_token_exactly}
-use Rattle.marking.proofs.RowOrder.{Fitting, All, none, map-insert, all_insert, rows_wide}
+use Rattle.marking.proofs.HeldOrder.{Fitting, All, none, map-insert, all_insert}
 use Rattle.marking.proofs.HoldMarking.{right_is, fitting}
 
 -- a net-token put where it belongs
@@ -64,50 +65,54 @@ unfolding filled block_of ended_of kept_or
 block_bad (got ts x) d e = let z : ◌≡◌ {A = ℕ} 0 1 = cc in absurd (omega arith)
 block_bad (bad c) d e = let k : c ≡ d = cc in rw k
 
-block_got : (o : Outcome eos.Marking) (μ : eos.Marking) (n at : ℕ) (rows : List ℕ) → length μ ≡ n → rows ≡ laid (map token_row μ) → filled put 0 [] o ≡ got μ at
-    → record { ended = Past at; marking = record { len = n; rows = rows } } ≡ block_of o
+block_got : (o : Outcome eos.Marking) (μ : eos.Marking) (at : ℕ) (k : Marking) → k ≡ holding (map hold_token μ) → filled put 0 [] o ≡ got μ at
+    → record { ended = Past at; marking = k } ≡ block_of o
 unfolding filled block_of ended_of kept_or hold_marking
-block_got (got ts x) μ n at rows h r e =
-    let k = got-is e in
-    let c : eos.canonical ts ≡ μ = sym (fill-canonical ts) ∙ k.0 in
-    rw (c, h, r, k.1)
-block_got (bad c) μ n at rows h r e = let z : ◌≡◌ {A = ℕ} 0 1 = cc in absurd (omega arith)
+block_got (got ts x) μ at k r e =
+    let q = got-is e in
+    let c : eos.canonical ts ≡ μ = sym (fill-canonical ts) ∙ q.0 in
+    rw (c, r, q.1)
+block_got (bad c) μ at k r e = let z : ◌≡◌ {A = ℕ} 0 1 = cc in absurd (omega arith)
 
 token_got : (o : Outcome Token) (t : Token) (next : ℕ) → o ≡ got t next → then o (λ t x. got (line_token t) x) ≡ got (line_token t) next
 unfolding then
 token_got o t next e = rw e
 
--- the row of a line that was read
-row_parts : (row : TokenRow) (o : Outcome Token) (t : Token) (next : ℕ) → row ≡ token_row_of o → o ≡ got t next → row.place ∷ row.counts ≡ t.place ∷ padded t.counts
+-- a net-token of numbers that a line gives
+abbrev pub token_at : ℕ → List ℕ → NetToken
+token_at place counts = record { place = place; counts = counts }
+
+-- that of a line that was read
+token_parts : (row : TokenRow) (o : Outcome Token) (t : Token) (next : ℕ) → row ≡ token_row_of o → o ≡ got t next → token_at row.place row.counts ≡ token_at t.place (padded t.counts)
 unfolding token_row_of kept_or
-row_parts row o t next e f = rw (e, f)
+token_parts row o t next e f = rw (e, f)
 
 module _ (lim : Limits) (z : Sizes) (s : Text) where
   abbrev reads : ℕ → Outcome eos.NetToken
   reads = read_net_token lim z s
 
-  -- i net-tokens stand in the rows, and the reading goes on at `at`
-  pub record Going (n from : ℕ) (i at : ℕ) (rows : List ℕ) : Type 0 where
+  -- i net-tokens are held, and the reading goes on at `at`
+  pub record Going (n from : ℕ) (i at : ℕ) (k : Marking) : Type 0 where
     pub tokens : eos.Marking
     pub all : All z tokens
-    pub sorted : M.Sorted lex_v (map token_row tokens)
+    pub sorted : M.Sorted before (map hold_token tokens)
     pub long : length tokens ≡ i
-    pub rows_are : rows ≡ laid (map token_row tokens)
+    pub held : k ≡ holding (map hold_token tokens)
     pub left : filled put 0 [] (many reads n from) ≡ filled put i tokens (many reads (n - i) at)
 
-  -- one line, as the code has it: a net-token that fits, and its row
-  pub record Read (at next place : ℕ) (counts : List ℕ) : Type 0 where
+  -- one line, as the code has it: a net-token that fits, as it is held
+  pub record Read (at next : ℕ) (t : NetToken) : Type 0 where
     pub token : eos.NetToken
     pub is : reads at ≡ got token next
     pub fits : Fitting z token
-    pub row_is : place ∷ counts ≡ token_row token
+    pub held : t ≡ hold_token token
 
   module _ (at : ℕ) (row : TokenRow) (row_of : row ≡ token_row_of (read_token (bytes "token=") z.places z.size lim.counts s at)) where
     ended_is : row.ended ≡ ended_of (read_token (bytes "token=") z.places z.size lim.counts s at)
     unfolding token_row_of
     ended_is = ap (λ (r : TokenRow). r.ended) row_of
 
-    pub read_past : (next : ℕ) → Roomy z → row.ended ≡ Past next → Read at next row.place row.counts
+    pub read_past : (next : ℕ) → Roomy z → row.ended ≡ Past next → Read at next (token_at row.place row.counts)
     unfolding read_net_token then right_token
     read_past next roomy e =
         let o = read_token (bytes "token=") z.places z.size lim.counts s at in
@@ -121,7 +126,7 @@ module _ (lim : Limits) (z : Sizes) (s : Text) where
           token = line_token t;
           is = r;
           fits = fitting lim.counts z (line_token t) roomy (right_is lim z (line_token t) ((net_token_exactly lim z s).back at (line_token t) next r).fine-is);
-          row_is = rw k (row_parts row _ t next row_of g.is);
+          held = rw k (token_parts row _ t next row_of g.is);
         }
 
     pub read_stopped : (d : Fault) → row.ended ≡ Stopped d → reads at ≡ bad d
@@ -129,45 +134,43 @@ module _ (lim : Limits) (z : Sizes) (s : Text) where
     read_stopped d e = rw (bad_of _ row.ended d ended_is e)
 
   module _ (n from : ℕ) where
-    pub going_start : Going n from 0 from (replicate 8448 0)
-    going_start = record { tokens = []; all = none; sorted = tt; long = refl; rows_are = refl; left = rw (sub-zero n) }
+    pub going_start : Going n from 0 from no_marking
+    going_start = record { tokens = []; all = none; sorted = tt; long = refl; held = refl; left = rw (sub-zero n) }
 
-    module _ (i at : ℕ) (rows : List ℕ) (g : Going n from i at rows) where
-      rows_in_lem : rows_in i rows ≡ map token_row g.tokens
-      rows_in_lem =
-          let k : i ≡ length (map token_row g.tokens) = sym g.long ∙ sym (length-map g.tokens token_row) in
-          rw (k, g.rows_are) (rows-laid (map token_row g.tokens) (rows_wide g.tokens))
+    module _ (i at : ℕ) (k : Marking) (g : Going n from i at k) where
+      tokens_are : tokens_in k ≡ map hold_token g.tokens
+      tokens_are = rw g.held (tokens-held (map hold_token g.tokens))
 
-      -- the rows are kept, so that one more can be inserted
-      pub going_kept : i ≤ 256 → Kept i rows
-      going_kept h =
-          let k : length (map token_row g.tokens) ≡ i = length-map g.tokens token_row ∙ g.long in
-          subst₂ Kept k (sym g.rows_are) (kept-laid (map token_row g.tokens) (omega arith) (rows_wide g.tokens) g.sorted)
+      pub going_long : k.len ≡ i
+      going_long = ap (λ (k : Marking). k.len) g.held ∙ length-map g.tokens hold_token ∙ g.long
 
-      -- one more net-token is read and inserted
-      pub going_turn : (next place : ℕ) (counts row after : List ℕ) → i < n → Read at next place counts → row ≡ place ∷ counts → after ≡ laid (M.insert lex_v row (rows_in i rows))
-          → Going n from (i + 1) next after
-      going_turn next place counts row after h r e f =
-          let t = r.token in
-          let m : M.insert lex_v row (rows_in i rows) ≡ map token_row (M.insert eos.before t g.tokens) =
-          rw (e, r.row_is, rows_in_lem) (sym (map-insert z t g.tokens r.fits g.all)) in
+      -- they are kept, so that one more can be put in
+      pub going_kept : i ≤ 256 → Kept k
+      going_kept h = subst Kept (sym g.held) (kept-held (map hold_token g.tokens) (omega (arith, length-map g.tokens hold_token, g.long)) g.sorted)
+
+      -- one more net-token is read and put in
+      pub going_turn : (next : ℕ) (t : NetToken) (after : Marking) → i < n → Read at next t → after ≡ put_in t k → Going n from (i + 1) next after
+      unfolding put_in
+      going_turn next t after h r f =
+          let u = r.token in
+          let m : M.insert before t (tokens_in k) ≡ map hold_token (M.insert eos.before u g.tokens) =
+          rw (r.held, tokens_are) (sym (map-insert z u g.tokens r.fits g.all)) in
           record {
-            tokens = M.insert eos.before t g.tokens;
-            all = all_insert z t g.tokens r.fits g.all;
-            sorted = rw (map-insert z t g.tokens r.fits g.all) (insert-sorted lex_v lex_order (token_row t) (map token_row g.tokens) g.sorted);
-            long = insert-long t g.tokens ∙ rw g.long (omega arith);
-            rows_are = f ∙ ap laid m;
-            left = g.left ∙ loop_turn put reads i n at g.tokens h t next r.is;
+            tokens = M.insert eos.before u g.tokens;
+            all = all_insert z u g.tokens r.fits g.all;
+            sorted = rw (map-insert z u g.tokens r.fits g.all) (insert-sorted before held_order (hold_token u) (map hold_token g.tokens) g.sorted);
+            long = insert-long u g.tokens ∙ rw g.long (omega arith);
+            held = f ∙ ap holding m;
+            left = g.left ∙ loop_turn put reads i n at g.tokens h u next r.is;
           }
 
       -- a line that is refused ends the reading
       pub going_bad : (d : Fault) → i < n → reads at ≡ bad d → record { ended = Stopped d; marking = no_marking } ≡ block_of (many reads n from)
       going_bad d h e = block_bad (many reads n from) d (g.left ∙ loop_bad put reads i n at g.tokens h d e)
 
-      -- after n lines the rows are those of the canonical list
-      pub going_done : i ≤ n → n ≤ i → record { ended = Past at; marking = record { len = n; rows = rows } } ≡ block_of (many reads n from)
-      going_done h k =
-          block_got (many reads n from) g.tokens n at rows (omega (arith, g.long)) g.rows_are (g.left ∙ loop_done put reads i n at g.tokens k)
+      -- after n lines they are those of the canonical list
+      pub going_done : n ≤ i → record { ended = Past at; marking = k } ≡ block_of (many reads n from)
+      going_done h = block_got (many reads n from) g.tokens at k g.held (g.left ∙ loop_done put reads i n at g.tokens h)
 
 -- ---- the whole block
 

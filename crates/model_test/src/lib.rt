@@ -25,7 +25,8 @@ fn empty_past(rows: usize, table: &[u8], n: usize, widths: &[usize]) -> bool
     requires { (length table.now ≡ rows * 32) × (n ≤ rows) × (n ≤ length widths.now) }
     ensures { result ≡ empty_past rows (used_in n (nth widths.now)) table.now }
 {
-    empty_bytes(table, n * 32) && (0..n).all(|i| empty_bytes(&table[i * 32..i * 32 + 32], widths[i]))
+    empty_bytes(table, n * 32)
+        && (0..n).all(|i| empty_bytes(&table[i * 32..i * 32 + 32], widths[i]))
 }
 
 // The same of a table of 32 rows, of which the first n use `width` numbers each.
@@ -60,7 +61,10 @@ fn type_held(nets: usize, places: usize, p: usize, t: u8) -> bool
 fn types_held(nets: usize, places: usize, types: &[u8; 32]) -> bool
     ensures { result ≡ all_below 32 (type_at nets places types.now) }
 {
-    types.iter().enumerate().all(|(p, t)| type_held(nets, places, p, *t))
+    types
+        .iter()
+        .enumerate()
+        .all(|(p, t)| type_held(nets, places, p, *t))
 }
 
 // Whether each move keeps to monotonous typing.
@@ -162,7 +166,10 @@ fn events_held(m: &Model, steps: &[usize; 8]) -> bool
     requires { (m.now.places ≤ 32) × (m.now.moves ≤ 32) × (m.now.nets ≤ 8) }
     ensures { result ≡ all_below 64 (event_at (framed m.now.places m.now.moves m.now.nets m.now.types steps.now) m.now.listed m.now.events) }
 {
-    m.events.iter().enumerate().all(|(k, e)| event_is(m, steps, k, e))
+    m.events
+        .iter()
+        .enumerate()
+        .all(|(k, e)| event_is(m, steps, k, e))
 }
 
 fn counts_held(m: &Model) -> bool
@@ -181,6 +188,5 @@ pub fn is_held(m: &Model) -> bool
     counts_held(m)
         && (types_held(m.nets, m.places, &m.types)
             && (moves_held(m)
-                && (nets_held(m.nets, &m.objects)
-                    && events_held(m, &transitions_of(&m.objects)))))
+                && (nets_held(m.nets, &m.objects) && events_held(m, &transitions_of(&m.objects)))))
 }

@@ -9,7 +9,8 @@ use lib.ListN.{length}
 use lib.Seq.{sets}
 use Rattle.text.specs.Bytes.{Text}
 use Rattle.text.specs.Writing.{Laying, lay}
-use Rattle.text.specs.declared.Wrote.{Wrote}
+use Rattle.text.specs.declared.TooSmall as small
+use Rattle.std.specs.Prelude.{Result}
 use Rattle.text.proofs.Basics.{and_true}
 use Rattle.text.proofs.LaidLaws.{lay-whole, lay-short}
 use Rattle.model.specs.Limits.{room_limit}
@@ -41,7 +42,7 @@ module _ (text : Text) (out : List ℕ) where
   whole-short h = let n = zero-add (length text) in ap as_written (lay-short text out 0 {n = length text} (omega (arith, n)) (sym n))
 
   -- what the writer of a text answers
-  pub whole_as : (w : Wrote) (a : WriteAnswer) (after : List ℕ) → a ≡ written_as w → record { answer = w; bytes = after } ≡ lay text out 0
+  pub whole_as : (w : Result ℕ small.TooSmall) (a : WriteAnswer) (after : List ℕ) → a ≡ written_as w → record { answer = w; bytes = after } ≡ lay text out 0
       → record { answer = a; bytes = after } ≡ lay_whole text out
   unfolding lay_whole
   whole_as w a after f l = rw f (ap as_written l)
@@ -59,7 +60,7 @@ module _ (m : Model) (k : Marking) where
     write_unheld h = rw (h, marking_writing)
 
     -- the writer of a marking was called
-    pub write_laid : held_both m k ≡ true → (z : List ℕ) → z ≡ sizes_in m → (w : Wrote) (a : WriteAnswer) (after : List ℕ) → a ≡ written_as w
+    pub write_laid : held_both m k ≡ true → (z : List ℕ) → z ≡ sizes_in m → (w : Result ℕ small.TooSmall) (a : WriteAnswer) (after : List ℕ) → a ≡ written_as w
         → record { answer = w; bytes = after } ≡ lay (marking_text (tokens_of (sizes_at m.places z) k)) out 0
         → record { answer = a; bytes = after } ≡ marking_writing m k out
     unfolding marking_writing

@@ -1,11 +1,10 @@
 -- What the calls of this crate answer and leave in lent memory, for every input; and the numbers of 01's table for each answer.
-use Rattle.std.specs.Prelude.{ℕ, Bool, true, false, ◌&&◌, List, leb, length}
+use Rattle.std.specs.Prelude.{ℕ, Bool, true, false, ◌&&◌, List, leb, length, Result, Ok, Err}
 use Rattle.text.specs.Bytes.{Text}
 use Rattle.text.specs.Lines.{Outcome, got, bad, spot_of}
 use Rattle.text.specs.Writing.{lay}
 use Rattle.text.specs.declared.Fault.{Fault}
-use Rattle.text.specs.declared.Wrote.{Wrote}
-use Rattle.text.specs.declared.Wrote.TheVariants.{Whole, Short}
+use Rattle.text.specs.declared.TooSmall as small
 use Rattle.eos.specs.Model as eos
 use Rattle.eos.specs.Causes.{Refusal}
 use Rattle.model.specs.Limits.{room_limit, longest}
@@ -88,9 +87,9 @@ pub record Answered : Type 0 where
   pub bytes : List ℕ
 
 -- how the writing of a text ended
-abbrev pub written_as : Wrote → WriteAnswer
-written_as (Whole n) = Written n
-written_as (Short n) = TooSmall n
+abbrev pub written_as : Result ℕ small.TooSmall → WriteAnswer
+written_as (Ok n) = Written n
+written_as (Err e) = TooSmall e.needed
 
 -- a text laid over the lent bytes from the first on: whole, or no byte of it
 unfoldable pub lay_whole : Text → List ℕ → Answered

@@ -11,7 +11,7 @@ use marking::Marking;
 use marking_test::sizes;
 use marking_write::write;
 use model::Model;
-use text::{Ended, Spot, Wrote};
+use text::{Ended, Spot, TooSmall};
 use text_scan::spot_of;
 
 mod lines;
@@ -151,12 +151,12 @@ pub fn test_marking(m: &Model, k: Marking) -> bool
 }
 
 // The answer for how the writing of a text ended.
-fn written_as(w: Wrote) -> WriteAnswer
-    ensures { result ≡ written_as w }
+fn written_as(wrote: Result<usize, TooSmall>) -> WriteAnswer
+    ensures { result ≡ written_as wrote }
 {
-    match w {
-        Wrote::Whole { end } => WriteAnswer::Written { bytes: end },
-        Wrote::Short { needed } => WriteAnswer::TooSmall { needed },
+    match wrote {
+        Ok(bytes) => WriteAnswer::Written { bytes },
+        Err(TooSmall { needed }) => WriteAnswer::TooSmall { needed },
     }
 }
 

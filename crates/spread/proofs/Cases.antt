@@ -2,13 +2,14 @@
 use mathlib.Core.Path.{◌≡◌, refl}
 use Rattle.eos.specs.Spread.{binomial, spread}
 use Rattle.spread.specs.Call.{spread_call}
-use Rattle.spread.specs.declared.Spread.TheVariants.{Ways, TokensOver, RacksOver}
+use Rattle.std.specs.Prelude.{Ok, Err}
+use Rattle.spread.specs.declared.Beyond.TheVariants.{Tokens, Racks}
 
 pub spread-calls :
-    (spread_call 0 0 ≡ Ways 1)
-    × (spread_call 3 0 ≡ Ways 0)
-    × (spread_call 2 3 ≡ Ways 6)
-    × (spread_call 32 17 ≡ TokensOver)
-    × (spread_call 31 17 ≡ RacksOver)
+    (spread_call 0 0 ≡ Ok 1)
+    × (spread_call 3 0 ≡ Ok 0)
+    × (spread_call 2 3 ≡ Ok 6)
+    × (spread_call 32 17 ≡ Err Tokens)
+    × (spread_call 31 17 ≡ Err Racks)
 unfolding spread_call spread binomial
 spread-calls = (refl, refl, refl, refl, refl)

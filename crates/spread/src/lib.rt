@@ -10,15 +10,14 @@ use table::SPREADS;
 
 mod table;
 
-// What the call answers: the number of ways, or which of the two numbers is too large.
-#[derive(Clone, Copy)]
-pub enum Spread {
-    Ways { value: u64 },
-    TokensOver,
-    RacksOver,
+// Which of the two numbers is too large: more tokens than 31, or more racks than 16.
+#[derive(Clone, Copy, PartialEq, Eq, Debug)]
+pub enum Beyond {
+    Tokens,
+    Racks,
 }
 
-// The entry of n tokens and k racks. The table is lent: who wants many of its entries lays it once.
+// The entry of n tokens and k racks. The table is lent: who wants many of its entries names it once.
 fn entry(spreads: &[u64; 544], n: usize, k: usize) -> u64
     requires n_within { n ≤ 31 }
     requires k_within { k ≤ 16 }
@@ -29,16 +28,14 @@ fn entry(spreads: &[u64; 544], n: usize, k: usize) -> u64
 }
 
 // The spread of n tokens among k racks; too many tokens are answered before too many racks.
-pub fn ways(n: usize, k: usize) -> Spread
+pub fn ways(n: usize, k: usize) -> Result<u64, Beyond>
     ensures { result ≡ spread_call n k }
 {
     if n > 31 {
-        return Spread::TokensOver;
+        return Err(Beyond::Tokens);
     }
     if k > 16 {
-        return Spread::RacksOver;
+        return Err(Beyond::Racks);
     }
-    Spread::Ways {
-        value: entry(&SPREADS, n, k),
-    }
+    Ok(entry(&SPREADS, n, k))
 }

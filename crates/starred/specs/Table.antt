@@ -18,7 +18,6 @@ use Rattle.keeper.specs.Answers.{weight_pair, weight_checking}
 use Rattle.keeper.specs.declared.WeightCheck.{WeightCheck}
 use Rattle.keeper.specs.declared.Sum.{Sum}
 use Rattle.spread.specs.Call.{spread_pair, spread_value, spread_call}
-use Rattle.spread.specs.declared.Spread.{Spread}
 use Rattle.starred.specs.Texts.{listed_model, listed_weights, first_step, second_step}
 
 -- ---- inputs and outcomes
@@ -58,8 +57,8 @@ checked c = of_weights (weight_pair c.answer) c.sum c.cover
 unfoldable pub step_outcome : Model → Stepped → Result
 step_outcome m r = of_step (step_pair r.answer) (marking_text (tokens_of (sizes_for m) r.marking))
 
-unfoldable pub counted : Spread → Result
-counted a = of_spread (spread_pair a) (spread_value a)
+unfoldable pub counted : ℕ → ℕ → Result
+counted n k = let a = spread_call n k in of_spread (spread_pair a) (spread_value a)
 
 -- once the model is read, and once the marking is
 unfoldable pub check_for : Text → ModelReading → Result
@@ -74,7 +73,7 @@ step_for marking text r = once_read r.answer (step_on text r.model (marking_read
 unfoldable pub outcome_of : Input → Result
 outcome_of (weights model file) = check_for file (model_reading model)
 outcome_of (step model marking text) = step_for marking text (model_reading model)
-outcome_of (spread n k) = counted (spread_call n k)
+outcome_of (spread n k) = counted n k
 
 -- ---- the rows
 

@@ -2,7 +2,7 @@
 use Prim.Native.Nat.{ℕ, ◌-◌, ◌≤◌}
 use mathlib.Core.Path.{◌≡◌, ap, ◌∙◌}
 use mathlib.Core.List.{List, map}
-use lib.ListN.{length}
+use lib.ListN.{length, take}
 use Rattle.text.specs.Bytes.{Text, bytes}
 use Rattle.text.specs.Lines.{Outcome, got, bad, then, in_range, read_number}
 use Rattle.text.specs.declared.Fault.{Fault}
@@ -12,8 +12,8 @@ use Rattle.text.proofs.Loops.{got_of, bad_of}
 use Rattle.text.proofs.TestLaws.{within-is}
 use Rattle.text.proofs.LinesExactly.{number_exactly}
 use Rattle.eos.specs.Firing.{Step}
-use Rattle.marking.specs.Rows.{Row, rows_in}
-use Rattle.marking.specs.Held.{Sizes, token_row}
+use Rattle.marking.specs.declared.NetToken.{NetToken}
+use Rattle.marking.specs.Held.{Sizes, hold_token}
 use Rattle.marking.specs.Reading.{Limits, read_block}
 use Rattle.step.specs.Reading.{Taking, read_taking, read_step}
 use Rattle.step.specs.Answers.{no_taking, no_step, TakeRows, take_rows, step_rows}
@@ -27,14 +27,14 @@ pub event_from-one : (key s : Text) (events at v next : ℕ) → read_number key
 event_from-one key s events at v next e = (within-is 1 events v ((number_exactly key (in_range 1 events) s).back at v next e).fine-is).0
 
 -- a refusal has no event and no net-token
-pub taking-refused : (o : Outcome Taking) (d : Fault) (lines : TakeLines) (taken : List ℕ)
-    → lines ≡ no_taking (Stopped d) → o ≡ bad d → record { lines = lines; taken = rows_in lines.take taken } ≡ take_rows o
+pub taking-refused : (o : Outcome Taking) (d : Fault) (lines : TakeLines) (taken : List NetToken)
+    → lines ≡ no_taking (Stopped d) → o ≡ bad d → record { lines = lines; taken = take lines.take taken } ≡ take_rows o
 unfolding take_rows ended_of kept_or
 taking-refused o d lines taken e f = rw (e, f)
 
-pub rows-refused : (o : Outcome Step) (d : Fault) (lines : StepLines) (taken given : List ℕ)
+pub rows-refused : (o : Outcome Step) (d : Fault) (lines : StepLines) (taken given : List NetToken)
     → lines ≡ no_step (Stopped d) → o ≡ bad d
-    → record { lines = lines; taken = rows_in lines.take taken; given = rows_in lines.give given } ≡ step_rows o
+    → record { lines = lines; taken = take lines.take taken; given = take lines.give given } ≡ step_rows o
 unfolding step_rows ended_of kept_or
 rows-refused o d lines taken given e f = rw (e, f)
 
@@ -53,23 +53,23 @@ module _ (lim : Limits) (z : Sizes) (events : ℕ) (s : Text) (at : ℕ) where
     step_untaken d e = rw (fired, e)
 
     -- they are read
-    pub taking_read : (take : TokenLines) (taken : List ℕ) (x₂ : ℕ) → ReadLines take (rows_in take.count taken) (read_block (bytes "take=") lim z s x₁) x₂
-        → record { lines = record { ended = take.ended; event = event - 1; take = take.count }; taken = rows_in take.count taken }
+    pub taking_read : (lines : TokenLines) (taken : List NetToken) (x₂ : ℕ) → ReadLines lines (take lines.count taken) (read_block (bytes "take=") lim z s x₁) x₂
+        → record { lines = record { ended = lines.ended; event = event - 1; take = lines.count }; taken = take lines.count taken }
         ≡ take_rows (read_taking lim z events s at)
     unfolding read_taking then take_rows ended_of kept_or
-    taking_read take taken x₂ t = rw (fired, t.is, t.past, t.rows_are, t.number)
+    taking_read lines taken x₂ t = rw (fired, t.is, t.past, t.rows_are, t.number)
 
 -- ---- the answer taken apart, and what is given
 
 -- the lines up to what is taken were read
-pub record ReadTaking (lines : TakeLines) (rows : List Row) (o : Outcome Taking) (next : ℕ) : Type 0 where
+pub record ReadTaking (lines : TakeLines) (rows : List NetToken) (o : Outcome Taking) (next : ℕ) : Type 0 where
   pub taking : Taking
   pub is : o ≡ got taking next
   pub event-is : lines.event ≡ taking.event
   pub number : lines.take ≡ length taking.taken
-  pub rows_are : rows ≡ map token_row taking.taken
+  pub rows_are : rows ≡ map hold_token taking.taken
 
-module _ (lines : TakeLines) (rows : List Row) (o : Outcome Taking) (e : record { lines = lines; taken = rows } ≡ take_rows o) where
+module _ (lines : TakeLines) (rows : List NetToken) (o : Outcome Taking) (e : record { lines = lines; taken = rows } ≡ take_rows o) where
   taking-ended : lines.ended ≡ ended_of o
   unfolding take_rows
   taking-ended = ap (λ (r : TakeRows). r.lines.ended) e
@@ -96,18 +96,18 @@ module _ (lim : Limits) (z : Sizes) (events : ℕ) (s : Text) (at : ℕ) where
   unfolding read_step then
   step-unread d e = rw e
 
-  module _ (take : TakeLines) (taken : List ℕ) (x₁ : ℕ) (t : ReadTaking take (rows_in take.take taken) (read_taking lim z events s at) x₁) where
+  module _ (lines : TakeLines) (taken : List NetToken) (x₁ : ℕ) (t : ReadTaking lines (take lines.take taken) (read_taking lim z events s at) x₁) where
     -- a line of the given is refused
     pub step_ungiven : (d : Fault) → read_block (bytes "give=") lim z s x₁ ≡ bad d → read_step lim z events s at ≡ bad d
     unfolding read_step then
     step_ungiven d e = rw (t.is, e)
 
     -- all lines are read
-    pub step_read : (give : TokenLines) (given : List ℕ) (x₂ : ℕ) → ReadLines give (rows_in give.count given) (read_block (bytes "give=") lim z s x₁) x₂
+    pub step_read : (give : TokenLines) (given : List NetToken) (x₂ : ℕ) → ReadLines give (take give.count given) (read_block (bytes "give=") lim z s x₁) x₂
         → record {
-          lines = record { ended = give.ended; event = take.event; take = take.take; give = give.count };
-          taken = rows_in take.take taken;
-          given = rows_in give.count given;
+          lines = record { ended = give.ended; event = lines.event; take = lines.take; give = give.count };
+          taken = take lines.take taken;
+          given = take give.count given;
         }
         ≡ step_rows (read_step lim z events s at)
     unfolding read_step then step_rows ended_of kept_or

@@ -1,11 +1,12 @@
--- Laws of the loop that reads net-tokens and lays the row of each behind the others.
-use Prim.Native.Nat.{ℕ, suc, ◌+◌, ◌-◌, ◌*◌, ◌≤◌, ◌<◌}
+-- Laws of the loop that reads net-tokens and lays each behind the others.
+use Prim.Native.Nat.{ℕ, suc, ◌+◌, ◌-◌, ◌≤◌, ◌<◌}
 use mathlib.Core.Path.{◌≡◌, refl, ap, sym, ◌∙◌}
 use mathlib.Core.List.{List, [], ◌∷◌, ◌++◌, map, map-append, append-nil}
 use native.Mathlib.Omega.{arith}
 use native.Mathlib.Nat.{sub-zero}
-use lib.ListN.{length, length-append}
-use lib.Seq.{paste, append_snoc}
+use lib.ListN.{length, set, take, length-append}
+use lib.Seq.{take-suc-set, append_snoc}
+use native.Mathlib.Numerals.{add-one}
 use Rattle.text.specs.Bytes.{Text}
 use Rattle.text.specs.Lines.{Outcome, got, bad, then, many, in_range, read_number}
 use Rattle.text.specs.Repeat.{fill, filled}
@@ -14,16 +15,14 @@ use Rattle.text.specs.declared.Fault.{Fault}
 use Rattle.text.specs.declared.Ended.{Ended}
 use Rattle.text.specs.declared.Ended.TheVariants.{Past, Stopped}
 use Rattle.text.proofs.Loops.{got_of, bad_of, loop_turn, loop_bad, loop_done}
-use Rattle.text.proofs.PaddedLaws.{length-padded}
 use Rattle.eos.specs.Model as eos
 use Rattle.model.specs.Limits.{line_limit, count_limit}
-use Rattle.marking.specs.Rows.{Row, rows_in}
-use Rattle.marking.specs.Held.{Sizes, token_row}
+use Rattle.marking.specs.declared.NetToken.{NetToken}
+use Rattle.marking.specs.Held.{Sizes, hold_token}
 use Rattle.marking.specs.Reading.{Limits, limits, read_net_token, read_block}
 use Rattle.marking.proofs.BlockLaws.{Read, counted}
 use Rattle.step.specs.Answers.{TokenRows, token_rows}
 use Rattle.step.specs.declared.TokenLines.{TokenLines}
-use Rattle.step.proofs.RowsBehind.{rows_put}
 
 -- what a refusal leaves
 abbrev pub no_rows : Ended → TokenRows
@@ -48,30 +47,27 @@ module _ (lim : Limits) (z : Sizes) (s : Text) where
   abbrev reads : ℕ → Outcome eos.NetToken
   reads = read_net_token lim z s
 
-  -- i net-tokens stand in the rows, and the reading goes on at `at`
-  pub record Going (n from : ℕ) (i at : ℕ) (rows : List ℕ) : Type 0 where
+  -- i net-tokens stand in the room, and the reading goes on at `at`
+  pub record Going (n from : ℕ) (i at : ℕ) (room : List NetToken) : Type 0 where
     pub tokens : eos.Marking
     pub long : length tokens ≡ i
-    pub rows_are : rows_in i rows ≡ map token_row tokens
+    pub held : take i room ≡ map hold_token tokens
     pub left : many reads n from ≡ filled put i tokens (many reads (n - i) at)
 
   module _ (n from : ℕ) where
-    pub going_start : (rows : List ℕ) → Going n from 0 from rows
-    going_start rows = record { tokens = []; long = refl; rows_are = refl; left = rw (sub-zero n) (sym (filled_is (many reads n from))) }
+    pub going_start : (room : List NetToken) → Going n from 0 from room
+    going_start room = record { tokens = []; long = refl; held = refl; left = rw (sub-zero n) (sym (filled_is (many reads n from))) }
 
-    module _ (i at : ℕ) (rows : List ℕ) (g : Going n from i at rows) where
-      -- one more net-token is read and its row laid
-      pub going_turn : (next place : ℕ) (counts row after : List ℕ) → i < n → i * 33 + 33 ≤ length rows → Read lim z s at next place counts
-          → row ≡ place ∷ counts → after ≡ paste rows (i * 33) row 33 → Going n from (i + 1) next after
-      going_turn next place counts row after h k r e f =
-          let t = r.token in
-          let w : row ≡ token_row t = e ∙ r.row_is in
-          let m : length row ≡ 33 = ap length w ∙ ap suc (length-padded t.inside) in
+    module _ (i at : ℕ) (room : List NetToken) (g : Going n from i at room) where
+      -- one more net-token is read and laid
+      pub going_turn : (next : ℕ) (t : NetToken) → i < n → i < length room → Read lim z s at next t → Going n from (i + 1) next (set room i t)
+      going_turn next t h k r =
+          let u = r.token in
           record {
-            tokens = g.tokens ++ (t ∷ []);
-            long = omega (arith, length-append g.tokens (t ∷ []), g.long);
-            rows_are = ap (rows_in (i + 1)) f ∙ rows_put rows row i k m ∙ rw (g.rows_are, w) (sym (map-append token_row g.tokens (t ∷ [])));
-            left = g.left ∙ loop_turn put reads i n at g.tokens h t next r.is;
+            tokens = g.tokens ++ (u ∷ []);
+            long = omega (arith, length-append g.tokens (u ∷ []), g.long);
+            held = rw (add-one i, take-suc-set room i t k, g.held, r.held) (sym (map-append hold_token g.tokens (u ∷ [])));
+            left = g.left ∙ loop_turn put reads i n at g.tokens h u next r.is;
           }
 
       -- a line that is refused ends the reading
@@ -79,12 +75,12 @@ module _ (lim : Limits) (z : Sizes) (s : Text) where
       unfolding token_rows ended_of kept_or
       going_bad d h e = rw (g.left ∙ loop_bad put reads i n at g.tokens h d e)
 
-      -- after n lines the rows are theirs
-      pub going_done : i ≤ n → n ≤ i → record { lines = record { ended = Past at; count = n }; rows = rows_in n rows } ≡ token_rows (many reads n from)
+      -- after n lines the net-tokens are theirs
+      pub going_done : i ≤ n → n ≤ i → record { lines = record { ended = Past at; count = n }; rows = take n room } ≡ token_rows (many reads n from)
       unfolding token_rows ended_of kept_or
       going_done h k =
           let m : n ≡ i = omega arith in
-          rw (g.left ∙ loop_done put reads i n at g.tokens k, m, g.rows_are, g.long)
+          rw (g.left ∙ loop_done put reads i n at g.tokens k, m, g.held, g.long)
 
 -- ---- their number, and their lines
 
@@ -102,15 +98,15 @@ module _ (key : Text) (z : Sizes) (s : Text) (at : ℕ) where
 
 -- ---- their answer taken apart
 
--- net-tokens that were read: their number, and their rows
-pub record ReadLines (lines : TokenLines) (rows : List Row) (o : Outcome eos.Marking) (next : ℕ) : Type 0 where
+-- net-tokens that were read: their number, and as they are held
+pub record ReadLines (lines : TokenLines) (rows : List NetToken) (o : Outcome eos.Marking) (next : ℕ) : Type 0 where
   pub tokens : eos.Marking
   pub is : o ≡ got tokens next
   pub past : lines.ended ≡ Past next
   pub number : lines.count ≡ length tokens
-  pub rows_are : rows ≡ map token_row tokens
+  pub rows_are : rows ≡ map hold_token tokens
 
-module _ (lines : TokenLines) (rows : List Row) (o : Outcome eos.Marking) (e : record { lines = lines; rows = rows } ≡ token_rows o) where
+module _ (lines : TokenLines) (rows : List NetToken) (o : Outcome eos.Marking) (e : record { lines = lines; rows = rows } ≡ token_rows o) where
   ended_is : lines.ended ≡ ended_of o
   unfolding token_rows
   ended_is = ap (λ (r : TokenRows). r.lines.ended) e

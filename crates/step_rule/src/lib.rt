@@ -29,7 +29,12 @@ fn plus_times(sum: &mut [u64; 32], count: u8, table: &[u8; 1024], t: usize)
 }
 
 // The rows of a net's transitions added up, each as often as it is counted; the net's counts begin at `from`.
-fn summed(sync: &[u8; Event::SYNC], from: usize, table: &[u8; 1024], transitions: usize) -> [u64; 32]
+fn summed(
+    sync: &[u8; Event::SYNC],
+    from: usize,
+    table: &[u8; 1024],
+    transitions: usize,
+) -> [u64; 32]
     requires { (from + 32 ≤ length sync.now) × (transitions ≤ 32) }
     ensures { result ≡ sum_rows (λ t. nth sync.now (from + t)) (row_in 32 table.now) 0 transitions (zeros 32) }
 {

@@ -6,11 +6,11 @@ use native.Mathlib.Omega.{arith}
 use lib.ListN.{length, take, drop, length-append}
 use lib.Seq.{sets, sets-eq, length-take-le, take_at}
 use borrow.Author.Tests.{le-leb, lt-leb}
+use Rattle.std.specs.Prelude.{Ok, Err}
 use Rattle.text.specs.Bytes.{Text, lf}
 use Rattle.text.specs.Printed.{decimal, number_text}
 use Rattle.text.proofs.Standing.{ends_join}
 use Rattle.text.specs.Writing.{lay}
-use Rattle.text.specs.declared.Wrote.TheVariants.{Whole, Short}
 use Rattle.text.proofs.SetsLaws.{sets_append}
 
 -- a text laid from `at` on, and the position after it
@@ -42,12 +42,12 @@ module _ (key : Text) (n : ℕ) where
 
 -- what a writer answers and leaves: a text that fits
 pub lay-whole : (text out : List ℕ) (at : ℕ) {n : ℕ} {m : List ℕ} → at + length text ≤ length out → n ≡ at + length text → m ≡ sets out at text
-    → record { answer = Whole n; bytes = m } ≡ lay text out at
+    → record { answer = Ok n; bytes = m } ≡ lay text out at
 unfolding lay
 lay-whole text out at h p q = rw (p, q, le-leb (at + length text) (length out) h, lay)
 
 -- and one that does not
 pub lay-short : (text out : List ℕ) (at : ℕ) {n : ℕ} → length out < at + length text → n ≡ at + length text
-    → record { answer = Short n; bytes = out } ≡ lay text out at
+    → record { answer = Err (record { needed = n }); bytes = out } ≡ lay text out at
 unfolding lay
 lay-short text out at h p = rw (p, lt-leb (at + length text) (length out) h, lay)

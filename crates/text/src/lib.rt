@@ -108,9 +108,8 @@ impl Value for i16 {
     }
 }
 
-// How writing a text into a lent buffer ended: the whole text, up to this position, or not at all, and so many bytes are needed.
-#[derive(Clone, Copy)]
-pub enum Wrote {
-    Whole { end: usize },
-    Short { needed: usize },
+// A lent buffer is too small for a text: so many bytes are needed.
+#[derive(Clone, Copy, PartialEq, Eq, Debug)]
+pub struct TooSmall {
+    pub needed: usize,
 }

@@ -12,25 +12,16 @@ pub fn put_text(out: &mut [u8], at: usize, text: &[u8]) -> usize
     requires { at + length text.now ≤ length out.old }
     ensures { (result ≡ at + length text.now) × (out.new ≡ sets out.old at text.now) }
 {
-    let mut i = 0;
-    while i < text.len() {
-        out[at + i] = text[i];
-        i += 1;
-    }
-    at + text.len()
+    let end = at + text.len();
+    out[at..end].copy_from_slice(text);
+    end
 }
 
 // How many digits n has.
 pub fn width(n: u64) -> usize
     ensures { result ≡ length (decimal n) }
 {
-    let mut v = n;
-    let mut k = 1;
-    while 10 <= v {
-        v /= 10;
-        k += 1;
-    }
-    k
+    n.max(1).ilog10() as usize + 1
 }
 
 // Lays the digits of n, of which there are `width`, from `at` on: the last digit first.
@@ -39,13 +30,10 @@ fn put_digits(out: &mut [u8], at: usize, n: u64, width: usize)
     ensures { out.new ≡ sets out.old at (decimal n) }
 {
     let mut v = n;
-    let mut k = at + width - 1;
-    while 10 <= v {
-        out[k] = 48 + (v % 10) as u8;
+    for k in (at..at + width).rev() {
+        out[k] = b'0' + (v % 10) as u8;
         v /= 10;
-        k -= 1;
     }
-    out[k] = 48 + v as u8;
 }
 
 // A number in decimal.
@@ -64,14 +52,12 @@ fn put_items(out: &mut [u8], at: usize, values: &[u16]) -> usize
     ensures { (result ≡ at + length (items_text decimal values.now)) × (out.new ≡ sets out.old at (items_text decimal values.now)) }
 {
     let mut next = at;
-    let mut i = 0;
-    while i < values.len() {
-        let n = values[i] as u64;
+    for (i, value) in values.iter().enumerate() {
+        let n = *value as u64;
         let k = width(n);
         put_digits(out, next, n, k);
         out[next + k] = stop_of(values.len() - i - 1);
         next = next + k + 1;
-        i += 1;
     }
     next
 }

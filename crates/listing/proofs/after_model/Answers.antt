@@ -16,7 +16,7 @@ returns-then-not-is_accepted c =
     let a = c.args in
     c.lay_head.ensures
     ∙ ap (λ (text : Text). lay_whole text a.out.now)
-    (weights_end a.head.now a.at a.m a.k a.weights.now a.trace.now c.weights_file-check.result c.weights_file-check.ensures _ c.weight_pair-judged.ensures
+    (weights_end a.head.now a.at a.m a.k a.weights.now a.trace.now c.weights_file-check.result c.weights_file-check.ensures _ c.from-judged.ensures
     (sym c.is_accepted.ensures ∙ c.if-not-is_accepted.true) (c.put_pair-next.ensures.0, c.put_pair-next.ensures.1) (omega (arith, c.put_pair-next.ensures.2, c.requires.1)))
 
 pub returns : goal.returns
@@ -24,7 +24,7 @@ returns c =
     let a = c.args in
     c.after_weights.ensures
     ∙ ap (λ (text : Text). lay_whole text a.out.now)
-    (weights-listed a.head.now a.at a.m a.k a.weights.now a.trace.now c.weights_file-check.result c.weights_file-check.ensures _ c.weight_pair-judged.ensures
+    (weights-listed a.head.now a.at a.m a.k a.weights.now a.trace.now c.weights_file-check.result c.weights_file-check.ensures _ c.from-judged.ensures
     (sym c.is_accepted.ensures ∙ c.if-not-is_accepted.false) (c.put_pair-next.ensures.0, c.put_pair-next.ensures.1)
     (c.put_sum-cover.ensures.0, c.put_sum-cover.ensures.1) (c.put_cover-end.ensures.0, c.put_cover-end.ensures.1)
     (omega (arith, c.put_pair-next.ensures.2, c.put_sum-cover.ensures.2, c.put_cover-end.ensures.2, c.requires.1)))

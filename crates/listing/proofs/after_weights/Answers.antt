@@ -54,5 +54,5 @@ returns c =
     let a = c.args in
     c.lay_with_held.ensures
     ∙ ap (λ (text : Text). lay_whole text a.out.now)
-    (run-listed a.head.now a.at a.m a.k a.trace.now c.trace_file-ran.result c.trace_file-ran.ensures _ c.stop_pair.ensures
+    (run-listed a.head.now a.at a.m a.k a.trace.now c.trace_file-ran.result c.trace_file-ran.ensures _ c.from.ensures
     c.put_number_line-next.ensures (c.put_pair-end.ensures.0, c.put_pair-end.ensures.1) (ends (goal.at.returns c).After-put_pair-end).0)

@@ -21,15 +21,15 @@ write-wrote-requires c =
 pub put_text-requires : goal.put_text-requires
 put_text-requires c =
     let a = c.args in
-    head_room a.head.now _ _ c.write-wrote.ensures c.in-Whole.is
+    head_room a.head.now _ _ c.write-wrote.ensures c.in-Ok.is
 
-pub returns-in-Short : goal.returns-in-Short
-returns-in-Short c =
+pub returns-in-Err : goal.returns-in-Err
+returns-in-Err c =
     let a = c.args in
-    held-short a.head.now _ _ c.write-wrote.ensures c.in-Short.is ∙ by_sizes a.m a.k a.head.now a.out.now _ c.sizes.ensures
+    held-short a.head.now _ _ c.write-wrote.ensures c.in-Err.is ∙ by_sizes a.m a.k a.head.now a.out.now _ c.sizes.ensures
 
-pub returns-in-Whole : goal.returns-in-Whole
-returns-in-Whole c =
+pub returns-in-Ok : goal.returns-in-Ok
+returns-in-Ok c =
     let a = c.args in
-    held_whole a.head.now _ _ c.write-wrote.ensures c.in-Whole.is c.put_text.ensures.1
+    held_whole a.head.now _ _ c.write-wrote.ensures c.in-Ok.is c.put_text.ensures.1
     ∙ by_sizes a.m a.k a.head.now a.out.now _ c.sizes.ensures

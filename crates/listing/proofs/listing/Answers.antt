@@ -23,13 +23,13 @@ returns-then-not-is_accepted c =
     let a = c.args in
     c.lay_head.ensures
     ∙ ap (λ (text : Text). lay_whole text a.out.now)
-    (model_end (replicate 192 0) a.model.now a.weights.now a.trace.now c.model_file-read.result c.model_file-read.ensures _ c.read_pair-pair.ensures
+    (model_end (replicate 192 0) a.model.now a.weights.now a.trace.now c.model_file-read.result c.model_file-read.ensures _ c.from-pair.ensures
     (c.put_pair-at.ensures.0, c.put_pair-at.ensures.1) (omega (arith, ends (goal.at.returns-then-not-is_accepted c).After-put_pair-at)) (sym c.is_accepted.ensures ∙ c.if-not-is_accepted.true))
 
 pub after_model-requires : goal.after_model-requires
 after_model-requires c =
     let e = ends (goal.at.after_model-requires c).After-put_pair-at in (
-      model-held c.args.model.now c.model_file-read.result c.model_file-read.ensures _ c.read_pair-pair.ensures
+      model-held c.args.model.now c.model_file-read.result c.model_file-read.ensures _ c.from-pair.ensures
           (sym c.is_accepted.ensures ∙ c.if-not-is_accepted.false),
       omega (arith, e),
       omega (arith, e),
@@ -40,5 +40,5 @@ returns c =
     let a = c.args in
     c.after_model.ensures
     ∙ ap (λ (text : Text). lay_whole text a.out.now)
-    (model-listed (replicate 192 0) a.model.now a.weights.now a.trace.now c.model_file-read.result c.model_file-read.ensures _ c.read_pair-pair.ensures
+    (model-listed (replicate 192 0) a.model.now a.weights.now a.trace.now c.model_file-read.result c.model_file-read.ensures _ c.from-pair.ensures
     (c.put_pair-at.ensures.0, c.put_pair-at.ensures.1) (omega (arith, ends (goal.at.returns c).After-put_pair-at)) (sym c.is_accepted.ensures ∙ c.if-not-is_accepted.false))

@@ -1,12 +1,8 @@
--- `tokens_at` meets its contract. The loop's invariant: i net-tokens stand in the rows, in order, and the reading goes on at `at`.
-use Prim.Native.Nat.{◌≤◌, ◌-◌}
-use Rattle.marking.specs.Held.{sizes_at}
+-- `tokens_at` meets its contract. The loop's invariant: as many net-tokens are held as were read, and the reading goes on at `at`.
+use Rattle.marking.specs.Held.{as_sizes}
 use Rattle.marking.specs.Reading.{limits}
 use Rattle.marking.proofs.BlockLaws.{Going}
 use Rattle.marking_read.proofs.tokens_at.Given as goal
 
-abbrev pub invariant-loop-i : goal.invariant-loop-i
-invariant-loop-i l = (l.i ≤ l.n) × (l.n ≤ 256) × Going (limits 256 65535) (sizes_at l.places l.sizes) l.s l.n l.from l.i l.at l.rows
-
-abbrev pub decreases-loop-i : goal.decreases-loop-i
-decreases-loop-i l = l.n - l.i
+abbrev pub invariant-loop : goal.invariant-loop
+invariant-loop l = Going (limits 256 65535) (as_sizes l.z) l.s l.n l.from l.counter l.at l.marking

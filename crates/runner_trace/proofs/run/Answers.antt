@@ -1,19 +1,13 @@
 -- `run` meets its contract: 1, then 14, then the header, then the steps.
-use mathlib.Core.Path.{◌≡◌, ap, sym, subst, ◌∙◌}
+use mathlib.Core.Path.{◌≡◌, ap, sym, ◌∙◌}
 use mathlib.Core.Bool.{true}
-use lib.ListN.{length, drop}
 use Rattle.text.specs.declared.Ended.{Ended}
 use Rattle.text.proofs.Loops.{head_got, bad_of}
-use Rattle.model.specs.Held.{SizedModel}
-use Rattle.model.specs.declared.Model.{Model}
-use Rattle.model.proofs.HeldTests.{held-is}
-use Rattle.model.proofs.ModelSized.{model-sized}
-use Rattle.marking.specs.Sizes.{sizes_in}
 use Rattle.reader.specs.Answers.{held_both}
 use Rattle.reader.proofs.ReadingLaws.{both_model}
 use Rattle.runner_trace.specs.declared.Stop.{Stop}
 use Rattle.runner_trace.specs.Parts.{stop_in}
-use Rattle.runner_trace.specs.Running.{ran, run_from}
+use Rattle.runner_trace.specs.Running.{ran}
 use Rattle.runner_trace.proofs.TraceLaws.{trace_long, trace_unheld, trace_unheaded, trace_headed}
 use Rattle.runner_trace.proofs.run.Goals as goal
 use Rattle.runner_trace.proofs.run.Goals.{Else-not-test_marking}

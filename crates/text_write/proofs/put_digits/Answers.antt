@@ -1,34 +1,33 @@
-use Prim.Native.Nat.{◌+◌, ◌/◌, ◌%◌, ◌<◌}
-use mathlib.Core.Path.{◌≡◌, refl, ◌∙◌}
+use Prim.Native.Nat.{ℕ, ◌+◌, ◌-◌, ◌/◌, ◌%◌, ◌≤◌, ◌<◌}
+use mathlib.Core.Path.{◌≡◌, ◌∙◌}
 use native.Mathlib.Omega.{arith}
-use lib.ListN.{length-set}
+use lib.ListN.{length, length-set}
+use Rattle.text.specs.Printed.{decimal}
+use Rattle.text.proofs.Basics.{by_le}
 use Rattle.text.proofs.DecimalLaws.{length-positive, length-small, length_large}
 use Rattle.text.proofs.PrintedLaws.{lay_last, lay-one}
 use Rattle.text_write.proofs.put_digits.Goals as goal
 
-pub overflow_sub-k : goal.overflow_sub-k
-overflow_sub-k c = omega (arith, length-positive c.args.n)
+-- a number with one digit, and one with more
+one_digit : (v : ℕ) → length (decimal v) ≡ 1 → v < 10
+one_digit v e = by_le 10 v (λ h. absurd (omega (arith, length_large v h, length-positive (v / 10)))) (λ h. h)
 
-pub loop-v-init : goal.loop-v-init
-loop-v-init c = let w = length-positive c.args.n in (omega arith, omega arith, refl, refl)
+more-digits : (v : ℕ) → 1 < length (decimal v) → 10 ≤ v
+more-digits v h = by_le 10 v (λ h. h) (λ q. absurd (omega (arith, length-small v q)))
 
-pub overflow_sub-k-in-loop-v : goal.overflow_sub-k-in-loop-v
-overflow_sub-k-in-loop-v c = let v = c.loop-v.v in omega (arith, length_large v (omega arith), length-positive (v / 10))
-
-pub loop-v-preserved : goal.loop-v-preserved
-loop-v-preserved c =
+pub loop-k-preserved : goal.loop-k-preserved
+loop-k-preserved c =
     let a = c.args in
-    let l = c.loop-v in
-    let w = length_large l.v (omega arith) in
-    let s = length-positive (l.v / 10) in
-    let n = length-set l.out l.k (48 + l.v % 10) in
-    (omega arith, omega arith, n ∙ l.invariant.2, lay_last l.out a.at l.k l.v (omega arith) l.invariant.0 ∙ l.invariant.3)
-
-pub returns : goal.returns
-returns c =
-    let a = c.args in
-    let l = c.loop-v in
-    let h : l.v < 10 = omega arith in
-    let w = length-small l.v h in
-    let e : l.k ≡ a.at = omega arith in
-    rw e (lay-one l.out a.at l.v h ∙ l.invariant.3)
+    let l = c.loop-k in
+    let i = l.invariant in
+    let room : a.at < l.k = omega arith in
+    let long : l.k ≡ a.at + length (decimal l.v) = i.1 room in (
+      length-set l.out (l.k - 1) (48 + l.v % 10) ∙ i.0,
+      λ h. let w = length_large l.v (more-digits l.v (omega arith)) in omega arith,
+      λ h. lay_last l.out a.at (l.k - 1) l.v (more-digits l.v (omega arith)) (omega arith) ∙ i.2 room,
+      λ h.
+          let small = one_digit l.v (omega (arith, length-positive l.v)) in
+          let e : l.k - 1 ≡ a.at = omega (arith, length-positive l.v) in
+          let d : l.v % 10 ≡ l.v = omega arith in
+          rw (e, d) (lay-one l.out a.at l.v small ∙ i.2 room),
+    )

@@ -1,5 +1,5 @@
 use Prim.Native.Nat.{◌+◌}
-use mathlib.Core.Path.{◌≡◌, refl, ap, ◌∙◌}
+use mathlib.Core.Path.{◌≡◌, ap, ◌∙◌}
 use native.Mathlib.Omega.{arith}
 use lib.ListN.{length, drop, length-set}
 use Rattle.text.specs.Printed.{decimal, items_text}
@@ -13,13 +13,7 @@ further : (c : goal.After-stop_of) →
     ≡ a.at + length (items_text decimal a.values.now))
 further c =
     let a = c.args in
-    omega (arith, length-items a.values.now c.loop-i.i (omega arith), c.width-k.ensures, c.loop-i.invariant.1)
-
-pub loop-i-init : goal.loop-i-init
-loop-i-init c = (omega arith, refl, refl, refl)
-
-pub overflow_cast-n : goal.overflow_cast-n
-overflow_cast-n c = omega (arith, c.type_inv.values c.loop-i.i)
+    omega (arith, length-items a.values.now c.loop-i.i (omega arith), c.width-k.ensures, c.loop-i.invariant.0)
 
 pub put_digits-requires : goal.put_digits-requires
 put_digits-requires c =
@@ -44,10 +38,9 @@ loop-i-preserved c =
     let a = c.args in
     let w = c.width-k in
     let p = c.put_digits in (
-      omega arith,
       further c,
-      length-set p.new.out (c.loop-i.next + w.result) c.stop_of.result ∙ p.auto.out ∙ c.loop-i.invariant.2,
-      lay-item a.values.now c.loop-i.out c.loop-i.i c.loop-i.next (omega arith) w.ensures p.ensures c.stop_of.ensures ∙ c.loop-i.invariant.3,
+      length-set p.new.out (c.loop-i.next + w.result) c.stop_of.result ∙ p.auto.out ∙ c.loop-i.invariant.1,
+      lay-item a.values.now c.loop-i.out c.loop-i.i c.loop-i.next (omega arith) w.ensures p.ensures c.stop_of.ensures ∙ c.loop-i.invariant.2,
     )
 
 pub returns : goal.returns
@@ -55,4 +48,4 @@ returns c =
     let a = c.args in
     let l = c.loop-i in
     let e = items_over a.values.now l.i (omega arith) in
-    (omega (arith, ap length e), rw e at l.invariant.3)
+    (omega (arith, ap length e), rw e at l.invariant.2)

@@ -1,26 +1,20 @@
-use Prim.Native.Nat.{ℕ, ◌+◌}
-use mathlib.Core.Path.{refl, ap, ◌∙◌}
-use mathlib.Core.List.{List}
+-- `put_text` meets its contract: what was before the text, the text, and what was behind it.
+use Prim.Native.Nat.{ℕ, ◌+◌, ◌-◌, ◌≤◌}
+use mathlib.Core.Path.{◌≡◌, refl, sym, ap, ◌∙◌}
+use mathlib.Core.List.{List, ◌++◌}
 use native.Mathlib.Omega.{arith}
-use lib.ListN.{set, get_or, length-set}
-use lib.Seq.{sets, take_all}
-use Rattle.text.proofs.SetsLaws.{sets_more}
+use lib.ListN.{length, take, drop}
+use lib.Seq.{sets, sets-eq}
+use borrow.Rule.Slice.PartMut.{put_mid, Post-is}
+use Rattle.std.proofs.Common.{append_assoc}
 use Rattle.text_write.proofs.put_text.Goals as goal
 
-pub loop-i-init : goal.loop-i-init
-loop-i-init c = (omega arith, refl, refl)
-
-pub loop-i-preserved : goal.loop-i-preserved
-loop-i-preserved c =
-    let l = c.loop-i in
-    let a = c.args in (
-      omega arith,
-      length-set l.out (a.at + l.i) (get_or a.text.now l.i 0) ∙ l.invariant.1,
-      ap (λ (r : List ℕ). set r (a.at + l.i) (get_or a.text.now l.i 0)) l.invariant.2 ∙ sets_more a.out.now a.text.now a.at l.i (omega arith),
-    )
+copied : (out text part : List ℕ) (at : ℕ) → at + length text ≤ length out → part ≡ text → put_mid at (at + length text - at) out part ≡ sets out at text
+copied out text part at fits e =
+    rw e (ap (λ (l : List ℕ). take at out ++ (text ++ l)) (Post-is at (at + length text) out (omega arith))
+    ∙ sym (append_assoc (take at out) text (drop (at + length text) out)) ∙ sym (sets-eq text out at fits))
 
 pub returns : goal.returns
 returns c =
-    let l = c.loop-i in
     let a = c.args in
-    (refl, l.invariant.2 ∙ ap (λ (t : List ℕ). sets a.out.now a.at t) (take_all l.i a.text.now (omega arith)))
+    (refl, copied a.out.now a.text.now _ a.at c.requires c.copy_from_slice.ensures.after)

@@ -1,20 +1,27 @@
 -- `put_cover` meets its contract: 1 or 0.
+use Prim.Native.Nat.{◌<◌}
+use mathlib.Core.Path.{◌≡◌, refl}
+use mathlib.Core.Bool.{Bool, true, false, cond}
 use native.Mathlib.Omega.{arith}
+use mir.Val.{bool_byte}
 use Rattle.listing.proofs.ListingLines.{laid_as, cover_length, cover_is}
 use Rattle.listing.proofs.head.put_cover.Goals as goal
 
+byte_is : (b : Bool) → bool_byte b ≡ cond b 1 0
+byte_is true = refl
+byte_is false = refl
+
+one_digit : (b : Bool) → bool_byte b < 10
+one_digit true = omega arith
+one_digit false = omega arith
+
 pub put_number_line-requires : goal.put_number_line-requires
-put_number_line-requires c = omega (arith, cover_length 1 (omega arith))
-
-pub returns-then-cover : goal.returns-then-cover
-returns-then-cover c =
-    let a = c.args in
-    laid_as _ _ a.out.now a.at 8 (cover_is a.cover 1 (rw c.if-cover.true)) (cover_length 1 (omega arith)) c.put_number_line.ensures
-
-pub put_number_line-requires-2 : goal.put_number_line-requires-2
-put_number_line-requires-2 c = omega (arith, cover_length 0 (omega arith))
+put_number_line-requires c =
+    let cover = c.args.cover in
+    omega (arith, cover_length (bool_byte cover) (one_digit cover))
 
 pub returns : goal.returns
 returns c =
     let a = c.args in
-    laid_as _ _ a.out.now a.at 8 (cover_is a.cover 0 (rw c.if-cover.false)) (cover_length 0 (omega arith)) c.put_number_line-2.ensures
+    let n = bool_byte a.cover in
+    laid_as _ _ a.out.now a.at 8 (cover_is a.cover n (byte_is a.cover)) (cover_length n (one_digit a.cover)) c.put_number_line.ensures
