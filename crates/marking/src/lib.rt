@@ -7,7 +7,6 @@ ghost use Rattle.marking.specs.Tokens.{no_token, tokens_in};
 ghost use Rattle.marking.specs.Held.{no_marking, as_sizes};
 
 use model::Model;
-use text::Ended;
 
 // A net-token: its place's number, from 1, and its counts; unused room is 0. The derived order, by place and then by counts from the first
 // on, is the canonical order of a marking.
@@ -76,11 +75,4 @@ impl PlaceSizes {
         let at = place.saturating_sub(1) as usize;
         self.sizes.get(at).map_or(0, |size| *size as usize)
     }
-}
-
-// How the reading of net-tokens ended, and the net-tokens; a refusal holds none.
-#[derive(Clone, Copy)]
-pub struct Block {
-    pub ended: Ended,
-    pub marking: Marking,
 }

@@ -57,7 +57,7 @@ unfolding read_lines model_text right_loaded marking_text need
 lines_exactly s =
     exactly_by
     (first_makes (plant_exactly s)
-    (λ m. last_makes (block_exactly bounds (sizes_of m) s (bytes "start=")) (λ μ. true) 0 (λ μ. record { model = m; start = μ }) (λ l. l.start) (λ μ h. refl))
+    (λ m. last_makes (block_exactly bounds (sizes_of m) s (bytes "start=")) (λ μ. true) Syntax (λ μ. record { model = m; start = μ }) (λ l. l.start) (λ μ h. refl))
     (λ l. l.model) (λ m l h r. ap (λ (l : Loaded). l.model) r.2))
     (λ l h. and_both (right_model l.model) _ h.0 h.1.0)
     (λ l h. let p = and_true (right_model l.model) _ h in (p.0, (p.1, refl, refl)))

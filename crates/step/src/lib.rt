@@ -6,7 +6,6 @@ ghost use Rattle.step.specs.Rule.{no_sides, no_rule};
 ghost use Rattle.step.specs.Verdict.{number_of};
 
 use model::Model;
-use text::Ended;
 
 // One side of an event: how many net-tokens it has on each place, and how many tokens on each place of each object net; the number of
 // place i of net n stands at n * 32 + i. Unused room is 0.
@@ -83,25 +82,16 @@ pub struct Refusal {
     pub beside: usize,
 }
 
-// How the reading of net-tokens ended, and how many were read; a refusal has none.
-#[derive(Clone, Copy)]
-pub struct TokenLines {
-    pub ended: Ended,
-    pub count: usize,
-}
-
-// How the reading of a step up to what it takes ended, its event, from 0, and how many net-tokens it takes; a refusal has none.
+// What the lines of a step say up to those that it takes: its event, from 0, and how many net-tokens it takes.
 #[derive(Clone, Copy)]
 pub struct TakeLines {
-    pub ended: Ended,
     pub event: usize,
     pub take: usize,
 }
 
-// How the reading of a step ended, its event, from 0, and how many net-tokens it takes and gives; a refusal has none.
+// What the lines of a step say: its event, from 0, and how many net-tokens it takes and gives.
 #[derive(Clone, Copy)]
 pub struct StepLines {
-    pub ended: Ended,
     pub event: usize,
     pub take: usize,
     pub give: usize,
