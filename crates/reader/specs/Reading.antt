@@ -2,13 +2,13 @@
 use Rattle.std.specs.Prelude.{ℕ, Bool, ◌&&◌, leb, length}
 use Rattle.text.specs.Bytes.{Text, bytes}
 use Rattle.text.specs.Lines.{Outcome, got, then, need}
+use Rattle.text.specs.declared.Cause.TheVariants.{Syntax}
 use Rattle.eos.specs.Model as eos
 use Rattle.model.specs.Limits.{line_limit, count_limit}
 use Rattle.model.specs.Rules.{right_model}
 use Rattle.model_text.specs.Reading.{read_plant}
 use Rattle.marking.specs.Held.{Sizes, sizes_of}
 use Rattle.marking.specs.Reading.{Limits, limits, read_block, right_block}
-use Rattle.text.specs.declared.Cause.TheVariants.{Syntax}
 
 -- 01's limits on the token lines of a block and on a count
 abbrev pub bounds : Limits
