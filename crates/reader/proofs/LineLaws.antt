@@ -24,14 +24,15 @@ use Rattle.model_text.specs.Reading.{read_plant}
 use Rattle.model_text.specs.Answers.{reading_of}
 use Rattle.model_text.specs.declared.Reading.{Reading}
 use Rattle.model_text.proofs.PlantExactly.{plant_exactly}
-use Rattle.marking.specs.Held.{Sizes, sizes_of, Roomy, no_marking}
+use Rattle.marking.specs.Held.{Sizes, sizes_of, as_sizes, Roomy, no_marking}
+use Rattle.marking.specs.Sizes.{place_sizes}
 use Rattle.marking.specs.Reading.{read_block}
 use Rattle.marking.specs.Answers.{block_of}
 use Rattle.marking.specs.declared.Marking.{Marking}
 use Rattle.marking.specs.declared.Block.{Block}
 use Rattle.marking.proofs.SizeLaws.{held_roomy, sizes_same}
 use Rattle.reader.specs.Reading.{bounds, Loaded, read_end, read_lines, read_model_at, read_marking_at}
-use Rattle.reader.specs.Parts.{as_sizes, place_sizes, sizes_where, sizes_behind, Readied, to_end, model_lines_of, no_lines, joined_lines}
+use Rattle.reader.specs.Parts.{sizes_where, sizes_behind, Readied, to_end, model_lines_of, no_lines, joined_lines}
 
 -- ---- net-tokens to the end of the text
 
@@ -66,7 +67,7 @@ where_roomy : (e : Ended) (m : Model) → ((next : ℕ) → e ≡ Past next → 
 where_roomy (Past next) m h = held_roomy m (h next refl)
 where_roomy (Stopped e) m h = λ p. omega (arith, nth-zeros 32 (p - 1))
 
--- a row has room for them
+-- there is room for them
 pub behind_roomy : (p : Reading) → Readied p → Roomy (as_sizes (sizes_behind p))
 unfolding sizes_behind
 behind_roomy p h = where_roomy p.ended p.model h

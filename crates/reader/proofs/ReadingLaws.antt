@@ -1,8 +1,7 @@
 -- What the calls that read and test answer, by how their parts ended.
-use Prim.Native.Nat.{ℕ, ◌≤◌, ◌<◌}
+use Prim.Native.Nat.{◌≤◌, ◌<◌}
 use mathlib.Core.Path.{◌≡◌, refl, ◌∙◌}
 use mathlib.Core.Bool.{Bool, true, false}
-use mathlib.Core.List.{List}
 use lib.ListN.{length}
 use borrow.Author.Tests.{le-leb, lt-leb}
 use Rattle.text.specs.Bytes.{Text}
@@ -13,27 +12,23 @@ use Rattle.eos.specs.Model as eos
 use Rattle.model.specs.Limits.{room_limit, longest}
 use Rattle.model.specs.Test.{held_model}
 use Rattle.model.specs.declared.Model.{Model}
-use Rattle.marking.specs.Held.{sizes_at, Roomy, held_marking}
-use Rattle.marking.specs.Sizes.{sizes_in, sizes_for}
+use Rattle.marking.specs.Held.{as_sizes, Roomy, held_marking}
+use Rattle.marking.specs.Sizes.{place_sizes, sizes_for}
 use Rattle.marking.specs.Answers.{block_of}
 use Rattle.marking.specs.declared.Marking.{Marking}
 use Rattle.marking.specs.declared.Block.{Block}
 use Rattle.marking.proofs.SizeLaws.{held_roomy}
 use Rattle.reader.specs.Reading.{Loaded, read_model, read_marking}
 use Rattle.reader.specs.Answers.{no_reading, loaded, no_tokens, restored, held_both, model_reading, marking_or, marking_reading, held_in}
-use Rattle.reader.specs.Parts.{answer_of, as_sizes, place_sizes, model_lines_of}
+use Rattle.reader.specs.Parts.{answer_of, model_lines_of}
 use Rattle.reader.specs.declared.ReadAnswer.{ReadAnswer}
 use Rattle.reader.specs.declared.ReadAnswer.TheVariants.{TooLong, NotHeld}
 use Rattle.reader.specs.declared.ModelLines.{ModelLines}
-use Rattle.reader.specs.declared.PlaceSizes.{PlaceSizes}
+use Rattle.marking.specs.declared.PlaceSizes.{PlaceSizes}
 
--- ---- a held model's sizes leave room in a row
-module _ (m : Model) (h : held_model m ≡ true) where
-  pub roomy_of : (z : List ℕ) → z ≡ sizes_in m → Roomy (sizes_at m.places z)
-  roomy_of z e = rw e (held_roomy m h)
-
-  pub sizes_roomy : (z : PlaceSizes) → z ≡ place_sizes m → Roomy (as_sizes z)
-  sizes_roomy z e = rw e (held_roomy m h)
+-- there is room for the counts of a held model's net-tokens
+pub sizes_roomy : (m : Model) → held_model m ≡ true → (z : PlaceSizes) → z ≡ place_sizes m → Roomy (as_sizes z)
+sizes_roomy m h z e = rw e (held_roomy m h)
 
 -- ---- the test of a marking
 module _ (m : Model) (k : Marking) where
@@ -43,7 +38,7 @@ module _ (m : Model) (k : Marking) where
   both_unheld h = rw h
 
   -- the model is held, and the marking is tested
-  pub both_held : held_model m ≡ true → (z : List ℕ) → z ≡ sizes_in m → (t : Bool) → t ≡ held_marking room_limit (sizes_at m.places z) k → t ≡ held_both m k
+  pub both_held : held_model m ≡ true → (z : PlaceSizes) → z ≡ place_sizes m → (t : Bool) → t ≡ held_marking room_limit (as_sizes z) k → t ≡ held_both m k
   unfolding held_in
   both_held h z e t f = f ∙ rw (h, e)
 

@@ -11,8 +11,9 @@ use Rattle.model.specs.Held.{hold_model, no_model}
 use Rattle.model.specs.Test.{held_model}
 use Rattle.model.specs.declared.Model.{Model}
 use Rattle.model_text.specs.declared.Reading.{Reading}
-use Rattle.marking.specs.Held.{Sizes, sizes_at, hold_marking, no_marking}
-use Rattle.marking.specs.Sizes.{sizes_in}
+use Rattle.marking.specs.Held.{hold_marking, no_marking}
+use Rattle.marking.specs.Sizes.{place_sizes}
+use Rattle.marking.specs.declared.PlaceSizes.{PlaceSizes}
 use Rattle.marking.specs.declared.Marking.{Marking}
 use Rattle.marking.specs.declared.Block.{Block}
 use Rattle.reader.specs.Reading.{Loaded}
@@ -20,7 +21,6 @@ use Rattle.reader.specs.Answers.{faulty}
 use Rattle.reader.specs.declared.ReadAnswer.{ReadAnswer}
 use Rattle.reader.specs.declared.ReadAnswer.TheVariants.{Accepted}
 use Rattle.reader.specs.declared.ModelLines.{ModelLines}
-use Rattle.reader.specs.declared.PlaceSizes.{PlaceSizes}
 
 -- how the reading of a text ended
 abbrev pub answer_of : Text → Ended → ReadAnswer
@@ -28,13 +28,6 @@ answer_of s (Past next) = Accepted
 answer_of s (Stopped e) = faulty s e
 
 -- ---- how many counts the net-tokens have
-
-abbrev pub as_sizes : PlaceSizes → Sizes
-as_sizes z = sizes_at z.places z.sizes
-
--- those of a held model
-abbrev pub place_sizes : Model → PlaceSizes
-place_sizes m = record { places = m.places; sizes = sizes_in m }
 
 -- those of a model whose lines ended so
 abbrev pub sizes_where : Ended → Model → PlaceSizes

@@ -6,9 +6,9 @@ ghost use Rattle.model.specs.Test.{held_model};
 ghost use Rattle.reader.specs.Parts.{answer_of};
 ghost use Rattle.reader.specs.Answers.{no_reading, model_reading, no_tokens, marking_reading, held_both, written_as, marking_writing};
 
-use lines::{marking_lines, model_lines, place_sizes};
+use lines::{marking_lines, model_lines};
 use marking::Marking;
-use marking_test::sizes;
+use marking_test::place_sizes;
 use marking_write::write;
 use model::Model;
 use text::{Ended, Spot, TooSmall};
@@ -46,13 +46,6 @@ pub struct ModelLines {
     pub ended: Ended,
     pub model: Model,
     pub start: Marking,
-}
-
-// How many places there are, and how many counts the net-tokens of each have.
-#[derive(Clone, Copy)]
-pub struct PlaceSizes {
-    pub places: u16,
-    pub sizes: [u8; 32],
 }
 
 // How writing a text into lent bytes ended.
@@ -115,16 +108,16 @@ fn no_tokens(answer: ReadAnswer) -> MarkingReading
 }
 
 // Reads the text of a marking of a held model.
-pub fn read_marking(m: Model, s: &[u8]) -> MarkingReading
-    ensures { result ≡ marking_reading m s.now }
+pub fn read_marking(m: &Model, s: &[u8]) -> MarkingReading
+    ensures { result ≡ marking_reading m.now s.now }
 {
     if Model::LONGEST < s.len() {
         return no_tokens(ReadAnswer::TooLong);
     }
-    if !model_test::is_held(&m) {
+    if !model_test::is_held(m) {
         return no_tokens(ReadAnswer::NotHeld);
     }
-    let lines = marking_lines(place_sizes(m), s);
+    let lines = marking_lines(&place_sizes(m), s);
     let ended = lines.ended;
     let marking = lines.marking;
     MarkingReading {
@@ -141,13 +134,13 @@ pub fn test_model(m: &Model) -> bool
 }
 
 // Whether m is held as a model is, and k as a marking of it.
-pub fn test_marking(m: &Model, k: Marking) -> bool
-    ensures { result ≡ held_both m.now k }
+pub fn test_marking(m: &Model, k: &Marking) -> bool
+    ensures { result ≡ held_both m.now k.now }
 {
     if !model_test::is_held(m) {
         return false;
     }
-    marking_test::is_held(k, m.places as u16, sizes(*m))
+    marking_test::is_held(k, &place_sizes(m))
 }
 
 // The answer for how the writing of a text ended.
@@ -161,11 +154,11 @@ fn written_as(wrote: Result<usize, TooSmall>) -> WriteAnswer
 }
 
 // Writes the text of a held marking of a held model: whole, or no byte of it.
-pub fn write_marking(m: Model, k: Marking, out: &mut [u8]) -> WriteAnswer
-    ensures { record { answer = result; bytes = out.new } ≡ marking_writing m k out.old }
+pub fn write_marking(m: &Model, k: &Marking, out: &mut [u8]) -> WriteAnswer
+    ensures { record { answer = result; bytes = out.new } ≡ marking_writing m.now k.now out.old }
 {
-    if !test_marking(&m, k) {
+    if !test_marking(m, k) {
         return WriteAnswer::Unheld;
     }
-    written_as(write(k, m.places as u16, sizes(m), b"start=", out, 0))
+    written_as(write(k, &place_sizes(m), b"start=", out, 0))
 }

@@ -4,49 +4,36 @@ ghost use Rattle.std.specs.Prelude.{◌≡◌, true};
 ghost use Rattle.model.specs.Test.{held_model};
 ghost use Rattle.model_text.specs.Reading.{read_plant};
 ghost use Rattle.model_text.specs.Answers.{reading_of};
-ghost use Rattle.marking.specs.Held.{Roomy};
+ghost use Rattle.marking.specs.Held.{as_sizes, Roomy};
 ghost use Rattle.marking.specs.Reading.{read_block};
 ghost use Rattle.marking.specs.Answers.{block_of};
 ghost use Rattle.text.specs.Bytes.{bytes};
 ghost use Rattle.text_reader.specs.Place.{reached};
 ghost use Rattle.reader.specs.Reading.{bounds, read_model_at, read_model, read_marking_at, read_marking};
-ghost use Rattle.reader.specs.Parts.{as_sizes, place_sizes, sizes_behind, Readied, to_end, model_lines_of, no_lines, joined_lines};
+ghost use Rattle.reader.specs.Parts.{sizes_behind, Readied, to_end, model_lines_of, no_lines, joined_lines};
 
-use super::{ModelLines, PlaceSizes};
-use marking::{Block, Marking};
+use super::ModelLines;
+use marking::{Block, Marking, PlaceSizes};
 use marking_read::block_at;
-use marking_test::sizes;
+use marking_test::place_sizes;
 use model::Model;
 use model_read::read_plant;
 use model_text::Reading;
 use text::Ended;
 use text_reader::{Reader, closed, reached};
 
-// How many counts the net-tokens of a held model have.
-pub fn place_sizes(m: Model) -> PlaceSizes
-    requires { held_model m ≡ true }
-    ensures { result ≡ place_sizes m }
-{
-    let sizes = sizes(m);
-    PlaceSizes {
-        places: m.places as u16,
-        sizes,
-    }
-}
-
 // The lines of net-tokens from `at` on.
-fn tokens_at(z: PlaceSizes, s: &[u8], at: usize) -> Block
-    requires { Roomy (as_sizes z) }
-    ensures { result ≡ block_of (read_block (bytes "start=") bounds (as_sizes z) s.now at) }
+fn tokens_at(z: &PlaceSizes, s: &[u8], at: usize) -> Block
+    requires { Roomy (as_sizes z.now) }
+    ensures { result ≡ block_of (read_block (bytes "start=") bounds (as_sizes z.now) s.now at) }
 {
-    let sizes = z.sizes;
-    block_at(s, at, b"start=", Model::LINES, z.places, sizes)
+    block_at(s, at, b"start=", Model::LINES, z)
 }
 
 // The lines of net-tokens from the place that the reader has reached.
-fn tokens_from<'a>(z: PlaceSizes, r: Reader<'a>) -> Block
-    requires { Roomy (as_sizes z) }
-    ensures { result ≡ block_of (read_block (bytes "start=") bounds (as_sizes z) r.entry.src.now r.entry.at) }
+fn tokens_from<'a>(z: &PlaceSizes, r: Reader<'a>) -> Block
+    requires { Roomy (as_sizes z.now) }
+    ensures { result ≡ block_of (read_block (bytes "start=") bounds (as_sizes z.now) r.entry.src.now r.entry.at) }
 {
     tokens_at(z, r.src, r.at)
 }
@@ -81,18 +68,18 @@ fn end_from<'a>(b: Block, r: Reader<'a>) -> Block
 }
 
 // The lines of net-tokens from the place that the reader has reached, to the end of the text.
-fn start_from<'a>(z: PlaceSizes, r: Reader<'a>) -> Block
-    requires { Roomy (as_sizes z) }
-    ensures { result ≡ block_of (read_marking_at (as_sizes z) r.entry.src.now r.entry.at) }
+fn start_from<'a>(z: &PlaceSizes, r: Reader<'a>) -> Block
+    requires { Roomy (as_sizes z.now) }
+    ensures { result ≡ block_of (read_marking_at (as_sizes z.now) r.entry.src.now r.entry.at) }
 {
     let b = tokens_from(z, r);
     end_from(b, r.moved(tokens_end(b)))
 }
 
 // The lines of a marking: its whole text.
-pub fn marking_lines(z: PlaceSizes, s: &[u8]) -> Block
-    requires { Roomy (as_sizes z) }
-    ensures { result ≡ block_of (read_marking (as_sizes z) s.now) }
+pub fn marking_lines(z: &PlaceSizes, s: &[u8]) -> Block
+    requires { Roomy (as_sizes z.now) }
+    ensures { result ≡ block_of (read_marking (as_sizes z.now) s.now) }
 {
     start_from(z, Reader { src: s, at: 0 })
 }
@@ -124,7 +111,7 @@ fn sizes_behind(read: Reading) -> PlaceSizes
             sizes: [0u8; 32],
         };
     };
-    place_sizes(read.model)
+    place_sizes(&read.model)
 }
 
 // No model and no net-token, and how the reading ended.
@@ -166,7 +153,7 @@ fn loaded_from<'a>(read: Reading, r: Reader<'a>) -> ModelLines
     requires { Readied read }
     ensures { result ≡ joined_lines read (block_of (read_marking_at (as_sizes (sizes_behind read)) r.entry.src.now r.entry.at)) }
 {
-    loaded_of(read, start_from(sizes_behind(read), r))
+    loaded_of(read, start_from(&sizes_behind(read), r))
 }
 
 // The lines of a model with its start from the place that the reader has reached, to the end of the text.

@@ -5,9 +5,10 @@ use Rattle.text_reader.specs.Place.{reached}
 use Rattle.text_reader.proofs.ReaderLaws.{in_turn}
 use Rattle.model_text.specs.Reading.{read_plant}
 use Rattle.model_text.specs.Answers.{reading_of}
+use Rattle.marking.specs.Held.{as_sizes}
 use Rattle.marking.specs.Answers.{block_of}
 use Rattle.reader.specs.Reading.{read_marking_at}
-use Rattle.reader.specs.Parts.{as_sizes, sizes_behind, joined_lines}
+use Rattle.reader.specs.Parts.{sizes_behind, joined_lines}
 use Rattle.reader.proofs.LineLaws.{lines-joined, plant_readied}
 use Rattle.reader.proofs.lines.model_from.Goals as goal
 
