@@ -9,22 +9,22 @@ use Rattle.text.specs.declared.Fault.{Fault}
 use Rattle.text.specs.declared.Ended.TheVariants.{Past, Stopped}
 use Rattle.text.proofs.Loops.{got_of, bad_of}
 use Rattle.eos.specs.Firing.{Step}
-use Rattle.marking.specs.Rows.{Row}
-use Rattle.marking.specs.Held.{token_row}
+use Rattle.marking.specs.declared.NetToken.{NetToken}
+use Rattle.marking.specs.Held.{hold_token}
 use Rattle.step.specs.Answers.{StepRows, step_rows}
 use Rattle.step.specs.declared.StepLines.{StepLines}
 
--- a step that was read: its event, and the rows of its net-tokens
-pub record ReadRows (lines : StepLines) (taken given : List Row) (o : Outcome Step) (next : ℕ) : Type 0 where
+-- a step that was read: its event, and its net-tokens as they are held
+pub record ReadTokens (lines : StepLines) (taken given : List NetToken) (o : Outcome Step) (next : ℕ) : Type 0 where
   pub step : Step
   pub is : o ≡ got step next
   pub event-is : lines.event ≡ step.event
   pub take-is : lines.take ≡ length step.taken
   pub give_is : lines.give ≡ length step.given
-  pub taken_are : taken ≡ map token_row step.taken
-  pub given_are : given ≡ map token_row step.given
+  pub taken_are : taken ≡ map hold_token step.taken
+  pub given_are : given ≡ map hold_token step.given
 
-module _ (lines : StepLines) (taken given : List Row) (o : Outcome Step) (e : record { lines = lines; taken = taken; given = given } ≡ step_rows o) where
+module _ (lines : StepLines) (taken given : List NetToken) (o : Outcome Step) (e : record { lines = lines; taken = taken; given = given } ≡ step_rows o) where
   ended_is : lines.ended ≡ ended_of o
   unfolding step_rows
   ended_is = ap (λ (r : StepRows). r.lines.ended) e
@@ -32,7 +32,7 @@ module _ (lines : StepLines) (taken given : List Row) (o : Outcome Step) (e : re
   pub lines-bad : (d : Fault) → lines.ended ≡ Stopped d → o ≡ bad d
   lines-bad d k = bad_of o lines.ended d ended_is k
 
-  pub lines-got : (next : ℕ) → lines.ended ≡ Past next → ReadRows lines taken given o next
+  pub lines-got : (next : ℕ) → lines.ended ≡ Past next → ReadTokens lines taken given o next
   unfolding step_rows ended_of kept_or
   lines-got next k =
       let g = got_of o lines.ended next ended_is k in

@@ -21,7 +21,7 @@ use Rattle.runner_trace.specs.declared.Stop.{Stop}
 use Rattle.runner_trace.specs.declared.Stop.TheVariants.{AtEnd}
 use Rattle.runner_trace.specs.declared.Turn.{Turn}
 use Rattle.runner_trace.specs.declared.Turn.TheVariants.{On, Off}
-use Rattle.runner_trace.specs.Parts.{turn_of, TurnFits, Come, marking_in, reached, turned, turn_at}
+use Rattle.runner_trace.specs.Parts.{turn_of, TurnFits, Come, reached, turned, turn_at}
 use Rattle.runner_trace.specs.Running.{stopped_by, ran, run_from}
 use Rattle.runner_trace.proofs.TraceSteps.{turn_on, turn_off, fired_on, fired_uses, run_end, run-fires, run-stops}
 
@@ -33,22 +33,22 @@ rest-left s at = take_all (length s - at) (drop at s) (omega (arith, length-drop
 
 module _ (m : Model) (s : Text) (at : ℕ) (c : Come) where
   -- the text is at its end
-  pub turn_ends : length s ≤ at → turned at c.far.fired (marking_in c) (Off AtEnd) ≡ turn_at m s at c
+  pub turn_ends : length s ≤ at → turned at c.far.fired c.marking (Off AtEnd) ≡ turn_at m s at c
   unfolding turn_at
   turn_ends h = rw (le-leb (length s) at h, turn_at)
 
-  module _ (more : at < length s) (r : Stepped) (is : r ≡ held_step room_limit m (marking_in c) (drop at s)) where
+  module _ (more : at < length s) (r : Stepped) (is : r ≡ held_step room_limit m c.marking (drop at s)) where
     -- a step is tried
     pub turn_steps : (t : Turn) → t ≡ turn_of r.answer → turned at c.far.fired r.marking t ≡ turn_at m s at c
     unfolding turn_at
     turn_steps t e = rw (lt-leb (length s) at more, turn_at, e, is)
 
     -- one that fires uses at least one byte, and no more than there are
-    pub turn_fires : (used : ℕ) → turn_of r.answer ≡ On used → (held_step room_limit m (marking_in c) (drop at s)).answer ≡ Fired used
+    pub turn_fires : (used : ℕ) → turn_of r.answer ≡ On used → (held_step room_limit m c.marking (drop at s)).answer ≡ Fired used
     turn_fires used e = ap (λ (r : Stepped). r.answer) (sym is) ∙ turn_on r.answer used e
 
     pub turn_uses : (used : ℕ) → turn_of r.answer ≡ On used → (1 ≤ used) × (at + used ≤ length s)
-    turn_uses used e = let u = fired_uses m (marking_in c) (drop at s) used (turn_fires used e) in (u.some_byte, omega (arith, u.within, length-drop at s))
+    turn_uses used e = let u = fired_uses m c.marking (drop at s) used (turn_fires used e) in (u.some_byte, omega (arith, u.within, length-drop at s))
 
     -- and the turn's sums fit
     pub turn_fits : length s ≤ longest → c.far.fired ≤ at → (t : Turn) → t ≡ turn_of r.answer → TurnFits at c.far.fired t
@@ -59,9 +59,9 @@ module _ (m : Model) (s : Text) (at : ℕ) (c : Come) where
 
 -- so many steps have fired, and the run from `from` goes on at the place reached
 pub record Going (m : Model) (k : Marking) (s : Text) (from : ℕ) (c : Come) : Type 0 where
-  pub kept : Keeps m (marking_in c)
+  pub kept : Keeps m c.marking
   pub behind : c.far.fired ≤ c.far.at
-  pub left : run_from (length s) m k (drop from s) 0 from ≡ run_from (length s - c.far.fired) m (marking_in c) (drop c.far.at s) c.far.fired c.far.at
+  pub left : run_from (length s) m k (drop from s) 0 from ≡ run_from (length s - c.far.fired) m c.marking (drop c.far.at s) c.far.fired c.far.at
 
 -- a run on its way goes on, and one that is not has its answer
 pub record Standing (m : Model) (k : Marking) (s : Text) (from : ℕ) (c : Come) : Type 0 where
@@ -95,10 +95,10 @@ module _ (m : Model) (k : Marking) (s : Text) (from : ℕ) where
     fired = c.far.fired
 
     -- the text is at its end
-    going_done : length s ≤ at → reached (turned at fired (marking_in c) (Off AtEnd)) ≡ run_from (length s) m k (drop from s) 0 from
-    going_done h = sym (g.left ∙ run_end (length s - fired) m (marking_in c) fired at (drop at s) (omega (arith, length-drop at s)))
+    going_done : length s ≤ at → reached (turned at fired c.marking (Off AtEnd)) ≡ run_from (length s) m k (drop from s) 0 from
+    going_done h = sym (g.left ∙ run_end (length s - fired) m c.marking fired at (drop at s) (omega (arith, length-drop at s)))
 
-    module _ (more : at < length s) (r : Stepped) (is : r ≡ held_step room_limit m (marking_in c) (drop at s)) where
+    module _ (more : at < length s) (r : Stepped) (is : r ≡ held_step room_limit m c.marking (drop at s)) where
       some_left : 0 < length (drop at s)
       some_left = omega (arith, length-drop at s)
 
@@ -110,10 +110,10 @@ module _ (m : Model) (k : Marking) (s : Text) (from : ℕ) where
       going_turn used e =
           let u = turn_uses m s at c more r is used e in
           record {
-            kept = subst (λ (r : Stepped). Keeps m r.marking) (sym is) (step_keeps m (marking_in c) g.kept (drop at s));
+            kept = subst (λ (r : Stepped). Keeps m r.marking) (sym is) (step_keeps m c.marking g.kept (drop at s));
             behind = omega (arith, g.behind, u.0);
-            left = g.left ∙ ap (λ (i : ℕ). run_from i m (marking_in c) (drop at s) fired at) fuel_is
-                ∙ run-fires (length s - (fired + 1)) m (marking_in c) fired at (drop at s) some_left used (turn_fires m s at c more r is used e)
+            left = g.left ∙ ap (λ (i : ℕ). run_from i m c.marking (drop at s) fired at) fuel_is
+                ∙ run-fires (length s - (fired + 1)) m c.marking fired at (drop at s) some_left used (turn_fires m s at c more r is used e)
                 ∙ ap₂ (λ (r : Stepped) (l : Text). run_from (length s - (fired + 1)) m r.marking l (fired + 1) (at + used)) (sym is) (drop-drop used at s);
           }
 
@@ -121,8 +121,8 @@ module _ (m : Model) (k : Marking) (s : Text) (from : ℕ) where
       going_stop : (a : Stop) → turn_of r.answer ≡ Off a → reached (turned at fired r.marking (Off a)) ≡ run_from (length s) m k (drop from s) 0 from
       going_stop a e =
           let f = turn_off r.answer a e in
-          sym (g.left ∙ ap (λ (i : ℕ). run_from i m (marking_in c) (drop at s) fired at) fuel_is
-          ∙ run-stops (length s - (fired + 1)) m (marking_in c) fired at (drop at s) some_left
+          sym (g.left ∙ ap (λ (i : ℕ). run_from i m c.marking (drop at s) fired at) fuel_is
+          ∙ run-stops (length s - (fired + 1)) m c.marking fired at (drop at s) some_left
           (λ n h. fired_on r.answer a n e (ap (λ (r : Stepped). r.answer) is ∙ h))
           ∙ ap (λ (r : Stepped). ran fired at (stopped_by r.answer) r.marking) (sym is)
           ∙ ap (λ (b : Stop). ran fired at b r.marking) f)
@@ -135,7 +135,7 @@ module _ (m : Model) (k : Marking) (s : Text) (from : ℕ) where
     turned_so =
         by_index (length s) at
         (λ more.
-        let r = held_step room_limit m (marking_in c) (drop at s) in
+        let r = held_step room_limit m c.marking (drop at s) in
         by_turned (turn_of r.answer)
         (λ used e.
         let u = turn_uses m s at c more r refl used e in
@@ -150,5 +150,5 @@ module _ (m : Model) (k : Marking) (s : Text) (from : ℕ) where
       (f.0, subst (λ (b : Bool). turns_left s d < turns_in b (length s - c.far.at)) (sym on) f.1)
 
 -- at the start
-pub standing_start : (m : Model) (s : Text) (c : Come) → Keeps m (marking_in c) → c.far.on ≡ true → c.far.fired ≡ 0 → Standing m (marking_in c) s c.far.at c
-standing_start m s c h on none = goes_on m (marking_in c) s c.far.at c on (record { kept = h; behind = omega (arith, none); left = rw (none, sub-zero (length s)) })
+pub standing_start : (m : Model) (s : Text) (c : Come) → Keeps m c.marking → c.far.on ≡ true → c.far.fired ≡ 0 → Standing m c.marking s c.far.at c
+standing_start m s c h on none = goes_on m c.marking s c.far.at c on (record { kept = h; behind = omega (arith, none); left = rw (none, sub-zero (length s)) })

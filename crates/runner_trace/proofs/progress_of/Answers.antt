@@ -17,7 +17,7 @@ pub overflow_add-result-in-On : goal.overflow_add-result-in-On
 overflow_add-result-in-On c = omega (arith, (fits c).1)
 
 pub returns-in-On : goal.returns-in-On
-returns-in-On c = let a = c.args in ap (progress_of a.at a.fired a.len) (sym c.in-On.is)
+returns-in-On c = let a = c.args in ap (progress_of a.at a.fired) (sym c.in-On.is)
 
 pub returns-in-Off : goal.returns-in-Off
-returns-in-Off c = let a = c.args in ap (progress_of a.at a.fired a.len) (sym c.in-Off.is)
+returns-in-Off c = let a = c.args in ap (progress_of a.at a.fired) (sym c.in-Off.is)

@@ -30,11 +30,11 @@ returns-in_default c =
     ∙ ap (λ (x : Ended). ran 0 0 (stop_in c.args.s.now x) k) c.in_default.is
     ∙ trace_unheaded _ _ _ c.if-s-gt-LONGEST.false (passed (goal.at.returns-in_default c).Else-not-test_marking) _ (bad_of _ _ _ c.head_line-head.ensures c.in_default.is)
 
-pub sizes-requires : goal.sizes-requires
-sizes-requires c = both_model _ _ (passed (goal.at.sizes-requires c).Else-not-test_marking)
+pub place_sizes-requires : goal.place_sizes-requires
+place_sizes-requires c = both_model _ _ (passed (goal.at.place_sizes-requires c).Else-not-test_marking)
 
 pub run_steps-requires : goal.run_steps-requires
-run_steps-requires c = (passed (goal.at.run_steps-requires c).Else-not-test_marking, c.sizes.ensures, c.if-s-gt-LONGEST.false)
+run_steps-requires c = (passed (goal.at.run_steps-requires c).Else-not-test_marking, c.place_sizes.ensures, c.if-s-gt-LONGEST.false)
 
 pub returns : goal.returns
 returns c =

@@ -11,7 +11,7 @@ loop-p-init c =
     record {
       src_kept = refl;
       at_reached = refl;
-      stands = standing_start c.args.m.now c.args.s.now (record { far = c.args.from; rows = c.args.rows.now }) (record { held = h.0.held; long = h.0.rows_long }) h.1 h.2;
+      stands = standing_start c.args.m.now c.args.s.now (record { far = c.args.from; marking = c.args.k.now }) (record { held = h.0.held; long = h.0.long }) h.1 h.2;
     }
 
 pub turn_from-p-requires : goal.turn_from-p-requires
@@ -20,17 +20,17 @@ turn_from-p-requires c =
     let i = c.loop-p.invariant in
     let g = i.stands.going c.loop-p-test.true in
     rw (i.src_kept, i.at_reached)
-    (record { held = g.kept.held; sizes-are = h.sizes-are; within = h.within; rows_long = g.kept.long; behind = g.behind })
+    (record { held = g.kept.held; sizes-are = h.sizes-are; within = h.within; long = g.kept.long; behind = g.behind })
 
 -- after a turn the run stands, with fewer turns left
 turned : (c : After-moved-r) →
-    let d : Come = record { far = c.turn_from-p.result; rows = c.turn_from-p.new.rows } in
-    Standing c.args.m.now (record { len = c.args.from.len; rows = c.args.rows.now }) c.args.s.now c.args.from.at d
-    × (turns_left c.args.s.now d < turns_left c.args.s.now (record { far = c.loop-p.p; rows = c.loop-p.rows }))
+    let d : Come = record { far = c.turn_from-p.result; marking = c.turn_from-p.new.k } in
+    Standing c.args.m.now c.args.k.now c.args.s.now c.args.from.at d
+    × (turns_left c.args.s.now d < turns_left c.args.s.now (record { far = c.loop-p.p; marking = c.loop-p.k }))
 turned c =
     let i = c.loop-p.invariant in
-    standing_turn c.args.m.now (record { len = c.args.from.len; rows = c.args.rows.now }) c.args.s.now c.args.from.at
-    (record { far = c.loop-p.p; rows = c.loop-p.rows }) i.stands c.loop-p-test.true _ (rw (i.src_kept, i.at_reached) at c.turn_from-p.ensures)
+    standing_turn c.args.m.now c.args.k.now c.args.s.now c.args.from.at
+    (record { far = c.loop-p.p; marking = c.loop-p.k }) i.stands c.loop-p-test.true _ (rw (i.src_kept, i.at_reached) at c.turn_from-p.ensures)
 
 pub loop-p-smaller : goal.loop-p-smaller
 loop-p-smaller c = (turned c).1

@@ -8,8 +8,8 @@ abbrev pub invariant-loop-p : goal.invariant-loop-p
 invariant-loop-p l = record {
   src_kept : l.r.src.now ≡ l.s;
   at_reached : l.r.at ≡ l.p.at;
-  stands : Standing l.m (record { len = l.fn.from.len; rows = l.fn.rows }) l.s l.fn.from.at (record { far = l.p; rows = l.rows });
+  stands : Standing l.m l.fn.k l.s l.fn.from.at (record { far = l.p; marking = l.k });
 }
 
 abbrev pub decreases-loop-p : goal.decreases-loop-p
-decreases-loop-p l = turns_left l.s (record { far = l.p; rows = l.rows })
+decreases-loop-p l = turns_left l.s (record { far = l.p; marking = l.k })
