@@ -7,10 +7,9 @@ use lib.ListN.{length, length-map}
 use borrow.Author.Tests.{le-leb, lt-leb}
 use Rattle.text.specs.Bytes.{Text}
 use Rattle.text.proofs.Basics.{and_true}
-use Rattle.text.specs.Lines.{Outcome, bad}
+use Rattle.text.specs.Lines.{spot_of, Outcome, bad}
 use Rattle.text.specs.declared.Fault.{Fault}
-use Rattle.text.specs.declared.Ended.{Ended}
-use Rattle.text.specs.declared.Ended.TheVariants.{Stopped}
+use Rattle.text.specs.declared.Fault.{Fault}
 use Rattle.std.specs.Prelude.{Result, Ok, Err}
 use Rattle.eos.specs.Firing.{Step}
 use Rattle.eos.specs.Causes.{first}
@@ -34,9 +33,9 @@ use Rattle.step.specs.Reading.{read_step}
 use Rattle.step.specs.declared.StepLines.{StepLines}
 use Rattle.step.specs.declared.Refusal.{Refusal}
 use Rattle.step.specs.Verdict.{causes_in, number_of, verdict_of}
-use Rattle.runner.specs.declared.StepAnswer.TheVariants.{Fired, TooLong, NotHeld, Turned}
+use Rattle.runner.specs.declared.StepAnswer.TheVariants.{Fired, TooLong, NotHeld, Turned, Faulty}
 use Rattle.runner.specs.Answers.{read_then, tried, stays, stepped, held_step, where_held, stepping, stepping_in}
-use Rattle.runner.specs.Parts.{answered, changed, ruled}
+use Rattle.runner.specs.Parts.{changed, ruled}
 use Rattle.runner.proofs.StandsLaws.{Stands, held_stands}
 use Rattle.runner.proofs.ReadLaws.{ReadTokens}
 use Rattle.runner.proofs.RuledLaws.{read_right, ruled_same}
@@ -76,9 +75,9 @@ module _ (m : Model) (k : Marking) (s : Text) where
   held_reads room = ap (stepped k) (tried_reads room)
 
   -- its lines are refused
-  pub step-refused : (room : ℕ) (x : Ended) (d : Fault) → x ≡ Stopped d → reading ≡ bad d → stays (answered s x) k ≡ held_step room m k s
+  pub step-refused : (room : ℕ) (e : Fault) → reading ≡ bad e → stays (Faulty (spot_of s e)) k ≡ held_step room m k s
   unfolding read_then stepped
-  step-refused room x d e f = sym (held_reads room ∙ rw (f, e))
+  step-refused room e f = sym (held_reads room ∙ rw f)
 
   -- its lines are read, and it is judged
   pub step-ruled : (room : ℕ) → SizedModel m → held_model m ≡ true → Stands (sizes_for m) k → (next : ℕ) (lines : StepLines) (taken given : List NetToken)

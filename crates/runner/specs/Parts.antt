@@ -1,24 +1,14 @@
 -- What the parts of this crate's code answer.
 use Rattle.std.specs.Prelude.{ℕ, List, ◌++◌, Result, Ok, Err}
-use Rattle.text.specs.Bytes.{Text}
-use Rattle.text.specs.Lines.{spot_of}
-use Rattle.text.specs.declared.Ended.{Ended}
-use Rattle.text.specs.declared.Ended.TheVariants.{Past, Stopped}
 use Rattle.eos.specs.Multiset as M
 use Rattle.marking.specs.Tokens.{like, before, holding, tokens_in}
 use Rattle.marking.specs.declared.NetToken.{NetToken}
 use Rattle.marking.specs.declared.Marking.{Marking}
 use Rattle.step.specs.Verdict.{number_of}
 use Rattle.step.specs.declared.Refusal.{Refusal}
-use Rattle.runner.specs.declared.StepAnswer.{StepAnswer}
-use Rattle.runner.specs.declared.StepAnswer.TheVariants.{Fired, Faulty, Turned}
+use Rattle.runner.specs.declared.StepAnswer.TheVariants.{Fired, Turned}
 use Rattle.runner.specs.declared.Stepped.{Stepped}
 use Rattle.runner.specs.Answers.{stays}
-
--- how the reading of a step's lines ended: up to a position, or at a fault, which is named by its line
-abbrev pub answered : Text → Ended → StepAnswer
-answered s (Past next) = Fired next
-answered s (Stopped e) = Faulty (spot_of s e)
 
 -- a marking changed by net-tokens that are taken and given
 abbrev pub changed : Marking → List NetToken → List NetToken → Marking

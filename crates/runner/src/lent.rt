@@ -7,7 +7,7 @@ ghost use Rattle.step.specs.Verdict.{causes_in, verdict_of};
 ghost use Rattle.step.specs.VerdictParts.{Sound, Placed};
 ghost use Rattle.marking.specs.Sizes.{place_sizes};
 ghost use Rattle.reader.specs.Answers.{held_both};
-ghost use Rattle.runner.specs.Parts.{answered, ruled};
+ghost use Rattle.runner.specs.Parts.{ruled};
 ghost use Rattle.runner.specs.Answers.{held_step};
 
 use super::StepAnswer;
@@ -18,20 +18,8 @@ use step_change::change;
 use step_read::read_step;
 use step_rule::rule_of;
 use step_verdict::verdict;
-use text::Ended;
+use text_reader::Reader;
 use text_scan::spot_of;
-
-// The answer for how the lines of a step ended: a fault is named by its line.
-fn answer_of(s: &[u8], ended: Ended) -> StepAnswer
-    ensures { result ≡ answered s.now ended }
-{
-    match ended {
-        Ended::Past { next } => StepAnswer::Fired { bytes: next },
-        Ended::Stopped { fault } => StepAnswer::Faulty {
-            spot: spot_of(s, fault),
-        },
-    }
-}
 
 // A step whose lines were read, up to `next`: it is turned down, or the marking is changed.
 fn fire(
@@ -70,10 +58,14 @@ pub fn step_on(
     requires { (room ≤ room_limit) × (held_both m.now k.old ≡ true) × (z.now ≡ place_sizes m.now) × (length s.now ≤ longest) × (length k.old.tokens ≡ room_limit) }
     ensures { record { answer = result; marking = k.new } ≡ held_step room m.now k.old s.now }
 {
-    let lines = read_step(s, m.listed as u16, z, taken, given);
-    let ended = lines.ended;
-    let Ended::Past { next } = ended else {
-        return answer_of(s, ended);
+    let mut r = Reader { src: s, at: 0 };
+    let lines = match read_step(&mut r, m.listed as u16, z, taken, given) {
+        Ok(lines) => lines,
+        Err(fault) => {
+            return StepAnswer::Faulty {
+                spot: spot_of(s, fault),
+            };
+        }
     };
     let mut rule = Rule::empty();
     rule_of(m, lines.event, &mut rule);
@@ -83,6 +75,6 @@ pub fn step_on(
         k,
         &taken[..lines.take],
         &given[..lines.give],
-        next,
+        r.at,
     )
 }

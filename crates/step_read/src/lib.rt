@@ -9,7 +9,7 @@ ghost use Rattle.model.specs.Limits.{line_limit, room_limit, count_limit};
 ghost use Rattle.marking.specs.Held.{as_sizes, hold_token};
 ghost use Rattle.marking.specs.Reading.{limits, read_net_token, read_block};
 ghost use Rattle.step.specs.Reading.{read_taking, read_step};
-ghost use Rattle.step.specs.Answers.{first_of, hold_taking, taking_in, hold_step, step_in};
+ghost use Rattle.step.specs.Answers.{hold_rows, first_of, hold_taking, taking_in, hold_step, step_in};
 
 use marking::{Marking, NetToken, PlaceSizes};
 use marking_read::net_token;
@@ -41,7 +41,7 @@ fn tokens_after(
     z: &PlaceSizes,
     room: &mut [NetToken; Marking::ROOM],
 ) -> Result<usize, Fault>
-    ensures { Reads (kept (map hold_token) (read_block key.now (limits line_limit count_limit) (as_sizes z.now) r.old.src.now r.old.at)) r.old r.new (first_of room.new result) }
+    ensures { Reads (kept hold_rows (read_block key.now (limits line_limit count_limit) (as_sizes z.now) r.old.src.now r.old.at)) r.old r.new (first_of room.new result) }
 {
     let n = r.number(key, 0, Model::LINES)? as usize;
     net_tokens(r, z, n, room)?;
