@@ -4,8 +4,8 @@ use mathlib.Core.Path.{◌≡◌, refl, sym, ap, ap₂, ◌∙◌}
 use mathlib.Core.List.{List, [], ◌∷◌, ◌++◌, append_assoc}
 use native.Mathlib.Omega.{arith}
 use native.Mathlib.Numerals.{add-one}
-use lib.ListN.{length, take, drop, set, length-append, length-drop, get_or-append, get_or-eq_default}
-use lib.Seq.{ext_get_or, get_or-append-add, get_or-drop, take-suc, length-take-le}
+use lib.ListN.{length, take, set, length-append, get_or-append, get_or-eq_default}
+use lib.Seq.{ext_get_or, get_or-append-add, take-suc, length-take-le}
 use Rattle.eos.specs.Vector.{◌⊕◌, ◌⊖◌, zeros, unit}
 use Rattle.eos.proofs.VectorLaws.{get_d-⊕}
 use Rattle.eos.proofs.VectorSums.{length-zeros, long-left, nth_zero}
