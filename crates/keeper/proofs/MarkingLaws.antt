@@ -1,21 +1,16 @@
--- The weighted sum of a held marking, net-token by net-token.
+-- What a held marking's rows hold.
 use Prim.Native.Nat.{ℕ, suc, ◌+◌, ◌*◌, ◌≤◌, ◌<◌}
-use mathlib.Core.Path.{◌≡◌, refl, ap, sym, ◌∙◌}
+use mathlib.Core.Path.{◌≡◌, ap, sym, ◌∙◌}
 use mathlib.Core.Bool.{true}
-use mathlib.Core.List.{List, [], ◌∷◌, map}
+use mathlib.Core.List.{[]}
 use native.Mathlib.Omega.{arith}
 use lib.Dec.{eqb, leb}
-use lib.IntN.{ℤ}
 use lib.ListN.{take, drop}
 use lib.Seq.{get_or-take, get_or-drop}
 use borrow.Author.Tests.{leb-true}
 use Rattle.text.proofs.Basics.{and_true}
 use Rattle.text.specs.Lines.{in_range, every}
 use Rattle.text.proofs.TestLaws.{within-is, every-at}
-use Rattle.eos.specs.Vector.{◌⊕◌, zeros, unit}
-use Rattle.eos.specs.Model as eos
-use Rattle.eos.specs.Firing.{outer, inner, inside_of}
-use Rattle.eos.specs.Weights.{Weights}
 use Rattle.model.specs.Limits.{room_limit}
 use Rattle.model.specs.Rules.{nth}
 use Rattle.model.specs.Test.{empty}
@@ -24,39 +19,6 @@ use Rattle.marking.specs.Rows.{rows_in, ascending}
 use Rattle.marking.proofs.RowLaws.{length-rows, row_at}
 use Rattle.marking.specs.Held.{Sizes, right_row, held_rows, held_marking}
 use Rattle.marking.specs.declared.Marking.{Marking}
-use Rattle.keeper.proofs.SplitLaws.{dots_n, value_by}
-use Rattle.keeper.proofs.DotLaws.{dot_n-⊕, dot_n_zeros, dot_n_unit}
-
--- ---- a marking's weight is the sum of its net-tokens' weights
-
-dots_n-⊕ : (us : List (List ℕ)) (n : ℕ) (i j : ℕ → List ℕ) → dots_n us n (λ k. i k ⊕ j k) ≡ dots_n us n i + dots_n us n j
-dots_n-⊕ [] n i j = refl
-dots_n-⊕ (u ∷ us) n i j = omega (arith, dot_n-⊕ u (i n) (j n), dots_n-⊕ us (suc n) i j)
-
-dots_n_zeros : (us : List (List ℕ)) (n : ℕ) (f : ℕ → ℕ) → dots_n us n (λ k. zeros (f k)) ≡ 0
-dots_n_zeros [] n f = refl
-dots_n_zeros (u ∷ us) n f = omega (arith, dot_n_zeros u (f n), dots_n_zeros us (suc n) f)
-
-module _ (m : eos.Model) (w : Weights) (f : ℤ → ℕ) where
-  abbrev pub weight_of : eos.NetToken → ℕ
-  weight_of t = nth (map f w.outward) t.place + dots_n (map (map f) w.inward) 0 (λ n. inside_of m n t)
-
-  abbrev pub weight_by : eos.Marking → ℕ
-  weight_by μ = value_by f w (outer m μ) (λ n. inner m n μ)
-
-  pub weight_none : weight_by [] ≡ 0
-  unfolding outer inner
-  weight_none = omega (arith, dot_n_zeros (map f w.outward) (eos.places m), dots_n_zeros (map (map f) w.inward) 0 (λ n. (eos.net m n).size))
-
-  pub weight_more : (t : eos.NetToken) (μ : eos.Marking) → weight_by (t ∷ μ) ≡ weight_of t + weight_by μ
-  unfolding outer inner
-  weight_more t μ =
-      omega (
-        arith,
-        dot_n-⊕ (map f w.outward) (unit t.place) (outer m μ),
-        dot_n_unit (map f w.outward) t.place,
-        dots_n-⊕ (map (map f) w.inward) 0 (λ n. inside_of m n t) (λ n. inner m n μ),
-      )
 
 -- ---- a held marking's rows
 

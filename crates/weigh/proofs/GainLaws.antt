@@ -76,7 +76,7 @@ module _ (w : List ℤ) (pre post : List ℕ) where
   }
 
   pub filling_done : (row : List ℤ) → Filling w pre post 32 row → GainRow w pre post row
-  filling_done row f = record { small = f.small; is = f.is }
+  filling_done row f = record { long = f.long; small = f.small; is = f.is }
 
 -- ---- rows laid one after the other
 

@@ -1,6 +1,6 @@
 -- Sums over what is held: what transitions and events gain, what net-tokens weigh, whether weights cover. Weights are held in rows of 32, the
 -- outer weights and then those of each net; so are gains, those of the moves and then those of each net's transitions.
-use Rattle.std.specs.Prelude.{ℕ, zero, suc, ◌+◌, ◌-◌, ◌*◌, ◌/◌, ◌≤◌, ◌<◌, ◌≡◌, Bool, ◌&&◌, List, [], leb, take, drop, get_or, ℤ, pos, ◌+ℤ◌, ◌-ℤ◌, nat_abs}
+use Rattle.std.specs.Prelude.{ℕ, zero, suc, ◌+◌, ◌-◌, ◌*◌, ◌/◌, ◌≤◌, ◌<◌, ◌≡◌, Bool, ◌&&◌, List, [], leb, length, take, drop, get_or, ℤ, pos, ◌+ℤ◌, ◌-ℤ◌, nat_abs}
 use Rattle.std.proofs.Math.Option.{Option, none, some}
 use Rattle.std.specs.Prelude as answer
 use Rattle.eos.specs.Multiset.{every}
@@ -40,6 +40,7 @@ Small row = (k : ℕ) → nat_abs (number_of row k) ≤ 137436856320
 
 -- a row of what each transition gains
 pub record GainRow (w : List ℤ) (pre post : List ℕ) (row : List ℤ) : Type 0 where
+  pub long : length row ≡ 32
   pub small : Small row
   pub is : (t : ℕ) → t < 32 → number_of row t ≡ gain_of w pre post t
 
