@@ -4,12 +4,12 @@ use mathlib.Core.Path.{◌≡◌, refl, sym, ap, subst, ◌∙◌}
 use mathlib.Core.Bool.{Bool, true, false, cond, ◌&&◌}
 use mathlib.Core.List.{List, [], ◌∷◌, ◌++◌}
 use native.Mathlib.Omega.{arith}
-use lib.ListN.{length, take, drop, replicate, length-append, length-drop, length-replicate, take-append-drop}
+use lib.ListN.{length, get_or, take, drop, replicate, length-append, length-drop, length-replicate, take-append-drop}
 use lib.Seq.{take_at, drop_at, length-take-le}
 use Rattle.eos.specs.Multiset.{bit, every, count, without, insert, Sorted}
 use Rattle.eos.proofs.Basics.{true_is, is_true, and_l, and_r, and_i}
 use Rattle.eos.proofs.OrderLaws.{insert-sorted, sorted-without}
-use Rattle.marking.specs.Tokens.{like, before, no_token, laid, holding, tokens_in, place_for, ascending, Kept, put_in}
+use Rattle.marking.specs.Tokens.{like, before, no_token, laid, holding, tokens_in, OnPlaces, place_for, ascending, Kept, put_in}
 use Rattle.marking.specs.declared.NetToken.{NetToken}
 use Rattle.marking.specs.declared.Marking.{Marking}
 use Rattle.marking.proofs.TokenOrder.{held_alike, held_order}
@@ -125,3 +125,11 @@ module _ (k : Marking) where
       let d : drop k.len k.tokens ≡ room =
       ap (λ (l : List NetToken). drop k.len l) p.is ∙ drop_at (tokens_in k) room k.len (length-held k p) in
       (sorted-ascending (tokens_in k) p.sorted, ap (every (like no_token)) d ∙ every-empty (256 - length (tokens_in k)))
+
+-- ---- places
+
+-- the place of net-token i, whatever is read past the last
+pub place_at : (ts : List NetToken) (i : ℕ) (d : NetToken) → OnPlaces ts → i < length ts → (1 ≤ (get_or ts i d).place) × ((get_or ts i d).place ≤ 32)
+place_at [] i d p h = absurd (omega arith)
+place_at (t ∷ ts) zero d p h = (p.0, p.1)
+place_at (t ∷ ts) (suc i) d p h = place_at ts i d p.2 (omega arith)

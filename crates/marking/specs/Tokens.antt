@@ -33,6 +33,11 @@ holding ts = record { len = length ts; tokens = laid ts }
 abbrev pub tokens_in : Marking → List NetToken
 tokens_in k = take k.len k.tokens
 
+-- each net-token has a place, from 1 to 32
+abbrev pub OnPlaces : List NetToken → Type 0
+OnPlaces [] = Unit {0}
+OnPlaces (t ∷ ts) = (1 ≤ t.place) × (t.place ≤ 32) × OnPlaces ts
+
 -- how many net-tokens stand before the place of one
 abbrev pub place_for : NetToken → List NetToken → ℕ
 place_for t [] = 0

@@ -26,11 +26,12 @@ use Rattle.model.proofs.PaddedRows.{small_at, nth-zeros, padded_none}
 use Rattle.model.proofs.RuleLaws.{list_is, sides_are, net-is, right_is, few-nets, few-places, right_type, right_net_lem, right_event_lem, sync_at}
 use Rattle.model.proofs.SlotLaws.{by_index, length-listed, listed_at, listed_past}
 use Rattle.model.proofs.TableLaws.{row_at, length-tabled, tabled-row}
+use Rattle.marking.specs.Tokens.{OnPlaces}
 use Rattle.marking.specs.Held.{sizes_of, hold_token}
 use Rattle.marking.specs.Reading.{Limits, right_net_token}
 use Rattle.marking.proofs.HoldMarking as hold
 use Rattle.step.specs.Rule.{hold_sides, hold_rule}
-use Rattle.step.specs.VerdictParts.{Sound, OnPlaces, Placed}
+use Rattle.step.specs.VerdictParts.{Sound, Placed}
 use Rattle.step.proofs.SidesHeld.{inner_side_long, net-small, Side, pre_side, post_side}
 use Rattle.step.proofs.ProjectionLaws.{fit}
 

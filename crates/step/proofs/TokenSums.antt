@@ -1,5 +1,5 @@
 -- Laws of projections that are added up net-token by net-token.
-use Prim.Native.Nat.{ℕ, zero, suc, ◌+◌, ◌-◌, ◌≤◌, ◌<◌}
+use Prim.Native.Nat.{ℕ, suc, ◌+◌, ◌-◌, ◌≤◌, ◌<◌}
 use mathlib.Core.Path.{◌≡◌, refl, sym}
 use mathlib.Core.List.{List, [], ◌∷◌}
 use native.Mathlib.Omega.{arith}
@@ -10,15 +10,7 @@ use Rattle.eos.specs.Vector.{◌⊕◌, zeros, unit}
 use Rattle.eos.proofs.VectorSums.{length-zeros}
 use Rattle.marking.specs.declared.NetToken.{NetToken}
 use Rattle.step.specs.Verdict.{outer_tokens, inside_in, inner_tokens}
-use Rattle.step.specs.VerdictParts.{OnPlaces}
 use Rattle.step.proofs.VectorArrays.{sum_assoc, at_least, zeros-left, zeros_right}
-
--- ---- places
-
-pub place_at : (ts : List NetToken) (i : ℕ) (d : NetToken) → OnPlaces ts → i < length ts → (1 ≤ (get_or ts i d).place) × ((get_or ts i d).place ≤ 32)
-place_at [] i d p h = absurd (omega arith)
-place_at (t ∷ ts) zero d p h = (p.0, p.1)
-place_at (t ∷ ts) (suc i) d p h = place_at ts i d p.2 (omega arith)
 
 -- ---- a projection: f of each net-token, added up
 module _ (f : NetToken → List ℕ) (P : List NetToken → List ℕ) (nothing : P [] ≡ zeros 32) (more : (t : NetToken) (ts : List NetToken) → P (t ∷ ts) ≡ f t ⊕ P ts) where

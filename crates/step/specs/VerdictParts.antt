@@ -1,7 +1,8 @@
 -- What the verdict is asked of, and what its parts answer.
-use Rattle.std.specs.Prelude.{ℕ, ◌+◌, ◌^◌, ◌≤◌, ◌<◌, ◌≡◌, Bool, List, [], ◌∷◌, length, get_or}
+use Rattle.std.specs.Prelude.{ℕ, ◌+◌, ◌^◌, ◌≤◌, ◌<◌, ◌≡◌, Bool, List, length, get_or}
 use Rattle.eos.specs.Vector.{◌⊕◌, ◌⊖◌, eq_v}
 use Rattle.model.specs.Limits.{room_limit, count_limit, inner_room}
+use Rattle.marking.specs.Tokens.{OnPlaces}
 use Rattle.marking.specs.declared.NetToken.{NetToken}
 use Rattle.model.specs.Held.{row_in}
 use Rattle.step.specs.declared.Rule.{Rule}
@@ -15,11 +16,6 @@ pub record Sound (q : Rule) : Type 0 where
   pub types : (p : ℕ) → get_or q.types p 0 ≤ 8
   pub pre : (k : ℕ) → get_or q.pre.inner k 0 < 2 ^ 32
   pub post : (k : ℕ) → get_or q.post.inner k 0 < 2 ^ 32
-
--- each net-token has a place, from 1 to 32
-abbrev pub OnPlaces : List NetToken → Type 0
-OnPlaces [] = Unit {0}
-OnPlaces (t ∷ ts) = (1 ≤ t.place) × (t.place ≤ 32) × OnPlaces ts
 
 -- no more net-tokens than a marking has room for, each on a place
 pub record Placed (ts : List NetToken) : Type 0 where

@@ -5,6 +5,7 @@ use native.Mathlib.Omega.{arith}
 use native.Mathlib.Numerals.{add-one}
 use lib.IntN.{ℤ, pos, ◌+ℤ◌, ◌-ℤ◌, +ℤ_assoc, +ℤ_idl, +ℤ_idr}
 use Rattle.std.proofs.lemmas.Int.{ints}
+use Rattle.model.proofs.SlotLaws.{by_index}
 use Rattle.weigh.specs.Sums.{total}
 
 -- one summand more, and none
@@ -46,3 +47,19 @@ total_begins first f = sym (+ℤ_idr first)
 pub total_further : (first sum r : ℤ) (n : ℕ) (f : ℕ → ℤ) → sum ≡ first +ℤ total n f → r ≡ f n → sum +ℤ r ≡ first +ℤ total (n + 1) f
 total_further first sum r n f p q =
     ap₂ ◌+ℤ◌ p q ∙ +ℤ_assoc first (total n f) (f n) ∙ ap (λ (z : ℤ). first +ℤ z) (sym (total_on n f))
+
+pub total_zero : (n : ℕ) (f : ℕ → ℤ) → ((i : ℕ) → i < n → f i ≡ pos 0) → total n f ≡ pos 0
+unfolding total
+total_zero zero f h = refl
+total_zero (suc n) f h = ap₂ ◌+ℤ◌ (total_zero n f (λ i p. h i (omega arith))) (h n (omega arith))
+
+-- a sum of which one summand is not 0
+pub total_one : (n k : ℕ) (f : ℕ → ℤ) → k < n → ((i : ℕ) → (i ≡ k → ⊥) → f i ≡ pos 0) → total n f ≡ f k
+unfolding total
+total_one zero k f h z = absurd (omega arith)
+total_one (suc n) k f h z =
+    by_index n k
+    (λ p. ap₂ ◌+ℤ◌ (total_one n k f p z) (z n (λ e. omega arith)) ∙ +ℤ_idr (f k))
+    (λ p.
+    let e : k ≡ n = omega arith in
+    ap₂ ◌+ℤ◌ (total_zero n f (λ i q. z i (λ d. omega arith))) (ap f (sym e)) ∙ +ℤ_idl (f k))

@@ -1,6 +1,6 @@
 -- Sums over what is held: what transitions and events gain, what net-tokens weigh, whether weights cover. Weights are held in rows of 32, the
 -- outer weights and then those of each net; so are gains, those of the moves and then those of each net's transitions.
-use Rattle.std.specs.Prelude.{ℕ, zero, suc, ◌+◌, ◌-◌, ◌*◌, ◌/◌, ◌≤◌, ◌<◌, ◌≡◌, Bool, ◌&&◌, List, [], leb, take, drop, get_or, ℤ, pos, ◌+ℤ◌, ◌-ℤ◌, nat_abs}
+use Rattle.std.specs.Prelude.{ℕ, zero, suc, ◌+◌, ◌-◌, ◌*◌, ◌/◌, ◌≤◌, ◌<◌, ◌≡◌, Bool, ◌&&◌, List, [], ◌∷◌, leb, length, take, get_or, ℤ, pos, ◌+ℤ◌, ◌-ℤ◌, nat_abs}
 use Rattle.std.proofs.Math.Option.{Option, none, some}
 use Rattle.std.specs.Prelude as answer
 use Rattle.eos.specs.Multiset.{every}
@@ -10,6 +10,7 @@ use Rattle.model.specs.Limits.{count_limit}
 use Rattle.model.specs.Rules.{nth}
 use Rattle.model.specs.Acts.{move_in}
 use Rattle.model.specs.Held.{no_net, no_event, row_in}
+use Rattle.marking.specs.declared.NetToken.{NetToken}
 use Rattle.model.specs.declared.ObjectNet.{ObjectNet}
 use Rattle.model.specs.declared.Event.{Event}
 use Rattle.model.specs.declared.Model.{Model}
@@ -40,6 +41,7 @@ Small row = (k : ℕ) → nat_abs (number_of row k) ≤ 137436856320
 
 -- a row of what each transition gains
 pub record GainRow (w : List ℤ) (pre post : List ℕ) (row : List ℤ) : Type 0 where
+  pub long : length row ≡ 32
   pub small : Small row
   pub is : (t : ℕ) → t < 32 → number_of row t ≡ gain_of w pre post t
 
@@ -75,18 +77,13 @@ found (some i) = answer.Some i
 
 -- ---- markings
 
--- the weight of the net-token in the row at `at`: of its place, and of its counts. The weights of type d stand in row d
-unfoldable pub token_weight : List (List ℤ) → List ℕ → List ℕ → ℕ → ℤ
-token_weight weights types rows at =
-    number_of (row_of weights 0) (nth rows at - 1) +ℤ dot (row_of weights (nth types (nth rows at - 1))) (take 32 (drop (at + 1) rows))
+-- the weight of a net-token: of its place, and of its counts. The weights of type d stand in row d
+unfoldable pub token_weight : List (List ℤ) → List ℕ → NetToken → ℤ
+token_weight weights types t = number_of (row_of weights 0) (t.place - 1) +ℤ dot (row_of weights (nth types (t.place - 1))) t.counts
 
-unfoldable pub marking_weight : List (List ℤ) → List ℕ → List ℕ → ℕ → ℤ
-marking_weight weights types rows n = total n (λ i. token_weight weights types rows (i * 33))
-
--- a row's place is one of 32
-pub record PlaceIn (rows : List ℕ) (at : ℕ) : Type 0 where
-  pub least : 1 ≤ nth rows at
-  pub most : nth rows at ≤ 32
+unfoldable pub marking_weight : List (List ℤ) → List ℕ → List NetToken → ℤ
+marking_weight weights types [] = pos 0
+marking_weight weights types (t ∷ ts) = token_weight weights types t +ℤ marking_weight weights types ts
 
 -- a place's type is that of black tokens or one of eight nets'
 abbrev pub TypesIn : List ℕ → Type 0

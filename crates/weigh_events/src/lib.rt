@@ -27,7 +27,11 @@ fn gain_row(weights: &[i16; 32], pre: &[u8; 1024], post: &[u8; 1024]) -> [i64; 3
 {
     let mut row = [0i64; 32];
     for t in 0..32 {
-        row[t] = gain(weights, &pre[t * 32..t * 32 + 32], &post[t * 32..t * 32 + 32]);
+        row[t] = gain(
+            weights,
+            &pre[t * 32..t * 32 + 32],
+            &post[t * 32..t * 32 + 32],
+        );
     }
     row
 }

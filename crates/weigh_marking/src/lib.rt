@@ -1,35 +1,36 @@
 // The weighted sum of a held marking.
 #![tactic(auto)]
 
-ghost use Rattle.std.specs.Prelude.{◌≡◌, ℕ, ◌+◌, ◌*◌, ◌≤◌, ◌<◌, length, pos, neg_ℤ, ◌≤ℤ◌};
+ghost use Rattle.std.specs.Prelude.{◌≡◌, ◌≤◌, length, pos, neg_ℤ, ◌≤ℤ◌};
 ghost use Rattle.model.specs.Limits.{room_limit};
-ghost use Rattle.weigh.specs.Sums.{token_weight, marking_weight, PlaceIn, TypesIn};
+ghost use Rattle.marking.specs.Tokens.{OnPlaces};
+ghost use Rattle.weigh.specs.Sums.{token_weight, marking_weight, TypesIn};
 
+use marking::NetToken;
 use weigh::dot;
 
-// The weight of the net-token in the row at `at`: of its place, and of its counts. A black token's counts are 0.
-fn token_weight(weights: &[[i16; 32]; 9], types: &[u8; 32], rows: &[u16], at: usize) -> i64
-    requires { (at + 33 ≤ length rows.now) × PlaceIn rows.now at × TypesIn types.now }
-    ensures value { result ≡ token_weight weights.now types.now rows.now at }
+// The weight of a net-token: of its place, and of its counts. A black token's counts are 0.
+fn token_weight(weights: &[[i16; 32]; 9], types: &[u8; 32], t: &NetToken) -> i64
+    requires { (1 ≤ t.now.place) × (t.now.place ≤ 32) × TypesIn types.now }
+    ensures value { result ≡ token_weight weights.now types.now t.now }
     ensures low { neg_ℤ (pos 68718461952) ≤ℤ result }
     ensures high { result ≤ℤ pos 68718461952 }
 {
-    let place = rows[at] as usize - 1;
-    let counts = dot(&weights[types[place] as usize], &rows[at + 1..at + 33]);
+    let place = t.place as usize - 1;
+    let counts = dot(&weights[types[place] as usize], &t.counts);
     weights[0][place] as i64 + counts
 }
 
-// The weight of the first n net-tokens.
-pub fn marking_weight(weights: &[[i16; 32]; 9], types: &[u8; 32], rows: &[u16], n: usize) -> i64
-    requires few { (n ≤ room_limit) × (n * 33 ≤ length rows.now) × TypesIn types.now }
-    requires by_index { (i : ℕ) → i < n → PlaceIn rows.now (i * 33) }
-    ensures value { result ≡ marking_weight weights.now types.now rows.now n }
+// The weight of net-tokens.
+pub fn marking_weight(weights: &[[i16; 32]; 9], types: &[u8; 32], tokens: &[NetToken]) -> i64
+    requires { (length tokens.now ≤ room_limit) × OnPlaces tokens.now × TypesIn types.now }
+    ensures value { result ≡ marking_weight weights.now types.now tokens.now }
     ensures low { neg_ℤ (pos 17591926259712) ≤ℤ result }
     ensures high { result ≤ℤ pos 17591926259712 }
 {
     let mut sum: i64 = 0;
-    for i in 0..n {
-        sum += token_weight(weights, types, rows, i * 33);
+    for t in tokens {
+        sum += token_weight(weights, types, t);
     }
     sum
 }

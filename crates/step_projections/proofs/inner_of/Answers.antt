@@ -2,7 +2,7 @@ use mathlib.Core.Path.{refl}
 use native.Mathlib.Omega.{arith}
 use Rattle.marking.proofs.TokenOrder.{outside}
 use Rattle.model.proofs.PaddedRows.{nth-zeros}
-use Rattle.step.proofs.TokenSums.{place_at}
+use Rattle.marking.proofs.KeptLaws.{place_at}
 use Rattle.step.proofs.InsideLaws.{inner_start, inner_turn, inner_end}
 use Rattle.step_projections.proofs.inner_of.Goals as goal
 

@@ -4,10 +4,11 @@ use native.Mathlib.Omega.{arith}
 use lib.ListN.{length, get_or, length-set}
 use Rattle.eos.proofs.VectorSums.{nth_zero}
 use Rattle.marking.proofs.TokenOrder.{outside}
+use Rattle.marking.proofs.KeptLaws.{place_at}
 use Rattle.model.specs.Rules.{nth}
 use Rattle.step.specs.Verdict.{outer_tokens}
 use Rattle.step.proofs.VectorArrays.{put_unit, unit_more}
-use Rattle.step.proofs.TokenSums.{place_at, sum-start, sum_turn, sum_end, place_in, outer_none, outer_more}
+use Rattle.step.proofs.TokenSums.{sum-start, sum_turn, sum_end, place_in, outer_none, outer_more}
 use Rattle.step_projections.proofs.outer_of.Goals as goal
 use Rattle.step_projections.proofs.outer_of.Goals.{In-loop-t}
 

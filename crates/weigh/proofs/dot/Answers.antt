@@ -2,7 +2,7 @@
 -- summand is at most 32,768 times 65,535.
 use borrow.Author.Rules.{rules}
 use mathlib.Core.Path.{◌≡◌, ap, ◌∙◌}
-use mathlib.Core.List.{List, [], ◌∷◌, ◌++◌, map}
+use mathlib.Core.List.{[], ◌∷◌, ◌++◌, map}
 use Prim.Native.Nat.{◌+◌, ◌*◌}
 use native.Mathlib.Omega.{arith}
 use lib.IntN.{ℤ, pos, ◌+ℤ◌, ◌*ℤ◌}
@@ -25,8 +25,7 @@ loop-weight-preserved g c =
     let fits : SFits w16 c.in-Some.weight.now = search rules in
     let held : to_z w16 (of_z w16 c.in-Some.weight.now) ≡ c.in-Some.weight.now = omega (arith, ints) in
     let next : length (l.yielded ++ (c.in-Some.weight, c.in-Some.count) ∷ []) ≡ length l.yielded + 1 = length-append l.yielded ((c.in-Some.weight, c.in-Some.count) ∷ []) in
-    let more : length l.yielded * 2147450880 + 2147450880 ≡ (length l.yielded + 1) * 2147450880 = omega arith in
-    (
+    let more : length l.yielded * 2147450880 + 2147450880 ≡ (length l.yielded + 1) * 2147450880 = omega arith in (
       i.0,
       i.1,
       dot_step _ _ _ _ _ _ _ _ _ s.0 (ap (map g.C.Count.count) s.1) i.2 (e.0 ∙ ap (λ (z : ℤ). to_z w64 l.sum-bits +ℤ z) (t.value ∙ ap (λ (z : ℤ). z *ℤ pos (g.C.Count.count c.in-Some.count.now)) held)),
@@ -39,7 +38,8 @@ pub returns-clause-value : goal.returns-clause-value
 returns-clause-value g c =
     let l = c.loop-weight in
     elim c.in-None.ensures.steps [
-      inl x ↦ dot_ends _ _ _ _ x.1.0 l.invariant.2 | inr x ↦ counts_end _ (map g.C.Count.count _) _ _ (length-map _ g.C.Count.count ∙ x.1.0) l.invariant.2
+      | inl x ↦ dot_ends _ _ _ _ x.1.0 l.invariant.2
+      | inr x ↦ counts_end _ (map g.C.Count.count _) _ _ (length-map _ g.C.Count.count ∙ x.1.0) l.invariant.2
     ]
 
 pub returns-clause-low : goal.returns-clause-low

@@ -30,8 +30,7 @@ loop-gain-preserved c =
     let fits : SFits w64 c.in-Some.gain.now = search rules in
     let held : to_z w64 (of_z w64 c.in-Some.gain.now) ≡ c.in-Some.gain.now = omega (arith, ints) in
     let next : length (l.yielded ++ (c.in-Some.gain, c.in-Some.count) ∷ []) ≡ length l.yielded + 1 = length-append l.yielded ((c.in-Some.gain, c.in-Some.count) ∷ []) in
-    let more : length l.yielded * 35046398361600 + 35046398361600 ≡ (length l.yielded + 1) * 35046398361600 = omega arith in
-    (
+    let more : length l.yielded * 35046398361600 + 35046398361600 ≡ (length l.yielded + 1) * 35046398361600 = omega arith in (
       i.0,
       i.1,
       dot_step _ _ _ _ _ _ _ _ _ s.0 s.1 i.2 (e.0 ∙ ap (λ (z : ℤ). to_z w64 l.sum-bits +ℤ z) (t.value ∙ ap (λ (z : ℤ). z *ℤ pos c.in-Some.count.now) held)),

@@ -26,8 +26,7 @@ loop-n-init c =
     let r = c.move_gain-sum.result in
     let row = row_of c.args.gains.now 0 in
     let held : to_z w64 (of_z w64 r) ≡ r = omega (arith, ints) in
-    let p = within (move_gain row c.move_of.result) 137436856320 (move_small row (c.requires.2 0) c.move_of.result) in
-    (
+    let p = within (move_gain row c.move_of.result) 137436856320 (move_small row (c.requires.2 0) c.move_of.result) in (
       rw held (c.move_gain-sum.ensures ∙ ap (move_gain row) c.move_of.ensures ∙ total_begins _ _),
       rw (held, c.move_gain-sum.ensures) p.0,
       rw (held, c.move_gain-sum.ensures) p.1,
@@ -42,8 +41,7 @@ loop-n-preserved c =
     let i = l.invariant in
     let t = c.counts_gain-sum.ensures in
     let e = sum_step l.sum-bits (l.n * 1121484747571200 + 137436856320) 1121484747571200 c.counts_gain-sum.result (omega (arith, c.requires.0)) i.1 i.2 t.low t.high in
-    let more : l.n * 1121484747571200 + 137436856320 + 1121484747571200 ≡ (l.n + 1) * 1121484747571200 + 137436856320 = omega arith in
-    (
+    let more : l.n * 1121484747571200 + 137436856320 + 1121484747571200 ≡ (l.n + 1) * 1121484747571200 + 137436856320 = omega arith in (
       rw e.0 (total_further _ _ _ l.n _ i.0 (t.value ∙ rw (add-one l.n) (counts_part (row_of c.args.gains.now (suc l.n)) c.args.e.now.sync l.n))),
       rw (e.0, ← more) e.1,
       rw (e.0, ← more) e.2,

@@ -27,12 +27,11 @@ gain_at : (nets : ℕ) (gains : List (List ℤ)) (events : List Event) (k : ℕ)
 gain_at nets gains events k v h e = e ∙ ap (λ (x : Event). event_gain nets x gains) (at_any events k outside no_event h)
 
 pub event_gain-requires : goal.event_gain-requires
-event_gain-requires c =
-    (
-      c.requires.nets_bound.0,
-      rw (at_any c.args.events.now c.loop-k.k outside no_event (omega arith)) (c.requires.by_index c.loop-k.k (omega arith)),
-      c.requires.nets_bound.1,
-    )
+event_gain-requires c = (
+  c.requires.nets_bound.0,
+  rw (at_any c.args.events.now c.loop-k.k outside no_event (omega arith)) (c.requires.by_index c.loop-k.k (omega arith)),
+  c.requires.nets_bound.1,
+)
 
 pub returns-then-event_gain-ne0 : goal.returns-then-event_gain-ne0
 returns-then-event_gain-ne0 c =
