@@ -1,42 +1,35 @@
--- An event's effect is 0 exactly where it gains what it loses, by the tables of gains and of losses; the least event that does not.
-use Prim.Native.Nat.{ℕ, zero, suc, ◌+◌, ◌*◌, ◌<◌}
+-- An event's effect is what it gains, by the rows of gains; the first event that gains something.
+use Prim.Native.Nat.{ℕ, zero, suc, ◌+◌, ◌≤◌, ◌<◌}
 use mathlib.Core.Path.{◌≡◌, refl, ap, ap₂, sym, ◌∙◌}
 use mathlib.Core.Bool.{Bool, true, cond}
-use mathlib.Core.List.{List, map}
+use mathlib.Core.List.{List}
 use mathlib.Core.Option.{Option, some}
 use native.Mathlib.Omega.{arith}
-use lib.Dec.{eqb}
-use lib.IntN.{ℤ, ◌-ℤ◌}
-use lib.ListN.{get_or}
-use borrow.Author.Tests.{eqb-true, eqb-false, eq-eqb, ne_eqb, ltb-true}
+use lib.IntN.{ℤ, pos, ◌-ℤ◌, ◌*ℤ◌}
+use lib.ListN.{length, take, get_or}
+use lib.Seq.{get_or-take, length-take-le}
+use borrow.Author.Tests.{ltb-true}
+use Rattle.std.specs.Prelude as answer
 use Rattle.text.proofs.Basics.{by_test}
-use Rattle.text.specs.Capped.{above, below}
+use Rattle.std.proofs.lemmas.Int.{ints}
 use Rattle.eos.specs.Model as eos
 use Rattle.eos.specs.Firing.{pre, post, outer_of, inner_of}
-use Rattle.eos.specs.Causes.{failing, numbered}
-use Rattle.eos.specs.Weights.{Weights, is_zero, effect}
+use Rattle.eos.specs.Causes.{failing}
+use Rattle.eos.specs.Weights.{Weights, dot, dots, value, is_zero, effect}
 use Rattle.model.specs.Rules.{nth, right_act}
 use Rattle.model.specs.Acts.{act_of, move_of}
-use Rattle.model.specs.Held.{no_net, no_event, tabled, event_of, model_of}
+use Rattle.model.specs.Held.{no_net, no_event, row_in, event_of, model_of}
 use Rattle.model.specs.Test.{frame_in, held_model}
 use Rattle.model.specs.declared.Event.{Event}
 use Rattle.model.specs.declared.Model.{Model}
 use Rattle.model.proofs.HeldTests.{held-is, most-moves, most-places}
 use Rattle.model.proofs.HeldActs.{act-is, act_range}
-use Rattle.keeper.specs.Held.{weight_lists, hold_weights}
-use Rattle.weigh.specs.Sums.{total, product, gain_of, Gains, move_gain, event_gain, balanced_at, ActIn}
-use Rattle.keeper.specs.declared.HeldWeights.{HeldWeights}
-use Rattle.weigh.proofs.TotalLaws.{total_same, total_plus, total-rows}
-use Rattle.keeper.proofs.SplitLaws.{sub_minus, sub_zero, dot_n, dots_n, value_by, value_split}
+use Rattle.keeper.specs.Held.{hold_weights}
+use Rattle.weigh.specs.Sums.{total, row_of, gain_of, Gains, move_gain, event_gain, balanced_at, ActIn, found}
+use Rattle.weigh.proofs.TotalLaws.{total_same, total_minus}
+use Rattle.keeper.proofs.DotLaws.{dot_total, minus_times}
 use Rattle.keeper.proofs.HeldRows.{Kept, event-test}
 use Rattle.keeper.proofs.EffectLaws.{event-is, inside_is, outside_move, outside_idle}
-
--- a test of two sums with a summand in common
-eqb_plus : (a b c : ℕ) → eqb (a + c) (b + c) ≡ eqb a b
-eqb_plus a b c =
-    by_test (eqb a b)
-    (λ t. eq-eqb (a + c) (b + c) (omega (arith, eqb-true a b t)) ∙ sym t)
-    (λ t. ne_eqb (a + c) (b + c) (λ e. eqb-false a b t (omega arith)) ∙ sym t)
 
 module _ (m : Model) (w : Weights) (kept : Kept m w) (k : ℕ) (listed : k < m.listed) where
   abbrev held : Event
@@ -45,17 +38,17 @@ module _ (m : Model) (w : Weights) (kept : Kept m w) (k : ℕ) (listed : k < m.l
   abbrev event : eos.Event
   event = eos.event (model_of m) k
 
-  abbrev table : (ℤ → ℕ) → List ℕ
-  table f = tabled (map f) 288 (weight_lists w)
+  abbrev rows : List (List ℤ)
+  rows = (hold_weights w).rows
 
-  abbrev inside : (eos.Transition → List ℕ) → (ℤ → ℕ) → ℕ
-  inside side f = dots_n (map (map f) w.inward) 0 (inner_of side (model_of m) event)
+  abbrev inside : (eos.Transition → List ℕ) → ℤ
+  inside side = dots w.inward 0 (inner_of side (model_of m) event)
 
-  abbrev outside : (eos.Transition → List ℕ) → (ℤ → ℕ) → ℕ
-  outside side f = dot_n (map f w.outward) (outer_of side (model_of m) event)
+  abbrev outside : (eos.Transition → List ℕ) → ℤ
+  outside side = dot w.outward (outer_of side (model_of m) event)
 
-  abbrev counted : (ℕ → List ℕ) → (ℤ → ℕ) → ℕ → ℕ → ℕ
-  counted nets f n t = nth held.sync (n * 32 + t) * product (table f) (n * 32 + 32) (nets n) (t * 32)
+  abbrev counted : (ℕ → List ℕ) → ℕ → ℕ → ℤ
+  counted nets n t = dot (row_of rows (suc n)) (row_in 32 (nets n) t) *ℤ pos (nth (row_in 32 held.sync n) t)
 
   abbrev pres : ℕ → List ℕ
   pres n = (get_or m.objects n no_net).pre
@@ -63,11 +56,11 @@ module _ (m : Model) (w : Weights) (kept : Kept m w) (k : ℕ) (listed : k < m.l
   abbrev posts : ℕ → List ℕ
   posts n = (get_or m.objects n no_net).post
 
-  inside-pre : (f : ℤ → ℕ) → inside pre f ≡ total m.nets (λ n. total 32 (counted pres f n))
-  inside-pre f = inside_is m w kept k listed pre refl m.pre pres (λ i. refl) (λ n i. refl) f
+  inside-pre : inside pre ≡ total m.nets (λ n. total 32 (counted pres n))
+  inside-pre = inside_is m w kept k listed pre refl m.pre pres (λ i. refl) (λ n i. refl)
 
-  inside-post : (f : ℤ → ℕ) → inside post f ≡ total m.nets (λ n. total 32 (counted posts f n))
-  inside-post f = inside_is m w kept k listed post refl m.post posts (λ i. refl) (λ n i. refl) f
+  inside-post : inside post ≡ total m.nets (λ n. total 32 (counted posts n))
+  inside-post = inside_is m w kept k listed post refl m.post posts (λ i. refl) (λ n i. refl)
 
   abbrev act : eos.Act
   act = act_of held.kind held.index
@@ -79,66 +72,40 @@ module _ (m : Model) (w : Weights) (kept : Kept m w) (k : ℕ) (listed : k < m.l
   act_right : right_act (frame_in m) act ≡ true
   act_right = (act-is (frame_in m) held.kind held.index (event-test m kept.held k listed).act).right
 
-  -- idling weighs the same on both sides
-  abbrev rest : (ℤ → ℕ) → (ℤ → ℕ) → eos.Act → ℕ
-  rest f g (eos.move j) = 0
-  rest f g (eos.idle j) = nth (map f w.outward) j + nth (map g w.outward) j
-
-  module _ (f g : ℤ → ℕ) (gain : List ℕ) (gains : Gains m (table f) (table g) gain) where
-    one_gain : (n : ℕ) → n < m.nets → (t : ℕ) → t < 32
-        → nth held.sync (n * 32 + t) * nth gain (32 + (n * 32 + t)) ≡ counted posts f n t + counted pres g n t
+  module _ (gains : List (List ℤ)) (is : Gains m rows gains) where
+    net_gain : (n : ℕ) → n < m.nets → dot (row_of gains (suc n)) (row_in 32 held.sync n) ≡ total 32 (counted posts n) -ℤ total 32 (counted pres n)
     unfolding gain_of
-    one_gain n p t q =
-        let e : 32 + (n * 32 + t) ≡ n * 32 + 32 + t = omega arith in
-        let a : nth gain (32 + (n * 32 + t)) ≡ product (table f) (n * 32 + 32) (posts n) (t * 32) + product (table g) (n * 32 + 32) (pres n) (t * 32) =
-        ap (nth gain) e ∙ gains.nets n t p q in
-        rw a (omega arith)
+    net_gain n p =
+        dot_total (row_of gains (suc n)) (row_in 32 held.sync n) 32 (omega (arith, (is.nets n p).long))
+        ∙ total_same 32 _ (λ t. counted posts n t -ℤ counted pres n t)
+        (λ t q.
+        let c = nth (row_in 32 held.sync n) t in
+        ap (λ (z : ℤ). z *ℤ pos c) ((is.nets n p).is t q)
+        ∙ minus_times (dot (row_of rows (suc n)) (row_in 32 (posts n) t)) (dot (row_of rows (suc n)) (row_in 32 (pres n) t)) c)
+        ∙ total_minus 32 (counted posts n) (counted pres n)
 
-    counts_gain : total (m.nets * 32) (λ j. nth held.sync j * nth gain (32 + j)) ≡ inside post f + inside pre g
-    counts_gain =
-        total-rows m.nets (λ j. nth held.sync j * nth gain (32 + j))
-        ∙ total_same m.nets _ (λ n. total 32 (counted posts f n) + total 32 (counted pres g n))
-        (λ n p. total_same 32 _ (λ t. counted posts f n t + counted pres g n t) (one_gain n p) ∙ total_plus 32 (counted posts f n) (counted pres g n))
-        ∙ total_plus m.nets (λ n. total 32 (counted posts f n)) (λ n. total 32 (counted pres g n)) ∙ ap₂ ◌+◌ (sym (inside-post f)) (sym (inside-pre g))
+    inside_gain : total m.nets (λ n. dot (row_of gains (suc n)) (row_in 32 held.sync n)) ≡ inside post -ℤ inside pre
+    inside_gain =
+        total_same m.nets _ (λ n. total 32 (counted posts n) -ℤ total 32 (counted pres n)) net_gain
+        ∙ total_minus m.nets (λ n. total 32 (counted posts n)) (λ n. total 32 (counted pres n))
+        ∙ ap₂ ◌-ℤ◌ (sym inside-post) (sym inside-pre)
 
-    outside_gain : (a : eos.Act) → event.act ≡ a → right_act (frame_in m) a ≡ true → outside post f + outside pre g ≡ move_gain gain (move_of a) + rest f g a
+    outside_gain : (a : eos.Act) → event.act ≡ a → right_act (frame_in m) a ≡ true → move_gain (row_of gains 0) (move_of a) ≡ outside post -ℤ outside pre
     unfolding right_act move_gain gain_of
     outside_gain (eos.move j) e h =
         let p = ltb-true j m.moves h in
-        let a = outside_move m w kept k listed post refl m.post posts (λ i. refl) (λ n i. refl) f j p e in
-        let b = outside_move m w kept k listed pre refl m.pre pres (λ i. refl) (λ n i. refl) g j p e in
-        let c : nth gain j ≡ product (table f) 0 m.post (j * 32) + product (table g) 0 m.pre (j * 32) = gains.moves j (omega (arith, most-moves m (held-is m kept.held))) in
-        omega (arith, a, b, c)
+        is.moves.is j (omega (arith, most-moves m (held-is m kept.held)))
+        ∙ ap₂ ◌-ℤ◌ (sym (outside_move m w kept k listed post refl m.post posts (λ i. refl) (λ n i. refl) j p e))
+        (sym (outside_move m w kept k listed pre refl m.pre pres (λ i. refl) (λ n i. refl) j p e))
     outside_gain (eos.idle j) e h =
-        let a = outside_idle m w kept k listed post refl m.post posts (λ i. refl) (λ n i. refl) f j e in
-        let b = outside_idle m w kept k listed pre refl m.pre pres (λ i. refl) (λ n i. refl) g j e in
-        omega (arith, a, b)
+        let a = outside_idle m w kept k listed post refl m.post posts (λ i. refl) (λ n i. refl) j e in
+        let b = outside_idle m w kept k listed pre refl m.pre pres (λ i. refl) (λ n i. refl) j e in
+        omega (arith, ints, a, b)
 
-    -- what the event weighs on one side and on the other
-    value_gain : value_by f w (outer_of post (model_of m) event) (inner_of post (model_of m) event) + value_by g w (outer_of pre (model_of m) event) (inner_of pre (model_of m) event)
-        ≡ event_gain m.nets held gain + rest f g act
-    unfolding event_gain
-    value_gain = omega (arith, counts_gain, outside_gain act act-held act_right)
-
-  rest_same : (a : eos.Act) → rest above below a ≡ rest below above a
-  rest_same (eos.move j) = refl
-  rest_same (eos.idle j) = omega arith
-
-  -- the effect is 0 where the gain is the loss
-  effect_zero : (gain loss : List ℕ) → Gains m (table above) (table below) gain → Gains m (table below) (table above) loss
-      → is_zero (effect (model_of m) w event) ≡ balanced_at m.nets m.events gain loss k
-  unfolding effect
-  effect_zero gain loss p q =
-      let oa = outer_of post (model_of m) event in
-      let ia = inner_of post (model_of m) event in
-      let ob = outer_of pre (model_of m) event in
-      let ib = inner_of pre (model_of m) event in
-      let x = value_gain above below gain p in
-      let y : value_by below w oa ia + value_by above w ob ib ≡ event_gain m.nets held loss + rest above below act = value_gain below above loss q ∙ rw (rest_same act) in
-      ap is_zero (ap₂ ◌-ℤ◌ (value_split w oa ia) (value_split w ob ib)
-      ∙ sub_minus (value_by above w oa ia) (value_by below w oa ia) (value_by above w ob ib) (value_by below w ob ib))
-      ∙ sub_zero (value_by above w oa ia + value_by below w ob ib) (value_by below w oa ia + value_by above w ob ib)
-      ∙ ap₂ eqb x y ∙ eqb_plus (event_gain m.nets held gain) (event_gain m.nets held loss) (rest above below act)
+    -- the effect is the gain
+    effect_gain : effect (model_of m) w event ≡ event_gain m.nets held gains
+    unfolding effect value event_gain
+    effect_gain = let o = outside_gain act act-held act_right in omega (arith, ints, inside_gain, o)
 
 -- the index of an event's act is one of 32
 pub act_in : (m : Model) → held_model m ≡ true → (k : ℕ) → k < m.listed → ActIn (get_or m.events k no_event)
@@ -153,18 +120,28 @@ failing_same : (f g : ℕ → Bool) (d i : ℕ) → ((k : ℕ) → k < i + d →
 failing_same f g zero i h = refl
 failing_same f g (suc d) i h = ap₂ (λ (t : Bool) (o : Option ℕ). cond t o (some i)) (h i (omega arith)) (failing_same f g d (suc i) (λ k p. h k (omega arith)))
 
--- the least event that is not balanced, by the tables of the held weights
-pub least-unbalanced : (m : Model) (w : Weights) → Kept m w → (h : HeldWeights) → h ≡ hold_weights w → (gain loss : List ℕ)
-    → Gains m h.above h.below gain → Gains m h.below h.above loss → (r : ℕ)
-    → r ≡ numbered (failing m.listed 0 (balanced_at m.nets m.events gain loss))
-    → r ≡ numbered (failing m.listed 0 (λ k. is_zero (effect (model_of m) w (eos.event (model_of m) k))))
-unfolding hold_weights
-least-unbalanced m w kept h e gain loss p q r is =
-    let a : h.above ≡ tabled (map above) 288 (weight_lists w) = ap (λ (x : HeldWeights). x.above) e in
-    let b : h.below ≡ tabled (map below) 288 (weight_lists w) = ap (λ (x : HeldWeights). x.below) e in
-    let p' : Gains m (tabled (map above) 288 (weight_lists w)) (tabled (map below) 288 (weight_lists w)) gain = rw (a, b) at p in
-    let q' : Gains m (tabled (map below) 288 (weight_lists w)) (tabled (map above) 288 (weight_lists w)) loss = rw (a, b) at q in
-    is
-    ∙ ap numbered
-    (failing_same (balanced_at m.nets m.events gain loss) (λ k. is_zero (effect (model_of m) w (eos.event (model_of m) k))) m.listed 0
-    (λ k l. sym (effect_zero m w kept k (omega arith) gain loss p' q')))
+-- the listed events of a model, as they are lent
+pub event_listed : (m : Model) (k : ℕ) → k < m.listed → get_or (take m.listed m.events) k no_event ≡ get_or m.events k no_event
+event_listed m k h = get_or-take m.listed m.events k no_event h
+
+-- the first event that is not balanced, by the gains of the held weights
+pub first-unbalanced : (m : Model) (w : Weights) → Kept m w → (gains : List (List ℤ)) → Gains m (hold_weights w).rows gains
+    → m.listed ≤ length m.events
+    → found (failing (length (take m.listed m.events)) 0 (balanced_at m.nets (take m.listed m.events) gains))
+    ≡ found (failing m.listed 0 (λ k. is_zero (effect (model_of m) w (eos.event (model_of m) k))))
+first-unbalanced m w kept gains is room =
+    ap (λ (n : ℕ). found (failing n 0 (balanced_at m.nets (take m.listed m.events) gains))) (length-take-le m.listed m.events room)
+    ∙ ap found
+    (failing_same (balanced_at m.nets (take m.listed m.events) gains) (λ k. is_zero (effect (model_of m) w (eos.event (model_of m) k))) m.listed 0
+    (λ k l.
+    ap (λ (e : Event). is_zero (event_gain m.nets e gains)) (event_listed m k (omega arith))
+    ∙ ap is_zero (sym (effect_gain m w kept k (omega arith) gains is))))
+
+-- an index that is found is one of those tested
+failing_within : (f : ℕ → Bool) (d i n : ℕ) → i + d ≤ n → answer.IfSome (found (failing d i f)) (λ k. k < n)
+failing_within f zero i n h = tt
+failing_within f (suc d) i n h =
+    by_test (f i) (λ e. rw e (failing_within f d (suc i) n (omega arith))) (λ e. rw e (omega arith))
+
+pub found_within : (f : ℕ → Bool) (d n : ℕ) → d ≤ n → answer.IfSome (found (failing d 0 f)) (λ k. k < n)
+found_within f d n h = failing_within f d 0 n (omega arith)

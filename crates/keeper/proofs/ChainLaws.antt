@@ -20,9 +20,9 @@ use Rattle.text.proofs.Basics.{by_test}
 use Rattle.text_reader.specs.Place.{reached, closed}
 use Rattle.model.specs.Held.{tabled, put_row}
 use Rattle.reader.specs.Reading.{read_end}
-use Rattle.keeper.specs.Held.{hold_weights, no_weights}
+use Rattle.keeper.specs.Held.{lay_weights, no_weights}
 use Rattle.keeper.specs.Parts.{read_outer, read_net_weights, read_inners, read_shaped, lines_of, outer_alone, outer_of, put_next, behind_outer, inners_of, by_end, inners_at, end_at, behind_outer_at}
-use Rattle.keeper.specs.declared.HeldWeights.{HeldWeights}
+use Rattle.keeper.specs.declared.ReadWeights.{ReadWeights}
 use Rattle.keeper.specs.declared.WeightShape.{WeightShape}
 use Rattle.keeper.specs.declared.WeightLines.{WeightLines}
 
@@ -40,9 +40,9 @@ outer-laid : (f : List ℤ → List ℕ) (o : List ℤ) (l : List (List ℤ)) �
 unfolding tabled fill
 outer-laid f o l = sym (rows_behind f l 0 (sets (replicate 288 0) 0 (padded (f o))))
 
-all_laid : (o : List ℤ) (l : List (List ℤ)) → behind_outer (hold_weights (outer_alone o)) l ≡ hold_weights (record { outward = o; inward = l })
-unfolding hold_weights
-all_laid o l = ap₂ {C = HeldWeights} (λ (x y : List ℕ). record { above = x; below = y }) (outer-laid (map above) o l) (outer-laid (map below) o l)
+all_laid : (o : List ℤ) (l : List (List ℤ)) → behind_outer (lay_weights (outer_alone o)) l ≡ lay_weights (record { outward = o; inward = l })
+unfolding lay_weights
+all_laid o l = ap₂ {C = ReadWeights} (λ (x y : List ℕ). record { above = x; below = y }) (outer-laid (map above) o l) (outer-laid (map below) o l)
 
 -- ---- a block, by how the lines before it ended
 
@@ -68,11 +68,11 @@ module _ (lines : WeightLines) (s : Text) (at : ℕ) (e : Ended) (is : e ≡ clo
 
 -- the end behind the nets' lines
 inners_end : (s : Text) (o : List ℤ) (p : Outcome (List (List ℤ)))
-    → end_at (inners_of (hold_weights (outer_alone o)) p) s (reached (ended_of p)) ≡ lines_of (then p λ i y. read_end s (record { outward = o; inward = i }) y)
+    → end_at (inners_of (lay_weights (outer_alone o)) p) s (reached (ended_of p)) ≡ lines_of (then p λ i y. read_end s (record { outward = o; inward = i }) y)
 unfolding end_at inners_of lines_of by_end closed ended_of kept_or then read_end need
 inners_end s o (got l y) =
     by_test (leb (length s) y)
-    (λ h. rw (h, closed) (ap (λ (w : HeldWeights). record { ended = Past y; weights = w }) (all_laid o l)))
+    (λ h. rw (h, closed) (ap (λ (w : ReadWeights). record { ended = Past y; weights = w }) (all_laid o l)))
     (λ h. rw (h, closed))
 inners_end s o (bad e) = refl
 

@@ -19,13 +19,15 @@ use Rattle.marking.specs.declared.Marking.{Marking}
 use Rattle.reader.specs.Answers.{held_both}
 use Rattle.marking.specs.Sizes.{sizes_for}
 use Rattle.keeper.specs.Reading.{read_weight_file}
-use Rattle.keeper.specs.Held.{hold_weights}
+use Rattle.keeper.specs.Held.{lay_weights, hold_weights}
 use Rattle.keeper.specs.Answers.{refused_weights, faulty, judged_weights, weighed, weights_or, weight_checking}
-use Rattle.keeper.specs.Parts.{shape_of, read_shaped, lines_of, Holds}
+use Rattle.keeper.specs.Parts.{shape_of, read_shaped, lines_of, Holds, Light}
 use Rattle.keeper.specs.declared.WeightAnswer.TheVariants.{TooLong, NotHeld}
 use Rattle.keeper.specs.declared.WeightShape.{WeightShape}
 use Rattle.keeper.specs.declared.WeightLines.{WeightLines}
 use Rattle.keeper.specs.declared.WeightCheck.{WeightCheck}
+use Rattle.keeper.specs.declared.HeldWeights.{HeldWeights}
+use Rattle.keeper.proofs.SignedLaws.{light}
 use Rattle.keeper.proofs.JudgeLaws.{model-held}
 use Rattle.keeper.proofs.ShapeLaws.{shaped_reading}
 use Rattle.keeper.proofs.WeightsReadBack.{weights_are_right, right_shaped}
@@ -62,20 +64,21 @@ module _ (m : Model) (k : Marking) (s : Text) where
         unfolding lines_of
         lines-ended = ap (λ (l : WeightLines). l.ended) lines
 
-        lines-held : (w : Weights) (x : ℕ) → file ≡ got w x → r.weights ≡ hold_weights w
+        lines-held : (w : Weights) (x : ℕ) → file ≡ got w x → r.weights ≡ lay_weights w
         unfolding lines_of kept_or
         lines-held w x e = ap (λ (l : WeightLines). l.weights) lines ∙ rw e
 
         pub check_stopped : (d : Fault) → r.ended ≡ Stopped d → refused_weights (faulty s d) ≡ weight_checking m k s
         check_stopped d e = sym (check_bad d (bad_of file r.ended d lines-ended e))
 
-        pub check_past : (x : ℕ) → r.ended ≡ Past x → (c : WeightCheck)
-            → ((w : Weights) → Holds m w r.weights → c ≡ judged_weights cover_limit (model_of m) (tokens_of (sizes_for m) k) w) → c ≡ weight_checking m k s
-        check_past x e c h =
+        pub check_past : (room : length m.objects ≡ 8) (x : ℕ) → r.ended ≡ Past x → (c : WeightCheck) (h : HeldWeights) → ((w : Weights) → Light w → r.weights ≡ lay_weights w → h ≡ hold_weights w)
+            → ((w : Weights) → Holds m w h → c ≡ judged_weights cover_limit (model_of m) (tokens_of (sizes_for m) k) w) → c ≡ weight_checking m k s
+        check_past room x e c h signed is =
             let g = got_of file r.ended x lines-ended e in
             let w = g.value in
-            h w (record {
-              shaped = right_shaped (model_of m) w (weights_are_right (model_of m) s 0 w x g.is);
-              is = lines-held w x g.is;
+            let right = weights_are_right (model_of m) s 0 w x g.is in
+            is w (record {
+              shaped = right_shaped (model_of m) w right;
+              is = signed w (light m w (record { held = model-held m k held; types = long; objects = room; shaped = right_shaped (model_of m) w right }) right) (lines-held w x g.is);
             })
             ∙ sym (check_got w x g.is)

@@ -1,100 +1,121 @@
--- Weighted sums of vectors are linear; as sums over indices they do not see where a vector ends.
+-- Weighted sums of vectors as sums over indices, which do not see where a vector ends.
 use Prim.Native.Nat.{ℕ, zero, suc, ◌+◌, ◌*◌, ◌≤◌, ◌<◌}
 use mathlib.Core.Path.{◌≡◌, refl, sym, ap, ap₂, ◌∙◌}
 use mathlib.Core.List.{List, [], ◌∷◌}
 use native.Mathlib.Omega.{arith}
+use lib.IntN.{ℤ, pos, ◌+ℤ◌, ◌-ℤ◌, ◌*ℤ◌, +ℤ_idl, +ℤ_idr, one, *ℤ-one, *ℤ-zero, zero-*ℤ}
 use lib.ListN.{length, drop, get_or, get_or-eq_default}
-use lib.Seq.{get_or-take, get_or-drop}
-use Rattle.eos.specs.Vector.{◌⊕◌, times, zeros, unit}
+use lib.Seq.{get_or-take}
+use Rattle.std.proofs.lemmas.Int.{ints}
+use Rattle.eos.specs.Vector.{◌⊕◌, times, zeros, unit, ◌≤ᵛ◌}
 use Rattle.eos.specs.Model.{Transition, no_transition, Model, net, Event}
 use Rattle.eos.specs.Firing.{summed, inner_of}
+use Rattle.eos.specs.Weights.{dot, dots}
+use Rattle.eos.proofs.WeightLaws.{*ℤ-pos-+, dot-⊕, dot_zero, zeros_none}
 use Rattle.model.specs.Rules.{nth}
 use Rattle.model.specs.Held.{row_in}
 use Rattle.model.proofs.SlotLaws.{by_index}
-use Rattle.weigh.specs.Sums.{total, product}
+use Rattle.weigh.specs.Sums.{total, number_of}
 use Rattle.weigh.proofs.TotalLaws.{total_none, total_same, total_zero, total_front}
-use Rattle.keeper.proofs.SplitLaws.{dot_n, dots_n}
 
--- ---- linear
+pub dot_none : (u : List ℤ) → dot u [] ≡ pos 0
+dot_none [] = refl
+dot_none (w ∷ u) = refl
 
-pub dot_n_none : (u : List ℕ) → dot_n u [] ≡ 0
-dot_n_none [] = refl
-dot_n_none (a ∷ u) = refl
+pub dot_zeros : (u : List ℤ) (k : ℕ) → dot u (zeros k) ≡ pos 0
+dot_zeros u k = dot_zero u (zeros k) (zeros_none k)
 
-pub dot_n-⊕ : (u x y : List ℕ) → dot_n u (x ⊕ y) ≡ dot_n u x + dot_n u y
-dot_n-⊕ [] x y = refl
-dot_n-⊕ (a ∷ u) [] y = omega arith
-dot_n-⊕ (a ∷ u) (b ∷ x) [] = omega arith
-dot_n-⊕ (a ∷ u) (b ∷ x) (c ∷ y) = omega (arith, dot_n-⊕ u x y)
+-- a vector taken so many times
+times_suc : (c : ℕ) (x : List ℕ) → times (suc c) x ≡ x ⊕ times c x
+times_suc c [] = refl
+times_suc c (a ∷ x) = ap₂ {A = ℕ} ◌∷◌ (omega arith) (times_suc c x)
 
-pub dot_n_zeros : (u : List ℕ) (k : ℕ) → dot_n u (zeros k) ≡ 0
-dot_n_zeros [] k = refl
-dot_n_zeros (a ∷ u) zero = refl
-dot_n_zeros (a ∷ u) (suc k) = omega (arith, dot_n_zeros u k)
+times_none : (x : List ℕ) → times 0 x ≤ᵛ []
+times_none [] i = omega arith
+times_none (a ∷ x) zero = omega arith
+times_none (a ∷ x) (suc i) = times_none x i
 
-dot_n_times : (u : List ℕ) (c : ℕ) (x : List ℕ) → dot_n u (times c x) ≡ c * dot_n u x
-dot_n_times [] c x = omega arith
-dot_n_times (a ∷ u) c [] = omega arith
-dot_n_times (a ∷ u) c (b ∷ x) = omega (arith, dot_n_times u c x)
+pub dot_times : (u : List ℤ) (c : ℕ) (x : List ℕ) → dot u (times c x) ≡ dot u x *ℤ pos c
+unfolding one
+dot_times u zero x = dot_zero u (times 0 x) (times_none x) ∙ sym (*ℤ-zero (dot u x))
+dot_times u (suc c) x =
+    let e : 1 + c ≡ suc c = omega arith in
+    ap (dot u) (times_suc c x) ∙ dot-⊕ u x (times c x)
+    ∙ ap₂ ◌+ℤ◌ (sym (*ℤ-one (dot u x))) (dot_times u c x) ∙ sym (*ℤ-pos-+ (dot u x) 1 c) ∙ ap (λ (n : ℕ). dot u x *ℤ pos n) e
 
-pub dot_n_unit : (u : List ℕ) (p : ℕ) → dot_n u (unit p) ≡ nth u p
-dot_n_unit [] p = refl
-dot_n_unit (a ∷ u) zero = omega (arith, dot_n_none u)
-dot_n_unit (a ∷ u) (suc p) = omega (arith, dot_n_unit u p)
+pub dot_unit : (u : List ℤ) (p : ℕ) → dot u (unit p) ≡ number_of u p
+unfolding one
+dot_unit [] p = refl
+dot_unit (w ∷ u) zero = ap₂ ◌+ℤ◌ (*ℤ-one w) (dot_none u) ∙ +ℤ_idr w
+dot_unit (w ∷ u) (suc p) = ap₂ ◌+ℤ◌ (*ℤ-zero w) (dot_unit u p) ∙ +ℤ_idl (number_of u p)
 
 -- ---- as sums over indices
 
-pub dot_n_total : (u x : List ℕ) (n : ℕ) → length u ≤ n → dot_n u x ≡ total n (λ i. nth u i * nth x i)
-dot_n_total [] x n h = sym (total_zero n (λ i. 0 * nth x i) (λ i p. omega arith))
-dot_n_total (a ∷ u) [] n h = sym (total_zero n (λ i. nth (a ∷ u) i * 0) (λ i p. omega arith))
-dot_n_total (a ∷ u) (b ∷ x) zero h = absurd (omega arith)
-dot_n_total (a ∷ u) (b ∷ x) (suc n) h = omega (arith, total_front n (λ i. nth (a ∷ u) i * nth (b ∷ x) i), dot_n_total u x n (omega arith))
+pub dot_total : (u : List ℤ) (x : List ℕ) (n : ℕ) → length u ≤ n → dot u x ≡ total n (λ i. number_of u i *ℤ pos (nth x i))
+dot_total [] x n h = sym (total_zero n _ (λ i p. zero-*ℤ (pos (nth x i))))
+dot_total (w ∷ u) [] n h = sym (total_zero n _ (λ i p. *ℤ-zero (number_of (w ∷ u) i)))
+dot_total (w ∷ u) (a ∷ x) zero h = absurd (omega arith)
+dot_total (w ∷ u) (a ∷ x) (suc n) h =
+    ap (λ (z : ℤ). w *ℤ pos a +ℤ z) (dot_total u x n (omega arith)) ∙ sym (total_front n (λ i. number_of (w ∷ u) i *ℤ pos (nth (a ∷ x) i)))
 
-pub dots_n_total : (us : List (List ℕ)) (k : ℕ) (i : ℕ → List ℕ) → dots_n us k i ≡ total (length us) (λ n. dot_n (get_or us n []) (i (k + n)))
-dots_n_total [] k i = sym (total_none (λ n. dot_n (get_or [] n []) (i (k + n))))
-dots_n_total (u ∷ us) k i =
-    let f : ℕ → ℕ = λ n. dot_n (get_or (u ∷ us) n []) (i (k + n)) in
-    let a : i (k + 0) ≡ i k = ap i (omega arith) in
-    let b : total (length us) (λ n. dot_n (get_or us n []) (i (suc k + n))) ≡ total (length us) (λ n. f (suc n)) =
-    total_same (length us) _ _ (λ n p. ap (λ (j : ℕ). dot_n (get_or us n []) (i j)) {x = suc k + n} {y = k + suc n} (omega arith)) in
-    omega (arith, total_front (length us) f, ap (dot_n u) a, b, dots_n_total us (suc k) i)
+pub dots_total : (us : List (List ℤ)) (k : ℕ) (i : ℕ → List ℕ) → dots us k i ≡ total (length us) (λ n. dot (get_or us n []) (i (k + n)))
+dots_total [] k i = sym (total_none (λ n. dot (get_or [] n []) (i (k + n))))
+dots_total (u ∷ us) k i =
+    ap₂ ◌+ℤ◌ (ap (λ (j : ℕ). dot u (i j)) {x = k} {y = k + 0} (omega arith))
+    (dots_total us (suc k) i
+    ∙ total_same (length us) _ _ (λ n p. ap (λ (j : ℕ). dot (get_or us n []) (i j)) {x = suc k + n} {y = k + suc n} (omega arith)))
+    ∙ sym (total_front (length us) (λ n. dot (get_or (u ∷ us) n []) (i (k + n))))
 
 -- the sides of transitions, each as often as it is counted
-dot_n_summed : (u : List ℕ) (side : Transition → List ℕ) → side no_transition ≡ [] → (cs : List ℕ) (ts : List Transition) (n : ℕ) → length cs ≤ n
-    → dot_n u (summed side cs ts) ≡ total n (λ t. nth cs t * dot_n u (side (get_or ts t no_transition)))
-dot_n_summed u side z [] ts n h = dot_n_none u ∙ sym (total_zero n (λ t. 0 * dot_n u (side (get_or ts t no_transition))) (λ i p. omega arith))
-dot_n_summed u side z (c ∷ cs) [] n h =
-    let e : dot_n u (side no_transition) ≡ 0 = ap (dot_n u) z ∙ dot_n_none u in
-    dot_n_none u ∙ sym (total_zero n (λ t. nth (c ∷ cs) t * dot_n u (side no_transition)) (λ i p. rw e (omega arith)))
-dot_n_summed u side z (c ∷ cs) (t ∷ ts) zero h = absurd (omega arith)
-dot_n_summed u side z (c ∷ cs) (t ∷ ts) (suc n) h =
-    let f : ℕ → ℕ = λ k. nth (c ∷ cs) k * dot_n u (side (get_or (t ∷ ts) k no_transition)) in
-    omega (arith, dot_n-⊕ u (times c (side t)) (summed side cs ts), dot_n_times u c (side t), total_front n f, dot_n_summed u side z cs ts n (omega arith))
+dot_summed : (u : List ℤ) (side : Transition → List ℕ) → side no_transition ≡ [] → (cs : List ℕ) (ts : List Transition) (n : ℕ) → length cs ≤ n
+    → dot u (summed side cs ts) ≡ total n (λ t. dot u (side (get_or ts t no_transition)) *ℤ pos (nth cs t))
+dot_summed u side z [] ts n h = dot_none u ∙ sym (total_zero n _ (λ i p. *ℤ-zero (dot u (side (get_or ts i no_transition)))))
+dot_summed u side z (c ∷ cs) [] n h =
+    let e : dot u (side no_transition) ≡ pos 0 = ap (dot u) z ∙ dot_none u in
+    dot_none u ∙ sym (total_zero n _ (λ i p. ap (λ (v : ℤ). v *ℤ pos (nth (c ∷ cs) i)) e ∙ zero-*ℤ (pos (nth (c ∷ cs) i))))
+dot_summed u side z (c ∷ cs) (t ∷ ts) zero h = absurd (omega arith)
+dot_summed u side z (c ∷ cs) (t ∷ ts) (suc n) h =
+    dot-⊕ u (times c (side t)) (summed side cs ts)
+    ∙ ap₂ ◌+ℤ◌ (dot_times u c (side t)) (dot_summed u side z cs ts n (omega arith))
+    ∙ sym (total_front n (λ k. dot u (side (get_or (t ∷ ts) k no_transition)) *ℤ pos (nth (c ∷ cs) k)))
 
 -- what a net's part in an event weighs
-pub dot_n_inner : (u : List ℕ) (side : Transition → List ℕ) → side no_transition ≡ [] → (m : Model) (e : Event) (k n : ℕ) → length (get_or e.sync k []) ≤ n
-    → dot_n u (inner_of side m e k) ≡ total n (λ t. nth (get_or e.sync k []) t * dot_n u (side (get_or (net m k).transitions t no_transition)))
+pub dot_inner : (u : List ℤ) (side : Transition → List ℕ) → side no_transition ≡ [] → (m : Model) (e : Event) (k n : ℕ) → length (get_or e.sync k []) ≤ n
+    → dot u (inner_of side m e k) ≡ total n (λ t. dot u (side (get_or (net m k).transitions t no_transition)) *ℤ pos (nth (get_or e.sync k []) t))
 unfolding inner_of
-dot_n_inner u side z m e k n h =
-    dot_n-⊕ u (zeros (net m k).size) (summed side (get_or e.sync k []) (net m k).transitions)
-    ∙ omega (arith, dot_n_zeros u (net m k).size, dot_n_summed u side z (get_or e.sync k []) (net m k).transitions n h)
+dot_inner u side z m e k n h =
+    dot-⊕ u (zeros (net m k).size) (summed side (get_or e.sync k []) (net m k).transitions)
+    ∙ ap₂ ◌+ℤ◌ (dot_zeros u (net m k).size) (dot_summed u side z (get_or e.sync k []) (net m k).transitions n h) ∙ +ℤ_idl _
+
+-- a difference, so many times
+pub minus_times : (a b : ℤ) (c : ℕ) → (a -ℤ b) *ℤ pos c ≡ a *ℤ pos c -ℤ b *ℤ pos c
+unfolding one
+minus_times a b zero = rw (*ℤ-zero (a -ℤ b), *ℤ-zero a, *ℤ-zero b)
+minus_times a b (suc c) =
+    let e : suc c ≡ 1 + c = omega arith in
+    let p = *ℤ-pos-+ (a -ℤ b) 1 c in
+    let q = *ℤ-pos-+ a 1 c in
+    let r = *ℤ-pos-+ b 1 c in
+    let i = minus_times a b c in
+    rw e (omega (arith, ints, p, q, r, i, *ℤ-one (a -ℤ b), *ℤ-one a, *ℤ-one b))
 
 -- ---- a row of a table
 
 -- weights as many as a row's numbers, looked up where they are held
-pub dot_n_row : (u w : List ℕ) (at n : ℕ) (x table : List ℕ) (j : ℕ) → length u ≡ n → n ≤ 32 → ((i : ℕ) → i < 32 → nth w (at + i) ≡ nth u i)
-    → ((i : ℕ) → i < n → nth x i ≡ nth table (j + i)) → dot_n u x ≡ product w at table j
-unfolding product
-dot_n_row u w at n x table j e few held is =
-    dot_n_total u x 32 (omega arith)
-    ∙ total_same 32 (λ i. nth u i * nth x i) (λ i. nth w (at + i) * nth table (j + i))
+pub dot_row : (u w : List ℤ) (x y : List ℕ) → length u ≤ 32 → length w ≤ 32 → ((i : ℕ) → number_of w i ≡ number_of u i)
+    → ((i : ℕ) → i < length u → nth x i ≡ nth y i) → dot u x ≡ dot w y
+dot_row u w x y few long held is =
+    dot_total u x 32 few
+    ∙ total_same 32 _ (λ i. number_of w i *ℤ pos (nth y i))
     (λ i p.
-    by_index n i
-    (λ q. ap₂ ◌*◌ (sym (held i p)) (is i q))
+    by_index (length u) i
+    (λ q. ap₂ (λ (v : ℤ) (n : ℕ). v *ℤ pos n) (sym (held i)) (is i q))
     (λ q.
-    let z : nth u i ≡ 0 = get_or-eq_default u 0 (omega arith) in
-    let y : nth w (at + i) ≡ 0 = held i p ∙ z in
-    rw (z, y) (omega arith)))
+    let z : number_of u i ≡ pos 0 = get_or-eq_default u (pos 0) q in
+    let y' : number_of w i ≡ pos 0 = held i ∙ z in
+    ap (λ (v : ℤ). v *ℤ pos (nth x i)) z ∙ zero-*ℤ (pos (nth x i)) ∙ sym (ap (λ (v : ℤ). v *ℤ pos (nth y i)) y' ∙ zero-*ℤ (pos (nth y i)))))
+    ∙ sym (dot_total w y 32 long)
 
-pub row-nth : (n : ℕ) (table : List ℕ) (t i : ℕ) → i < n → nth (row_in n table t) i ≡ nth table (t * 32 + i)
-row-nth n table t i h = get_or-take n (drop (t * 32) table) i 0 h ∙ get_or-drop (t * 32) table i 0
+pub row-nth : (n m : ℕ) (table : List ℕ) (t i : ℕ) → i < n → i < m → nth (row_in n table t) i ≡ nth (row_in m table t) i
+row-nth n m table t i h k =
+    get_or-take n (drop (t * 32) table) i 0 h ∙ sym (get_or-take m (drop (t * 32) table) i 0 k)

@@ -1,36 +1,36 @@
--- An event's effect is 0 exactly where it gains what it loses.
-use Prim.Native.Nat.{ℕ, ◌+◌, ◌*◌, ◌≤◌, ◌<◌}
+-- What an event's net parts and its move weigh, by the tables where they are held.
+use Prim.Native.Nat.{ℕ, suc, ◌+◌, ◌*◌, ◌≤◌, ◌<◌}
 use mathlib.Core.Path.{◌≡◌, ap, ap₂, sym, ◌∙◌}
 use mathlib.Core.Bool.{◌&&◌}
-use mathlib.Core.List.{List, [], map}
+use mathlib.Core.List.{List, []}
 use native.Mathlib.Omega.{arith}
 use native.Mathlib.Nat.{zero-add}
 use lib.Dec.{eqb}
-use lib.IntN.{ℤ}
-use lib.ListN.{length, drop, get_or, length-map, get_or-map, get_or-eq_default, length-take}
+use lib.IntN.{ℤ, pos, ◌+ℤ◌, ◌*ℤ◌, +ℤ_idr, *ℤ-zero}
+use lib.ListN.{length, drop, get_or, get_or-eq_default, length-take}
 use Rattle.text.proofs.Basics.{and_true}
 use Rattle.text.specs.Lines.{in_range}
 use Rattle.text.proofs.TestLaws.{within-is}
 use Rattle.eos.specs.Vector.{zeros, unit}
 use Rattle.eos.specs.Model as eos
 use Rattle.eos.specs.Firing.{outer_of, inner_of}
-use Rattle.eos.specs.Weights.{Weights}
+use Rattle.eos.specs.Weights.{Weights, dot, dots}
+use Rattle.eos.proofs.WeightLaws.{dot-⊕}
 use Rattle.model.specs.Rules.{nth}
-use Rattle.model.specs.Held.{no_net, no_event, row_in, sides_in, tabled, sync_in, net_of, event_of, model_of}
+use Rattle.model.specs.Held.{no_net, no_event, row_in, sides_in, sync_in, net_of, event_of, model_of}
 use Rattle.model.specs.Test.{frame_in}
 use Rattle.model.specs.declared.ObjectNet.{ObjectNet}
 use Rattle.model.specs.declared.Event.{Event}
 use Rattle.model.specs.declared.Model.{Model}
 use Rattle.model.proofs.SlotLaws.{by_index, cond_below, listed_at}
-use Rattle.model.proofs.TableLaws.{row_at, nth-row}
+use Rattle.model.proofs.TableLaws.{nth-row}
 use Rattle.model.proofs.HeldTests.{held-is, count_test, nets-at}
-use Rattle.keeper.specs.Held.{weight_lists}
-use Rattle.weigh.specs.Sums.{total, product}
+use Rattle.keeper.specs.Held.{hold_weights}
+use Rattle.weigh.specs.Sums.{total, row_of, number_of}
 use Rattle.weigh.proofs.TotalLaws.{total_same}
-use Rattle.keeper.proofs.SplitLaws.{dot_n, dots_n}
-use Rattle.keeper.proofs.DotLaws.{dot_n-⊕, dot_n_zeros, dot_n_unit, dots_n_total, dot_n_inner, dot_n_row, row-nth}
+use Rattle.keeper.proofs.DotLaws.{dot_zeros, dot_unit, dots_total, dot_inner, dot_row, row-nth}
 use Rattle.keeper.proofs.ShapeLaws.{net-is}
-use Rattle.keeper.proofs.HeldRows.{Kept, event-test, few-nets, few-places, outer-long, inner-long, net-long, net-small, outer-at, inner-at}
+use Rattle.keeper.proofs.HeldRows.{Kept, event-test, few-nets, few-places, outer-long, inner-long, net-long, net-small, outer-at, inner-at, outer-few, inner-few}
 
 -- ---- the nets' part of an event
 
@@ -41,8 +41,8 @@ module _ (m : Model) (w : Weights) (kept : Kept m w) (k : ℕ) (listed : k < m.l
   abbrev event : eos.Event
   event = eos.event (model_of m) k
 
-  abbrev table : (ℤ → ℕ) → List ℕ
-  table f = tabled (map f) 288 (weight_lists w)
+  abbrev rows : List (List ℤ)
+  rows = (hold_weights w).rows
 
   abbrev net : ℕ → ObjectNet
   net n = get_or m.objects n no_net
@@ -64,11 +64,10 @@ module _ (m : Model) (w : Weights) (kept : Kept m w) (k : ℕ) (listed : k < m.l
   unfolding event_of
   counts_are_lem n p = ap (λ (e : eos.Event). get_or e.sync n []) event-is ∙ listed_at (sync_in m.objects held.sync) m.nets n [] p
 
-  counts-at : (n : ℕ) → n < m.nets → (t : ℕ) → t < 32 → nth (get_or event.sync n []) t ≡ nth held.sync (n * 32 + t)
+  counts-at : (n : ℕ) → n < m.nets → (t : ℕ) → t < 32 → nth (get_or event.sync n []) t ≡ nth (row_in 32 held.sync n) t
   counts-at n p t q =
       ap (λ (l : List ℕ). nth l t) (counts_are_lem n p)
       ∙ ap (λ (g : ℕ → ℕ). g t) (nth-row 8 m.nets (frame_in m).steps held.sync (event-test m kept.held k listed).past (few-nets m w kept) n p (few-steps n p))
-      ∙ row_at held.sync n t q
 
   counts-few : (n : ℕ) → n < m.nets → length (get_or event.sync n []) ≤ (net n).transitions
   counts-few n p = rw (counts_are_lem n p) (omega (arith, length-take (net n).transitions (drop (n * 32) held.sync)))
@@ -84,56 +83,54 @@ module _ (m : Model) (w : Weights) (kept : Kept m w) (k : ℕ) (listed : k < m.l
         ap (λ (o : eos.ObjectNet). side (get_or o.transitions t eos.no_transition)) (net-is m n p)
         ∙ ap side (listed_at (sides_in (net n).places (net n).pre (net n).post) (net n).transitions t eos.no_transition q) ∙ net-side n t
 
-    module _ (f : ℤ → ℕ) where
-      abbrev weights : ℕ → List ℕ
-      weights n = map f (get_or w.inward n [])
+    abbrev counted : ℕ → ℕ → ℤ
+    counted n t = dot (row_of rows (suc n)) (row_in 32 (nets n) t) *ℤ pos (nth (row_in 32 held.sync n) t)
 
-      abbrev counted : ℕ → ℕ → ℕ
-      counted n t = nth held.sync (n * 32 + t) * product (table f) (n * 32 + 32) (nets n) (t * 32)
+    one_part : (n : ℕ) → n < m.nets → (t : ℕ) → t < 32
+        → dot (get_or w.inward n []) (side (get_or (eos.net (model_of m) n).transitions t eos.no_transition)) *ℤ pos (nth (get_or event.sync n []) t) ≡ counted n t
+    one_part n p t q =
+        by_index (net n).transitions t
+        (λ r.
+        let long = net-long m w kept n p in
+        ap₂ (λ (v : ℤ) (c : ℕ). v *ℤ pos c)
+        (ap (dot (get_or w.inward n [])) (transition_is n t p r)
+        ∙ dot_row (get_or w.inward n []) (row_of rows (suc n)) (row_in (net n).places (nets n) t) (row_in 32 (nets n) t)
+        (omega (arith, long, net-small m w kept n)) (inner-few m w kept n p) (inner-at m w kept n p)
+        (λ i h. row-nth (net n).places 32 (nets n) t i (omega (arith, long)) (omega (arith, long, net-small m w kept n))))
+        (counts-at n p t q))
+        (λ r.
+        let z : nth (get_or event.sync n []) t ≡ 0 = get_or-eq_default (get_or event.sync n []) 0 (omega (arith, counts-few n p)) in
+        let y : nth (row_in 32 held.sync n) t ≡ 0 = sym (counts-at n p t q) ∙ z in
+        let a = dot (get_or w.inward n []) (side (get_or (eos.net (model_of m) n).transitions t eos.no_transition)) in
+        let b = dot (row_of rows (suc n)) (row_in 32 (nets n) t) in
+        ap (λ (c : ℕ). a *ℤ pos c) z ∙ *ℤ-zero a ∙ sym (ap (λ (c : ℕ). b *ℤ pos c) y ∙ *ℤ-zero b))
 
-      one_part : (n : ℕ) → n < m.nets → (t : ℕ) → t < 32
-          → nth (get_or event.sync n []) t * dot_n (weights n) (side (get_or (eos.net (model_of m) n).transitions t eos.no_transition)) ≡ counted n t
-      one_part n p t q =
-          by_index (net n).transitions t
-          (λ r.
-          ap₂ ◌*◌ (counts-at n p t q)
-          (ap (dot_n (weights n)) (transition_is n t p r)
-          ∙ dot_n_row (weights n) (table f) (n * 32 + 32) (net n).places (row_in (net n).places (nets n) t) (nets n) (t * 32)
-          (length-map (get_or w.inward n []) f ∙ net-long m w kept n p) (net-small m w kept n) (inner-at m w kept f n p) (row-nth (net n).places (nets n) t)))
-          (λ r.
-          let z : nth (get_or event.sync n []) t ≡ 0 = get_or-eq_default (get_or event.sync n []) 0 (omega (arith, counts-few n p)) in
-          let y : nth held.sync (n * 32 + t) ≡ 0 = sym (counts-at n p t q) ∙ z in
-          rw (z, y) (omega arith))
+    net_part : (n : ℕ) → n < m.nets → dot (get_or w.inward n []) (inner_of side (model_of m) event n) ≡ total 32 (counted n)
+    net_part n p =
+        dot_inner (get_or w.inward n []) side nothing (model_of m) event n 32 (omega (arith, counts-few n p, few-steps n p))
+        ∙ total_same 32 _ (counted n) (one_part n p)
 
-      net_part : (n : ℕ) → n < m.nets → dot_n (weights n) (inner_of side (model_of m) event n) ≡ total 32 (counted n)
-      net_part n p =
-          dot_n_inner (weights n) side nothing (model_of m) event n 32 (omega (arith, counts-few n p, few-steps n p))
-          ∙ total_same 32 _ (counted n) (one_part n p)
+    -- what the nets' parts weigh
+    pub inside_is : dots w.inward 0 (inner_of side (model_of m) event) ≡ total m.nets (λ n. total 32 (counted n))
+    inside_is =
+        let i = inner_of side (model_of m) event in
+        dots_total w.inward 0 i ∙ ap (λ (c : ℕ). total c (λ n. dot (get_or w.inward n []) (i (0 + n)))) (inner-long m w kept)
+        ∙ total_same m.nets _ _ (λ n p. ap (λ (j : ℕ). dot (get_or w.inward n []) (i j)) (zero-add n) ∙ net_part n p)
 
-      -- what the nets' parts weigh
-      pub inside_is : dots_n (map (map f) w.inward) 0 (inner_of side (model_of m) event) ≡ total m.nets (λ n. total 32 (counted n))
-      inside_is =
-          let l = map (map f) w.inward in
-          let i = inner_of side (model_of m) event in
-          dots_n_total l 0 i ∙ ap (λ (c : ℕ). total c (λ n. dot_n (get_or l n []) (i (0 + n)))) (length-map w.inward (map f) ∙ inner-long m w kept)
-          ∙ total_same m.nets _ _
-          (λ n p. ap₂ (λ (u : List ℕ) (j : ℕ). dot_n u (i j)) (get_or-map (map f) w.inward n []) (zero-add n) ∙ net_part n p)
+    -- what its move weighs
+    pub outside_move : (j : ℕ) → j < m.moves → event.act ≡ eos.move j
+        → dot w.outward (outer_of side (model_of m) event) ≡ dot (row_of rows 0) (row_in 32 moves j)
+    unfolding outer_of model_of
+    outside_move j p e =
+        let long = outer-long m w kept in
+        ap (dot w.outward) (rw e (ap side (listed_at (sides_in m.places m.pre m.post) m.moves j eos.no_transition p) ∙ move-side j))
+        ∙ dot_row w.outward (row_of rows 0) (row_in m.places moves j) (row_in 32 moves j) (omega (arith, long, few-places m w kept)) (outer-few m w kept) (outer-at m w kept)
+        (λ i h. row-nth m.places 32 moves j i (omega (arith, long)) (omega (arith, long, few-places m w kept)))
 
-      -- what its move weighs
-      pub outside_move : (j : ℕ) → j < m.moves → event.act ≡ eos.move j
-          → dot_n (map f w.outward) (outer_of side (model_of m) event) ≡ product (table f) 0 moves (j * 32)
-      unfolding outer_of model_of
-      outside_move j p e =
-          ap (dot_n (map f w.outward))
-          (rw e (ap side (listed_at (sides_in m.places m.pre m.post) m.moves j eos.no_transition p) ∙ move-side j))
-          ∙ dot_n_row (map f w.outward) (table f) 0 m.places (row_in m.places moves j) moves (j * 32)
-          (length-map w.outward f ∙ outer-long m w kept) (few-places m w kept) (λ i q. ap (nth (table f)) (zero-add i) ∙ outer-at m w kept f i q)
-          (row-nth m.places moves j)
-
-      -- and idling
-      pub outside_idle : (j : ℕ) → event.act ≡ eos.idle j → dot_n (map f w.outward) (outer_of side (model_of m) event) ≡ nth (map f w.outward) j
-      unfolding outer_of
-      outside_idle j e =
-          rw e
-          (dot_n-⊕ (map f w.outward) (unit j) (zeros (eos.places (model_of m)))
-          ∙ omega (arith, dot_n_unit (map f w.outward) j, dot_n_zeros (map f w.outward) (eos.places (model_of m))))
+    -- and idling
+    pub outside_idle : (j : ℕ) → event.act ≡ eos.idle j → dot w.outward (outer_of side (model_of m) event) ≡ number_of w.outward j
+    unfolding outer_of
+    outside_idle j e =
+        rw e
+        (dot-⊕ w.outward (unit j) (zeros (eos.places (model_of m)))
+        ∙ ap₂ ◌+ℤ◌ (dot_unit w.outward j) (dot_zeros w.outward (eos.places (model_of m))) ∙ +ℤ_idr (number_of w.outward j))

@@ -1,39 +1,39 @@
 -- The check of weights, case by case: 6, 7, or they pass with their sum and cover.
-use Prim.Native.Nat.{ℕ, ◌+◌, ◌-◌, ◌*◌, ◌≤◌, ◌<◌}
+use Prim.Native.Nat.{ℕ, ◌+◌, ◌≤◌}
 use mathlib.Core.Path.{◌≡◌, refl, ap, ap₂, sym, ◌∙◌}
 use mathlib.Core.Bool.{Bool, true, false}
-use mathlib.Core.List.{List, [], ◌∷◌, map}
+use mathlib.Core.List.{List, [], ◌∷◌}
 use mathlib.Core.Option.{Option, none, some}
 use native.Mathlib.Omega.{arith}
-use lib.IntN.{ℤ, nat_abs, sub_ℕ}
+use native.Mathlib.Numerals.{add-one}
+use lib.IntN.{ℤ, nat_abs}
 use lib.ListN.{length, get_or}
 use Rattle.text.proofs.Basics.{and_true}
-use Rattle.text.specs.Capped.{above, below}
-use Rattle.text.proofs.TestLaws.{within-is}
 use Rattle.eos.specs.Model as eos
-use Rattle.eos.specs.Causes.{first, unless, at, failing, numbered}
+use Rattle.std.specs.Prelude as answer
+use Rattle.eos.specs.Causes.{first, unless, at, failing}
 use Rattle.eos.specs.Weights.{Weights, is_zero, effect, all_zero, weigh, unbalanced, weight_refusal, covers}
 use Rattle.model.specs.Limits.{room_limit, count_limit}
-use Rattle.model.specs.Held.{no_event, tabled, event_of, model_of}
+use Rattle.model.specs.Held.{no_event, event_of, model_of}
 use Rattle.model.specs.Test.{held_model}
 use Rattle.model.specs.declared.Model.{Model}
 use Rattle.model.proofs.SlotLaws.{length-listed}
 use Rattle.model.proofs.HeldTests.{held-is, most-places}
+use Rattle.marking.specs.Tokens.{tokens_in, OnPlaces}
 use Rattle.marking.specs.Held.{tokens_of, held_marking}
 use Rattle.marking.specs.declared.Marking.{Marking}
 use Rattle.reader.specs.Answers.{held_both, held_in}
 use Rattle.marking.specs.Sizes.{sizes_for}
-use Rattle.keeper.specs.Held.{weight_lists, hold_weights}
+use Rattle.keeper.specs.Held.{hold_weights}
 use Rattle.keeper.specs.Answers.{sum_of, refused_weights, passed_weights, turned_or, judged_weights}
-use Rattle.weigh.specs.Sums.{marking_weight, PlaceIn, covered}
+use Rattle.weigh.specs.Sums.{marking_weight, covered, found}
 use Rattle.keeper.specs.declared.HeldWeights.{HeldWeights}
 use Rattle.keeper.specs.declared.WeightAnswer.TheVariants.{Passed, Turned}
 use Rattle.keeper.specs.declared.Sum.{Sum}
 use Rattle.keeper.specs.declared.WeightCheck.{WeightCheck}
-use Rattle.keeper.proofs.SplitLaws.{sub_above, sub_below, sub_abs}
 use Rattle.keeper.proofs.ShapeLaws.{nets-long}
 use Rattle.keeper.proofs.HeldRows.{Kept}
-use Rattle.keeper.proofs.MarkingLaws.{few-tokens, place_in}
+use Rattle.keeper.proofs.MarkingLaws.{few-tokens, tokens-held, on_places}
 use Rattle.keeper.proofs.WeighLaws.{weigh-is}
 use Rattle.keeper.proofs.CoverLaws.{covers-is}
 
@@ -51,51 +51,26 @@ module _ (m : Model) (k : Marking) (held : held_both m k ≡ true) where
   pub tokens-few : k.len ≤ room_limit
   tokens-few = few-tokens (sizes_for m) k marking_held
 
-  pub places_in : (i : ℕ) → i < k.len → PlaceIn k.rows (i * 33)
-  places_in i h =
-      let p = place_in (sizes_for m) k marking_held i h in
-      record { least = p.0; most = (omega (arith, p.1, most-places m (held-is m model-held))) }
-
-  pub some_place : 1 ≤ m.places
-  some_place = (within-is 1 32 m.places (held-is m model-held).places-few).0
+  pub places_in : OnPlaces (tokens_in k)
+  places_in = on_places (sizes_for m) (most-places m (held-is m model-held)) (tokens_in k) (tokens-held (sizes_for m) k marking_held)
 
 -- ---- weights that pass
 
--- the sum of the two parts stays small
-pub sum-small : (up down : ℕ) (sum : Sum) → sum ≡ record { above = up - down; below = down - up } → up ≤ 35183315132160 → down ≤ 35183315132160
-    → sum.above + sum.below ≤ 35183315132160
-sum-small up down sum e p q = rw e (omega arith)
-
--- a sum by its parts
-sum_of_lem : (a b : ℕ) → record { above = a - b; below = b - a } ≡ sum_of (sub_ℕ a b)
-sum_of_lem a b = ap₂ {C = Sum} (λ (x y : ℕ). record { above = x; below = y }) (sym (sub_above a b)) (sym (sub_below a b))
-
 module _ (m : Model) (w : Weights) (kept : Kept m w) (k : Marking) (held : held_marking room_limit (sizes_for m) k ≡ true) (h : HeldWeights) (is : h ≡ hold_weights w) where
-  above-is : h.above ≡ tabled (map above) 288 (weight_lists w)
-  unfolding hold_weights
-  above-is = ap (λ (x : HeldWeights). x.above) is
-
-  below-is : h.below ≡ tabled (map below) 288 (weight_lists w)
-  unfolding hold_weights
-  below-is = ap (λ (x : HeldWeights). x.below) is
-
   abbrev sum : ℤ
   sum = weigh (model_of m) w (tokens_of (sizes_for m) k)
 
-  pub passed_is : (up down : ℕ) → up ≡ marking_weight h.above m.types k.rows k.len → down ≡ marking_weight h.below m.types k.rows k.len
-      → (s : Sum) → s ≡ record { above = up - down; below = down - up } → (most : ℕ) (cover : Bool)
-      → cover ≡ covered most m.places m.nets m.objects h.above (s.above + s.below)
+  pub passed_is : (z : ℤ) → z ≡ marking_weight h.rows m.types (tokens_in k) → (s : Sum) → s ≡ sum_of z → (most : ℕ) (cover : Bool)
+      → cover ≡ covered most m.places m.nets m.objects h.rows (nat_abs z)
       → record { answer = Passed; sum = s; cover = cover } ≡ passed_weights most w sum
-  passed_is up down p q s e most cover c =
-      let z : sum ≡ sub_ℕ up down =
-      weigh-is m w kept k held
-      ∙ sym (ap₂ sub_ℕ (p ∙ ap (λ (t : List ℕ). marking_weight t m.types k.rows k.len) above-is) (q ∙ ap (λ (t : List ℕ). marking_weight t m.types k.rows k.len) below-is)) in
-      let s-is : s ≡ sum_of sum = e ∙ sum_of_lem up down ∙ ap sum_of (sym z) in
-      let size : s.above + s.below ≡ nat_abs sum =
-      ap (λ (x : Sum). x.above + x.below) e ∙ sym (sub_abs up down) ∙ ap nat_abs (sym z) in
+  unfolding tokens_of
+  passed_is z p s e most cover c =
+      let rows-is : h.rows ≡ (hold_weights w).rows = ap (λ (x : HeldWeights). x.rows) is in
+      let z-is : z ≡ sum = p ∙ ap (λ (t : List (List ℤ)). marking_weight t m.types (tokens_in k)) rows-is
+      ∙ sym (weigh-is m w kept (tokens_in k) (tokens-held (sizes_for m) k held)) in
       let c-is : cover ≡ covers most count_limit w (nat_abs sum) =
-      c ∙ ap₂ (covered most m.places m.nets m.objects) above-is size ∙ sym (covers-is m w kept (nat_abs sum) most) in
-      ap₂ {C = WeightCheck} (λ (x : Sum) (y : Bool). record { answer = Passed; sum = x; cover = y }) s-is c-is
+      c ∙ ap₂ (covered most m.places m.nets m.objects) rows-is (ap nat_abs z-is) ∙ sym (covers-is m w kept (nat_abs sum) most) in
+      ap₂ {C = WeightCheck} (λ (x : Sum) (y : Bool). record { answer = Passed; sum = x; cover = y }) (e ∙ ap sum_of z-is) c-is
 
 -- ---- the causes
 
@@ -118,18 +93,19 @@ module _ (most : ℕ) (m : Model) (w : Weights) (μ : eos.Marking) where
       rw (h, nets-long m, e)
 
   module _ (some_weight : all_zero w ≡ false) where
-    pub turned-event : (r : ℕ) → r ≡ numbered first-unbalanced → (r ≡ 0 → ⊥) → refused_weights (Turned 7 r) ≡ judged_weights most (model_of m) μ w
+    pub turned-event : (r : answer.Option ℕ) → r ≡ found first-unbalanced → (k : ℕ) → r ≡ answer.Some k
+        → refused_weights (Turned 7 (k + 1)) ≡ judged_weights most (model_of m) μ w
     unfolding judged_weights turned_or weight_refusal first unless at
-    turned-event r e d = rw (some_weight, events-long) (go first-unbalanced e)
+    turned-event r e k d = rw (some_weight, events-long) (go first-unbalanced (sym d ∙ e))
       where
-        go : (o : Option ℕ) → r ≡ numbered o → refused_weights (Turned 7 r) ≡ turned_or last (first (at unbalanced o ∷ [])) (passed_weights most w (weigh (model_of m) w μ))
-        go none p = absurd (d p)
-        go (some i) p = rw p
+        go : (o : Option ℕ) → answer.Some k ≡ found o → refused_weights (Turned 7 (k + 1)) ≡ turned_or last (first (at unbalanced o ∷ [])) (passed_weights most w (weigh (model_of m) w μ))
+        go none p = let z : ◌≡◌ {A = ℕ} 0 1 = cc in absurd (omega arith)
+        go (some i) p = let q : k ≡ i = cc in rw (q, add-one i)
 
-    pub none_turned : (r : ℕ) → r ≡ numbered first-unbalanced → r ≡ 0 → passed_weights most w (weigh (model_of m) w μ) ≡ judged_weights most (model_of m) μ w
+    pub none_turned : (r : answer.Option ℕ) → r ≡ found first-unbalanced → r ≡ answer.None → passed_weights most w (weigh (model_of m) w μ) ≡ judged_weights most (model_of m) μ w
     unfolding judged_weights turned_or weight_refusal first unless at
-    none_turned r e d = rw (some_weight, events-long) (go first-unbalanced e)
+    none_turned r e d = rw (some_weight, events-long) (go first-unbalanced (sym d ∙ e))
       where
-        go : (o : Option ℕ) → r ≡ numbered o → passed_weights most w (weigh (model_of m) w μ) ≡ turned_or last (first (at unbalanced o ∷ [])) (passed_weights most w (weigh (model_of m) w μ))
+        go : (o : Option ℕ) → answer.None ≡ found o → passed_weights most w (weigh (model_of m) w μ) ≡ turned_or last (first (at unbalanced o ∷ [])) (passed_weights most w (weigh (model_of m) w μ))
         go none p = refl
-        go (some i) p = absurd (omega arith)
+        go (some i) p = let z : ◌≡◌ {A = ℕ} 0 1 = cc in absurd (omega arith)

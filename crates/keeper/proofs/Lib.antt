@@ -1,4 +1,3 @@
-pub mod Differences
 pub mod SplitLaws
 pub mod DotLaws
 pub mod ShapeLaws
@@ -12,6 +11,7 @@ pub mod MarkingLaws
 pub mod WeighLaws
 pub mod EveryLaws
 pub mod ZeroLaws
+pub mod SignedLaws
 pub mod JudgeLaws
 pub mod WeightsReadBack
 pub mod WeightsRefused

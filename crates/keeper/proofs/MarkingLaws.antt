@@ -1,98 +1,60 @@
--- The weighted sum of a held marking, net-token by net-token.
-use Prim.Native.Nat.{ℕ, suc, ◌+◌, ◌*◌, ◌≤◌, ◌<◌}
-use mathlib.Core.Path.{◌≡◌, refl, ap, sym, ◌∙◌}
+-- What a held marking's net-tokens hold.
+use Prim.Native.Nat.{ℕ, ◌≤◌}
+use mathlib.Core.Path.{◌≡◌, ap, ◌∙◌}
 use mathlib.Core.Bool.{true}
-use mathlib.Core.List.{List, [], ◌∷◌, map}
+use mathlib.Core.List.{List, [], ◌∷◌}
 use native.Mathlib.Omega.{arith}
-use lib.Dec.{eqb, leb}
-use lib.IntN.{ℤ}
+use lib.Dec.{leb}
 use lib.ListN.{take, drop}
-use lib.Seq.{get_or-take, get_or-drop}
 use borrow.Author.Tests.{leb-true}
 use Rattle.text.proofs.Basics.{and_true}
+use Rattle.text.proofs.PaddedLaws.{at-padded}
+use Rattle.text.proofs.TestLaws.{within-is}
+use Rattle.text.specs.Answers.{padded}
 use Rattle.text.specs.Lines.{in_range, every}
-use Rattle.text.proofs.TestLaws.{within-is, every-at}
-use Rattle.eos.specs.Vector.{◌⊕◌, zeros, unit}
-use Rattle.eos.specs.Model as eos
-use Rattle.eos.specs.Firing.{outer, inner, inside_of}
-use Rattle.eos.specs.Weights.{Weights}
+use Rattle.eos.proofs.Basics.{true_is}
+use Rattle.eos.proofs.VectorLaws.{eq_v_eq}
 use Rattle.model.specs.Limits.{room_limit}
 use Rattle.model.specs.Rules.{nth}
-use Rattle.model.specs.Test.{empty}
-use Rattle.model.proofs.PaddedRows.{empty-at}
-use Rattle.marking.specs.Rows.{rows_in, ascending}
-use Rattle.marking.proofs.RowLaws.{length-rows, row_at}
-use Rattle.marking.specs.Held.{Sizes, right_row, held_rows, held_marking}
+use Rattle.marking.specs.Tokens.{tokens_in, ascending, like, no_token, OnPlaces}
+use Rattle.marking.specs.Held.{Sizes, held_token, held_tokens, held_marking}
+use Rattle.marking.specs.declared.NetToken.{NetToken}
 use Rattle.marking.specs.declared.Marking.{Marking}
-use Rattle.keeper.proofs.SplitLaws.{dots_n, value_by}
-use Rattle.keeper.proofs.DotLaws.{dot_n-⊕, dot_n_zeros, dot_n_unit}
 
--- ---- a marking's weight is the sum of its net-tokens' weights
+-- ---- a held net-token
+module _ (z : Sizes) (t : NetToken) (held : held_token z t ≡ true) where
+  -- its place is one of the model's
+  pub place_in : (1 ≤ t.place) × (t.place ≤ z.places)
+  unfolding held_token
+  place_in = within-is 1 z.places t.place (and_true (in_range 1 z.places t.place) _ held).0
 
-dots_n-⊕ : (us : List (List ℕ)) (n : ℕ) (i j : ℕ → List ℕ) → dots_n us n (λ k. i k ⊕ j k) ≡ dots_n us n i + dots_n us n j
-dots_n-⊕ [] n i j = refl
-dots_n-⊕ (u ∷ us) n i j = omega (arith, dot_n-⊕ u (i n) (j n), dots_n-⊕ us (suc n) i j)
+  -- its counts are those of the place, then 0
+  pub counts_are : t.counts ≡ padded (take (z.size t.place) t.counts)
+  unfolding held_token
+  counts_are = eq_v_eq t.counts _ (true_is (and_true (in_range 1 z.places t.place) _ held).1)
 
-dots_n_zeros : (us : List (List ℕ)) (n : ℕ) (f : ℕ → ℕ) → dots_n us n (λ k. zeros (f k)) ≡ 0
-dots_n_zeros [] n f = refl
-dots_n_zeros (u ∷ us) n f = omega (arith, dot_n_zeros u (f n), dots_n_zeros us (suc n) f)
+  -- of a place without counts they are 0
+  pub counts-none : z.size t.place ≡ 0 → (c : ℕ) → nth t.counts c ≡ 0
+  counts-none e c =
+      ap (λ (l : List ℕ). nth l c) counts_are ∙ ap (λ (n : ℕ). nth (padded (take n t.counts)) c) e ∙ at-padded [] (omega arith) c
 
-module _ (m : eos.Model) (w : Weights) (f : ℤ → ℕ) where
-  abbrev pub weight_of : eos.NetToken → ℕ
-  weight_of t = nth (map f w.outward) t.place + dots_n (map (map f) w.inward) 0 (λ n. inside_of m n t)
+-- each has a place
+pub on_places : (z : Sizes) → z.places ≤ 32 → (ts : List NetToken) → every (held_token z) ts ≡ true → OnPlaces ts
+on_places z few [] h = tt
+on_places z few (t ∷ ts) h =
+    let a = and_true (held_token z t) _ h in
+    let p = place_in z t a.0 in
+    (p.0, omega (arith, p.1), on_places z few ts a.1)
 
-  abbrev pub weight_by : eos.Marking → ℕ
-  weight_by μ = value_by f w (outer m μ) (λ n. inner m n μ)
-
-  pub weight_none : weight_by [] ≡ 0
-  unfolding outer inner
-  weight_none = omega (arith, dot_n_zeros (map f w.outward) (eos.places m), dots_n_zeros (map (map f) w.inward) 0 (λ n. (eos.net m n).size))
-
-  pub weight_more : (t : eos.NetToken) (μ : eos.Marking) → weight_by (t ∷ μ) ≡ weight_of t + weight_by μ
-  unfolding outer inner
-  weight_more t μ =
-      omega (
-        arith,
-        dot_n-⊕ (map f w.outward) (unit t.place) (outer m μ),
-        dot_n_unit (map f w.outward) t.place,
-        dots_n-⊕ (map (map f) w.inward) 0 (λ n. inside_of m n t) (λ n. inner m n μ),
-      )
-
--- ---- a held marking's rows
-
--- what is held of the rows, by the test
+-- ---- a held marking, by the test
 module _ (z : Sizes) (k : Marking) (held : held_marking room_limit z k ≡ true) where
   pub few-tokens : k.len ≤ room_limit
-  unfolding held_rows
+  unfolding held_tokens
   few-tokens = leb-true k.len room_limit (and_true (leb k.len room_limit) _ held).0
 
-  row_right : (i : ℕ) → i < k.len → right_row z (take 33 (drop (i * 33) k.rows)) ≡ true
-  unfolding held_rows
-  row_right i h =
+  pub tokens-held : every (held_token z) (tokens_in k) ≡ true
+  unfolding held_tokens
+  tokens-held =
       let a = (and_true (leb k.len room_limit) _ held).1 in
-      let b = (and_true (ascending (rows_in k.len k.rows)) _ a).1 in
-      let c = (and_true (every (λ v. eqb v 0) (drop (k.len * 33) k.rows)) _ b).1 in
-      rw (row_at k.len k.rows i h) at (every-at (right_row z) (rows_in k.len k.rows) i [] c (omega (arith, length-rows k.len k.rows)))
-
-  pub row-nth : (i c : ℕ) → c < 33 → nth (take 33 (drop (i * 33) k.rows)) c ≡ nth k.rows (i * 33 + c)
-  row-nth i c h = get_or-take 33 (drop (i * 33) k.rows) c 0 h ∙ get_or-drop (i * 33) k.rows c 0
-
-  pub row-place : (i : ℕ) → nth (take 33 (drop (i * 33) k.rows)) 0 ≡ nth k.rows (i * 33)
-  row-place i = row-nth i 0 (omega arith) ∙ ap (nth k.rows) (omega arith)
-
-  -- a row's place is one of the model's
-  pub place_in : (i : ℕ) → i < k.len → (1 ≤ nth k.rows (i * 33)) × (nth k.rows (i * 33) ≤ z.places)
-  unfolding right_row
-  place_in i h =
-      rw (row-place i) at (within-is 1 z.places (nth (take 33 (drop (i * 33) k.rows)) 0)
-      (and_true (in_range 1 z.places (nth (take 33 (drop (i * 33) k.rows)) 0)) _ (row_right i h)).0)
-
-  -- and its counts are 0 from the size of that place on
-  pub count_none : (i : ℕ) → i < k.len → z.size (nth k.rows (i * 33)) ≡ 0 → (c : ℕ) → c < 32 → nth k.rows (i * 33 + 1 + c) ≡ 0
-  unfolding right_row
-  count_none i h e c p =
-      let r = take 33 (drop (i * 33) k.rows) in
-      let t : empty (drop (suc (z.size (nth r 0))) r) ≡ true = (and_true (in_range 1 z.places (nth r 0)) _ (row_right i h)).1 in
-      let e' : suc (z.size (nth r 0)) ≡ 1 = ap (λ (q : ℕ). suc (z.size q)) (row-place i) ∙ ap suc e in
-      ap (nth k.rows) {x = i * 33 + 1 + c} {y = i * 33 + (1 + c)} (omega arith) ∙ sym (row-nth i (1 + c) (omega arith))
-      ∙ sym (get_or-drop 1 r c 0) ∙ empty-at (drop 1 r) (rw e' at t) c
+      let b = (and_true (ascending (tokens_in k)) _ a).1 in
+      (and_true (every (like no_token) (drop k.len k.tokens)) _ b).1

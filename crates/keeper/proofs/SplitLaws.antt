@@ -1,13 +1,16 @@
 -- A signed number is its part above 0 less its part below 0; sums, differences and weighted sums go part by part.
-use Prim.Native.Nat.{ℕ, suc, ◌+◌, ◌-◌, ◌*◌, ◌≤◌, ◌<◌}
+use Prim.Native.Nat.{ℕ, zero, suc, ◌+◌, ◌-◌, ◌*◌, ◌≤◌, ◌<◌}
 use mathlib.Core.Path.{◌≡◌, refl, sym, ap, ap₂, ◌∙◌}
 use mathlib.Core.List.{List, [], ◌∷◌, map}
 use native.Mathlib.Omega.{arith}
-use lib.Dec.{eqb}
-use lib.IntN.{ℤ, pos, negsuc, neg_ℤ, ◌+ℤ◌, ◌-ℤ◌, ◌*ℤ◌, nat_abs, sub_ℕ}
-use borrow.Author.Tests.{lt-ltb, le-ltb, eq-eqb, ne_eqb}
+use lib.IntN.{ℤ, pos, negsuc, neg_ℤ, ◌+ℤ◌, ◌*ℤ◌, sub_ℕ}
+use borrow.Author.Tests.{lt-ltb, le-ltb}
 use Rattle.text.specs.Capped.{above, below}
-use Rattle.eos.specs.Weights.{Weights, dot, dots, value, is_zero}
+use Rattle.eos.specs.Model as eos
+use Rattle.eos.specs.Firing.{outer, inner, inside_of}
+use Rattle.eos.specs.Vector.{◌⊕◌, zeros, unit}
+use Rattle.model.specs.Rules.{nth}
+use Rattle.eos.specs.Weights.{Weights, dot, dots, value}
 use Rattle.model.proofs.SlotLaws.{by_index}
 
 -- ---- differences of two numbers
@@ -61,33 +64,12 @@ sub_neg a b =
     let f : b - a ≡ 0 = omega arith in
     ap neg_ℤ (more a b p ∙ ap pos e) ∙ sym (more b a q ∙ ap pos f)))
 
-pub sub_minus : (a b c d : ℕ) → sub_ℕ a b -ℤ sub_ℕ c d ≡ sub_ℕ (a + d) (b + c)
-sub_minus a b c d = ap (λ (z : ℤ). sub_ℕ a b +ℤ z) (sub_neg c d) ∙ sub_plus a b d c
-
--- a difference is 0 where the two are equal
-pub sub_zero : (a b : ℕ) → is_zero (sub_ℕ a b) ≡ eqb a b
-sub_zero a b =
-    by_size a b
-    (λ p. ap is_zero (less a b p) ∙ sym (ne_eqb a b (λ e. omega arith)))
-    (λ p.
-    by_size b a
-    (λ q.
-    let e : a - b ≡ suc (a - suc b) = omega arith in
-    ap is_zero (more a b p ∙ ap pos e) ∙ sym (ne_eqb a b (λ e. omega arith)))
-    (λ q.
-    let e : a - b ≡ 0 = omega arith in
-    ap is_zero (more a b p ∙ ap pos e) ∙ sym (eq-eqb a b (omega arith))))
-
 -- its parts
 pub sub_above : (a b : ℕ) → above (sub_ℕ a b) ≡ a - b
 sub_above a b = by_size a b (λ p. ap above (less a b p) ∙ omega arith) (λ p. ap above (more a b p))
 
 pub sub_below : (a b : ℕ) → below (sub_ℕ a b) ≡ b - a
 sub_below a b = by_size a b (λ p. ap below (less a b p) ∙ omega arith) (λ p. ap below (more a b p) ∙ omega arith)
-
--- its size
-pub sub_abs : (a b : ℕ) → nat_abs (sub_ℕ a b) ≡ (a - b) + (b - a)
-sub_abs a b = by_size a b (λ p. ap nat_abs (less a b p) ∙ omega arith) (λ p. ap nat_abs (more a b p) ∙ omega arith)
 
 -- ---- weighted sums in two parts
 
@@ -129,3 +111,54 @@ value_split w o i =
     ap₂ ◌+ℤ◌ (dot_split w.outward o) (dots_split w.inward 0 i)
     ∙ sub_plus (dot_n (map above w.outward) o) (dot_n (map below w.outward) o) (dots_n (map (map above) w.inward) 0 i)
     (dots_n (map (map below) w.inward) 0 i)
+
+pub dot_n_none : (u : List ℕ) → dot_n u [] ≡ 0
+dot_n_none [] = refl
+dot_n_none (a ∷ u) = refl
+
+pub dot_n-⊕ : (u x y : List ℕ) → dot_n u (x ⊕ y) ≡ dot_n u x + dot_n u y
+dot_n-⊕ [] x y = refl
+dot_n-⊕ (a ∷ u) [] y = omega arith
+dot_n-⊕ (a ∷ u) (b ∷ x) [] = omega arith
+dot_n-⊕ (a ∷ u) (b ∷ x) (c ∷ y) = omega (arith, dot_n-⊕ u x y)
+
+pub dot_n_zeros : (u : List ℕ) (k : ℕ) → dot_n u (zeros k) ≡ 0
+dot_n_zeros [] k = refl
+dot_n_zeros (a ∷ u) zero = refl
+dot_n_zeros (a ∷ u) (suc k) = omega (arith, dot_n_zeros u k)
+
+pub dot_n_unit : (u : List ℕ) (p : ℕ) → dot_n u (unit p) ≡ nth u p
+dot_n_unit [] p = refl
+dot_n_unit (a ∷ u) zero = omega (arith, dot_n_none u)
+dot_n_unit (a ∷ u) (suc p) = omega (arith, dot_n_unit u p)
+
+-- ---- a marking's weight is the sum of its net-tokens' weights
+
+dots_n-⊕ : (us : List (List ℕ)) (n : ℕ) (i j : ℕ → List ℕ) → dots_n us n (λ k. i k ⊕ j k) ≡ dots_n us n i + dots_n us n j
+dots_n-⊕ [] n i j = refl
+dots_n-⊕ (u ∷ us) n i j = omega (arith, dot_n-⊕ u (i n) (j n), dots_n-⊕ us (suc n) i j)
+
+dots_n_zeros : (us : List (List ℕ)) (n : ℕ) (f : ℕ → ℕ) → dots_n us n (λ k. zeros (f k)) ≡ 0
+dots_n_zeros [] n f = refl
+dots_n_zeros (u ∷ us) n f = omega (arith, dot_n_zeros u (f n), dots_n_zeros us (suc n) f)
+
+module _ (m : eos.Model) (w : Weights) (f : ℤ → ℕ) where
+  abbrev pub weight_of : eos.NetToken → ℕ
+  weight_of t = nth (map f w.outward) t.place + dots_n (map (map f) w.inward) 0 (λ n. inside_of m n t)
+
+  abbrev pub weight_by : eos.Marking → ℕ
+  weight_by μ = value_by f w (outer m μ) (λ n. inner m n μ)
+
+  pub weight_none : weight_by [] ≡ 0
+  unfolding outer inner
+  weight_none = omega (arith, dot_n_zeros (map f w.outward) (eos.places m), dots_n_zeros (map (map f) w.inward) 0 (λ n. (eos.net m n).size))
+
+  pub weight_more : (t : eos.NetToken) (μ : eos.Marking) → weight_by (t ∷ μ) ≡ weight_of t + weight_by μ
+  unfolding outer inner
+  weight_more t μ =
+      omega (
+        arith,
+        dot_n-⊕ (map f w.outward) (unit t.place) (outer m μ),
+        dot_n_unit (map f w.outward) t.place,
+        dots_n-⊕ (map (map f) w.inward) 0 (λ n. inside_of m n t) (λ n. inner m n μ),
+      )

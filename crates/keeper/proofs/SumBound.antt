@@ -37,9 +37,7 @@ use Rattle.reader.proofs.GivenLaws.{Given, given-model, given_marking}
 use Rattle.keeper.specs.Reading.{read_weight_file, right_inner, right_weights}
 use Rattle.keeper.specs.Answers.{sum_of, passed_weights, turned_or, judged_weights, weighed, weights_or, weight_checking}
 use Rattle.keeper.specs.declared.Sum.{Sum}
-use Rattle.keeper.proofs.SplitLaws.{dot_n, dots_n, value_split, sub_above, sub_below}
-use Rattle.keeper.proofs.DotLaws.{dot_n_none}
-use Rattle.keeper.proofs.MarkingLaws.{weight_of, weight_by, weight_none, weight_more}
+use Rattle.keeper.proofs.SplitLaws.{dot_n, dots_n, dot_n_none, value_split, sub_above, sub_below, weight_of, weight_by, weight_none, weight_more}
 use Rattle.keeper.proofs.HeldRows.{Kept, inner-long, net-long, net-small}
 use Rattle.keeper.proofs.WeightsReadBack.{weights_are_right, right_shaped}
 

@@ -1,159 +1,112 @@
 -- The code's weight of a held marking is the weighted sum of the marking that it stands for.
-use Prim.Native.Nat.{ℕ, zero, suc, ◌+◌, ◌-◌, ◌*◌, ◌≤◌, ◌<◌}
+use Prim.Native.Nat.{ℕ, zero, suc, ◌+◌, ◌-◌, ◌≤◌, ◌<◌}
 use mathlib.Core.Path.{◌≡◌, refl, ap, ap₂, sym, ◌∙◌}
 use mathlib.Core.Bool.{true}
-use mathlib.Core.List.{List, [], map}
+use mathlib.Core.List.{List, [], ◌∷◌, map}
 use native.Mathlib.Omega.{arith}
 use native.Mathlib.Nat.{zero-add}
 use lib.Dec.{eqb, leb}
-use lib.IntN.{ℤ, sub_ℕ}
-use lib.ListN.{take, drop, get_or, length-map, get_or-map}
-use lib.Seq.{get_or-take, get_or-drop, drop-drop}
+use lib.IntN.{ℤ, pos, ◌+ℤ◌}
+use lib.ListN.{get_or}
+use lib.Seq.{get_or-take}
 use borrow.Author.Tests.{leb-true, eq-eqb, ne_eqb}
-use Rattle.text.specs.Capped.{above, below}
+use Rattle.text.specs.Lines.{every}
+use Rattle.text.proofs.Basics.{and_true}
 use Rattle.eos.specs.Model as eos
-use Rattle.eos.specs.Firing.{inside_of, outer, inner}
-use Rattle.eos.specs.Weights.{Weights, weigh}
-use Rattle.model.specs.Limits.{room_limit}
+use Rattle.eos.specs.Firing.{inside_of}
+use Rattle.eos.specs.Weights.{Weights, dot, dots, value, weigh}
+use Rattle.eos.proofs.WeightLaws.{dot_zero, weight_of, weigh-sum}
 use Rattle.model.specs.Rules.{nth}
-use Rattle.model.specs.Held.{no_net, tabled, model_of}
+use Rattle.model.specs.Held.{no_net, model_of}
 use Rattle.model.specs.declared.Model.{Model}
-use Rattle.model.proofs.SlotLaws.{cond_below, listed_at}
+use Rattle.model.proofs.SlotLaws.{by_index, cond_below, listed_at}
 use Rattle.model.proofs.HeldTests.{held-is, types-at}
-use Rattle.marking.specs.Rows.{rows_in}
-use Rattle.marking.specs.Held.{token_of, tokens_of, held_marking}
-use Rattle.marking.specs.declared.Marking.{Marking}
+use Rattle.marking.specs.Held.{token_of, held_token}
+use Rattle.marking.specs.declared.NetToken.{NetToken}
 use Rattle.marking.specs.Sizes.{size_of_type, sizes_in, sizes_for}
-use Rattle.keeper.specs.Held.{weight_lists}
-use Rattle.weigh.specs.Sums.{total, product, token_weight, marking_weight}
-use Rattle.weigh.proofs.TotalLaws.{total_none, total_same, total_zero, total_front, total-one}
-use Rattle.keeper.proofs.SplitLaws.{dot_n, dots_n, value_split}
-use Rattle.keeper.proofs.DotLaws.{dot_n_none, dots_n_total, dot_n_row}
-use Rattle.keeper.proofs.HeldRows.{Kept, few-places, inner-long, net-long, net-small, outer-at, inner-at}
-use Rattle.keeper.proofs.MarkingLaws.{weight_of, weight_by, weight_none, weight_more, row-nth, row-place, place_in, count_none}
+use Rattle.keeper.specs.Held.{hold_weights}
+use Rattle.weigh.specs.Sums.{total, row_of, token_weight, marking_weight}
+use Rattle.weigh.proofs.TotalLaws.{total_same, total_zero, total_one}
+use Rattle.keeper.proofs.DotLaws.{dot_none, dot_unit, dots_total, dot_row}
+use Rattle.keeper.proofs.HeldRows.{Kept, few-places, inner-long, net-long, net-small, outer-at, inner-at, inner-few}
+use Rattle.keeper.proofs.MarkingLaws.{place_in, counts-none}
 
-module _ (m : Model) (w : Weights) (kept : Kept m w) (k : Marking) (held : held_marking room_limit (sizes_for m) k ≡ true) where
-  abbrev table : (ℤ → ℕ) → List ℕ
-  table f = tabled (map f) 288 (weight_lists w)
+module _ (m : Model) (w : Weights) (kept : Kept m w) where
+  abbrev rows : List (List ℤ)
+  rows = (hold_weights w).rows
 
-  abbrev row : ℕ → List ℕ
-  row i = take 33 (drop (i * 33) k.rows)
+  -- the weight of what is inside, as a sum over nets
+  inside-sum : (t : eos.NetToken) → dots w.inward 0 (λ n. inside_of (model_of m) n t) ≡ total m.nets (λ n. dot (get_or w.inward n []) (inside_of (model_of m) n t))
+  inside-sum t =
+      dots_total w.inward 0 (λ n. inside_of (model_of m) n t)
+      ∙ ap (λ (c : ℕ). total c (λ n. dot (get_or w.inward n []) (inside_of (model_of m) (0 + n) t))) (inner-long m w kept)
+      ∙ total_same m.nets _ _ (λ n p. ap (λ (j : ℕ). dot (get_or w.inward n []) (inside_of (model_of m) j t)) (zero-add n))
 
-  abbrev place : ℕ → ℕ
-  place i = nth k.rows (i * 33)
+  other_net : (t : eos.NetToken) (n : ℕ) → (eos.type_of (model_of m) t.place ≡ suc n → ⊥) → dot (get_or w.inward n []) (inside_of (model_of m) n t) ≡ pos 0
+  other_net t n h = rw (ne_eqb (eos.type_of (model_of m) t.place) (suc n) h) (dot_none (get_or w.inward n []))
 
-  abbrev token : ℕ → eos.NetToken
-  token i = token_of (sizes_for m) (row i)
+  own_net_lem : (t : eos.NetToken) (n : ℕ) → eos.type_of (model_of m) t.place ≡ suc n → dot (get_or w.inward n []) (inside_of (model_of m) n t) ≡ dot (get_or w.inward n []) t.inside
+  own_net_lem t n h = rw (eq-eqb (eos.type_of (model_of m) t.place) (suc n) h)
 
-  abbrev type : ℕ → ℕ
-  type i = nth m.types (place i - 1)
+  -- ---- a held net-token
+  module _ (t : NetToken) (held : held_token (sizes_for m) t ≡ true) where
+    abbrev token : eos.NetToken
+    token = token_of (sizes_for m) t
 
-  place-few : (i : ℕ) → i < k.len → (1 ≤ place i) × (place i ≤ m.places)
-  place-few i h = place_in (sizes_for m) k held i h
+    abbrev type : ℕ
+    type = nth m.types (t.place - 1)
 
-  -- the type of a net-token's place is that of black tokens or a net's
-  type-is : (i : ℕ) → i < k.len → eos.type_of (model_of m) (token i).place ≡ type i
-  unfolding model_of
-  type-is i h =
-      let p = place-few i h in
-      ap (λ (q : ℕ). nth (take m.places m.types) (q - 1)) (row-place (sizes_for m) k held i)
-      ∙ get_or-take m.places m.types (place i - 1) 0 (omega arith)
+    place-few : (1 ≤ t.place) × (t.place ≤ m.places)
+    place-few = place_in (sizes_for m) t held
 
-  type-few : (i : ℕ) → i < k.len → type i ≤ m.nets
-  type-few i h =
-      let p = place-few i h in
-      let t = types-at m (held-is m kept.held).types (place i - 1) (omega (arith, few-places m w kept)) in
-      leb-true (type i) m.nets (rw (cond_below m.places (place i - 1) (leb (type i) m.nets) (eqb (type i) 0) (omega arith)) at t)
+    -- the type of its place is that of black tokens or a net's
+    type-is : eos.type_of (model_of m) token.place ≡ type
+    unfolding model_of
+    type-is = let p = place-few in get_or-take m.places m.types (t.place - 1) 0 (omega arith)
 
-  size_is : (i : ℕ) → i < k.len → (sizes_for m).size (place i) ≡ size_of_type m.objects (type i)
-  unfolding sizes_in
-  size_is i h =
-      let p = place-few i h in
-      listed_at (λ p. size_of_type m.objects (nth m.types p)) 32 (place i - 1) 0 (omega (arith, few-places m w kept))
+    type-few : type ≤ m.nets
+    type-few =
+        let p = place-few in
+        let x = types-at m (held-is m kept.held).types (t.place - 1) (omega (arith, few-places m w kept)) in
+        leb-true type m.nets (rw (cond_below m.places (t.place - 1) (leb type m.nets) (eqb type 0) (omega arith)) at x)
 
-  -- a count inside, where it is held
-  inside-nth : (i : ℕ) → (c : ℕ) → c < (sizes_for m).size (nth (row i) 0) → c < 32 → nth (token i).inside c ≡ nth k.rows (i * 33 + 1 + c)
-  inside-nth i c p q =
-      get_or-take ((sizes_for m).size (nth (row i) 0)) (drop 1 (row i)) c 0 p ∙ get_or-drop 1 (row i) c 0 ∙ row-nth (sizes_for m) k held i (1 + c) (omega arith)
-      ∙ ap (nth k.rows) (omega arith)
-
-  module _ (f : ℤ → ℕ) where
-    abbrev weights : ℕ → List ℕ
-    weights n = map f (get_or w.inward n [])
-
-    -- the weight of what is inside, as a sum over nets
-    inside-sum : (t : eos.NetToken) → dots_n (map (map f) w.inward) 0 (λ n. inside_of (model_of m) n t) ≡ total m.nets (λ n. dot_n (weights n) (inside_of (model_of m) n t))
-    inside-sum t =
-        let l = map (map f) w.inward in
-        dots_n_total l 0 (λ n. inside_of (model_of m) n t)
-        ∙ ap (λ (c : ℕ). total c (λ n. dot_n (get_or l n []) (inside_of (model_of m) (0 + n) t))) (length-map w.inward (map f) ∙ inner-long m w kept)
-        ∙ total_same m.nets _ _ (λ n p. ap₂ (λ (u : List ℕ) (j : ℕ). dot_n u (inside_of (model_of m) j t)) (get_or-map (map f) w.inward n []) (zero-add n))
-
-    other_net : (t : eos.NetToken) (n : ℕ) → (eos.type_of (model_of m) t.place ≡ suc n → ⊥) → dot_n (weights n) (inside_of (model_of m) n t) ≡ 0
-    other_net t n h = rw (ne_eqb (eos.type_of (model_of m) t.place) (suc n) h) (dot_n_none (weights n))
-
-    own_net_lem : (t : eos.NetToken) (n : ℕ) → eos.type_of (model_of m) t.place ≡ suc n → dot_n (weights n) (inside_of (model_of m) n t) ≡ dot_n (weights n) t.inside
-    own_net_lem t n h = rw (eq-eqb (eos.type_of (model_of m) t.place) (suc n) h)
+    size_is : (sizes_for m).size t.place ≡ size_of_type m.objects type
+    unfolding sizes_in
+    size_is = let p = place-few in listed_at (λ p. size_of_type m.objects (nth m.types p)) 32 (t.place - 1) 0 (omega (arith, few-places m w kept))
 
     -- what is inside a black token, and inside one of net n
-    inside_black : (i : ℕ) → i < k.len → type i ≡ 0 → total m.nets (λ n. dot_n (weights n) (inside_of (model_of m) n (token i))) ≡ product (table f) 0 k.rows (i * 33 + 1)
-    unfolding product
-    inside_black i h e =
-        let s : (sizes_for m).size (place i) ≡ 0 = size_is i h ∙ rw e in
-        total_zero m.nets _ (λ n p. other_net (token i) n (λ d. omega (arith, type-is i h)))
-        ∙ sym (total_zero 32 _ (λ c p. let z = count_none (sizes_for m) k held i h s c p in rw z (omega arith)))
+    inside_black : type ≡ 0 → total m.nets (λ n. dot (get_or w.inward n []) (inside_of (model_of m) n token)) ≡ dot (row_of rows 0) t.counts
+    inside_black e =
+        let s : (sizes_for m).size t.place ≡ 0 = size_is ∙ rw e in
+        total_zero m.nets _ (λ n p. other_net token n (λ d. omega (arith, type-is)))
+        ∙ sym (dot_zero (row_of rows 0) t.counts (λ c. omega (arith, counts-none (sizes_for m) t held s c)))
 
-    inside-net : (i n : ℕ) → i < k.len → type i ≡ suc n
-        → total m.nets (λ n. dot_n (weights n) (inside_of (model_of m) n (token i))) ≡ product (table f) (n * 32 + 32) k.rows (i * 33 + 1)
-    inside-net i n h e =
-        let p : n < m.nets = omega (arith, type-few i h) in
-        let s : (sizes_for m).size (nth (row i) 0) ≡ (get_or m.objects n no_net).places =
-        ap (λ (q : ℕ). (sizes_for m).size q) (row-place (sizes_for m) k held i) ∙ size_is i h ∙ ap (size_of_type m.objects) e in
-        total-one m.nets n _ p (λ j d. other_net (token i) j (λ q. d (omega (arith, type-is i h)))) ∙ own_net_lem (token i) n (type-is i h ∙ e)
-        ∙ dot_n_row (weights n) (table f) (n * 32 + 32) (get_or m.objects n no_net).places (token i).inside k.rows (i * 33 + 1)
-        (length-map (get_or w.inward n []) f ∙ net-long m w kept n p) (net-small m w kept n) (inner-at m w kept f n p)
-        (λ c q. inside-nth i c (omega arith) (omega (arith, net-small m w kept n)))
+    inside-net : (n : ℕ) → type ≡ suc n
+        → total m.nets (λ n. dot (get_or w.inward n []) (inside_of (model_of m) n token)) ≡ dot (row_of rows (suc n)) t.counts
+    inside-net n e =
+        let p : n < m.nets = omega (arith, type-few) in
+        let long = net-long m w kept n p in
+        let s : (sizes_for m).size t.place ≡ (get_or m.objects n no_net).places = size_is ∙ ap (size_of_type m.objects) e in
+        total_one m.nets n _ p (λ j d. other_net token j (λ q. d (omega (arith, type-is)))) ∙ own_net_lem token n (type-is ∙ e)
+        ∙ dot_row (get_or w.inward n []) (row_of rows (suc n)) token.inside t.counts (omega (arith, long, net-small m w kept n)) (inner-few m w kept n p) (inner-at m w kept n p)
+        (λ c q. get_or-take ((sizes_for m).size t.place) t.counts c 0 (omega (arith, s, long)))
 
-    inside_is : (i : ℕ) → i < k.len → (d : ℕ) → type i ≡ d
-        → total m.nets (λ n. dot_n (weights n) (inside_of (model_of m) n (token i))) ≡ product (table f) (d * 32) k.rows (i * 33 + 1)
-    inside_is i h zero e = inside_black i h e
-    inside_is i h (suc n) e =
-        let s : suc n * 32 ≡ n * 32 + 32 = omega arith in
-        inside-net i n h e ∙ ap (λ (x : ℕ). product (table f) x k.rows (i * 33 + 1)) (sym s)
+    inside_is : (d : ℕ) → type ≡ d → total m.nets (λ n. dot (get_or w.inward n []) (inside_of (model_of m) n token)) ≡ dot (row_of rows d) t.counts
+    inside_is zero e = inside_black e
+    inside_is (suc n) e = inside-net n e
 
-    -- a net-token's weight
-    token_is : (i : ℕ) → i < k.len → weight_of (model_of m) w f (token i) ≡ token_weight (table f) m.types k.rows (i * 33)
-    unfolding token_weight
-    token_is i h =
-        let p = place-few i h in
-        ap₂ ◌+◌
-        (ap (λ (q : ℕ). nth (map f w.outward) (q - 1)) (row-place (sizes_for m) k held i) ∙ sym (outer-at m w kept f (place i - 1) (omega (arith, few-places m w kept))))
-        (inside-sum (token i) ∙ inside_is i h (type i) refl)
+    -- its weight
+    token_is : weight_of (model_of m) w token ≡ token_weight rows m.types t
+    unfolding value token_weight
+    token_is = ap₂ ◌+ℤ◌ (dot_unit w.outward (t.place - 1) ∙ sym (outer-at m w kept (t.place - 1))) (inside-sum token ∙ inside_is type refl)
 
-    -- the weight of n net-tokens from the one of index j on
-    rows_are : (n j : ℕ) → j + n ≤ k.len
-        → weight_by (model_of m) w f (map (token_of (sizes_for m)) (rows_in n (drop (j * 33) k.rows))) ≡ total n (λ i. token_weight (table f) m.types k.rows ((j + i) * 33))
-    rows_are zero j h = weight_none (model_of m) w f ∙ sym (total_none (λ i. token_weight (table f) m.types k.rows ((j + i) * 33)))
-    rows_are (suc n) j h =
-        let g : ℕ → ℕ = λ i. token_weight (table f) m.types k.rows ((j + i) * 33) in
-        let e : drop 33 (drop (j * 33) k.rows) ≡ drop (suc j * 33) k.rows =
-        drop-drop 33 (j * 33) k.rows ∙ ap (λ (x : ℕ). drop x k.rows) {x = j * 33 + 33} {y = suc j * 33} (omega arith) in
-        let rest : weight_by (model_of m) w f (map (token_of (sizes_for m)) (rows_in n (drop 33 (drop (j * 33) k.rows)))) ≡ total n (λ i. g (suc i)) =
-        ap (λ (l : List ℕ). weight_by (model_of m) w f (map (token_of (sizes_for m)) (rows_in n l))) e ∙ rows_are n (suc j) (omega arith)
-        ∙ total_same n _ _ (λ i p. ap (λ (x : ℕ). token_weight (table f) m.types k.rows (x * 33)) {x = suc j + i} {y = j + suc i} (omega arith)) in
-        let first : weight_of (model_of m) w f (token j) ≡ g 0 =
-        token_is j (omega arith) ∙ ap (λ (x : ℕ). token_weight (table f) m.types k.rows (x * 33)) {x = j} {y = j + 0} (omega arith) in
-        weight_more (model_of m) w f (token j) (map (token_of (sizes_for m)) (rows_in n (drop 33 (drop (j * 33) k.rows))))
-        ∙ ap₂ ◌+◌ first rest ∙ sym (total_front n g)
-
-    pub weight_is : weight_by (model_of m) w f (tokens_of (sizes_for m) k) ≡ marking_weight (table f) m.types k.rows k.len
-    unfolding tokens_of marking_weight
-    weight_is = rows_are k.len 0 (omega arith) ∙ total_same k.len _ _ (λ i p. ap (λ (x : ℕ). token_weight (table f) m.types k.rows (x * 33)) (zero-add i))
-
-  -- the weighted sum is the difference of its two parts
-  pub weigh-is : weigh (model_of m) w (tokens_of (sizes_for m) k)
-      ≡ sub_ℕ (marking_weight (table above) m.types k.rows k.len) (marking_weight (table below) m.types k.rows k.len)
-  unfolding weigh
-  weigh-is =
-      let μ = tokens_of (sizes_for m) k in
-      value_split w (outer (model_of m) μ) (λ n. inner (model_of m) n μ) ∙ ap₂ sub_ℕ (weight_is above) (weight_is below)
+  -- the weighted sum of held net-tokens is the code's
+  pub weigh-is : (ts : List NetToken) → every (held_token (sizes_for m)) ts ≡ true
+      → weigh (model_of m) w (map (token_of (sizes_for m)) ts) ≡ marking_weight rows m.types ts
+  unfolding marking_weight
+  weigh-is [] h = weigh-sum (model_of m) w []
+  weigh-is (t ∷ ts) h =
+      let p = and_true (held_token (sizes_for m) t) _ h in
+      let behind = map (token_of (sizes_for m)) ts in
+      weigh-sum (model_of m) w (token_of (sizes_for m) t ∷ behind)
+      ∙ ap₂ ◌+ℤ◌ (token_is t p.0) (sym (weigh-sum (model_of m) w behind) ∙ weigh-is ts p.1)

@@ -19,9 +19,9 @@ use Rattle.text.proofs.Loops.{Got, got_of, bad_of, head_got, turn_at_lem, bad-at
 use Rattle.model.specs.Limits.{weight_limit}
 use Rattle.model.specs.Held.{tabled}
 use Rattle.model_text.proofs.LineAnswers.{filled-bad}
-use Rattle.keeper.specs.Held.{hold_weights, no_weights}
+use Rattle.keeper.specs.Held.{lay_weights, no_weights}
 use Rattle.keeper.specs.Parts.{read_outer, outer_of, put_next, inners_of}
-use Rattle.keeper.specs.declared.HeldWeights.{HeldWeights}
+use Rattle.keeper.specs.declared.ReadWeights.{ReadWeights}
 use Rattle.keeper.specs.declared.WeightShape.{WeightShape}
 
 -- the parts of a net's weights, laid into the row of the net
@@ -72,13 +72,13 @@ module _ (f : ℕ → ℕ → Outcome (List ℤ)) (i n at : ℕ) (less : i < n) 
   pub nets_stop : (d : Fault) → r.ended ≡ Stopped d → (table : List ℕ) → filled put_above i table (many_at f i (n - i) at) ≡ bad d
   nets_stop d e table = bad-at put_above f i n at table less d (row-bad (f i at) r line d e)
 
-module _ (h : HeldWeights) (o : Outcome (List (List ℤ))) where
+module _ (h : ReadWeights) (o : Outcome (List (List ℤ))) where
   pub inners_bad : (e : Ended) (d : Fault) → e ≡ Stopped d → filled put_above 0 h.above o ≡ bad d → record { ended = e; weights = no_weights } ≡ inners_of h o
   unfolding inners_of ended_of kept_or
   inners_bad e d p q = rw (p, filled-bad put_above h.above o d q)
 
 -- all were read
-pub inners_read : (h : HeldWeights) (o : Outcome (List (List ℤ))) (a b : List ℕ) (at : ℕ) → filled put_above 0 h.above o ≡ got a at
+pub inners_read : (h : ReadWeights) (o : Outcome (List (List ℤ))) (a b : List ℕ) (at : ℕ) → filled put_above 0 h.above o ≡ got a at
     → filled put_below 0 h.below o ≡ got b at → record { ended = Past at; weights = record { above = a; below = b } } ≡ inners_of h o
 unfolding filled inners_of ended_of kept_or
 inners_read h (got l x) a b at p q =
@@ -92,9 +92,9 @@ inners_read h (bad d) a b at p q = let z : ◌≡◌ {A = ℕ} 0 1 = cc in absur
 
 -- they were read, and stand in their row
 outer-got : (o : Outcome (List ℤ)) (v : List ℤ) (next : ℕ) → o ≡ got v next → (e : Ended) → e ≡ Past next → (a b : List ℕ) → a ≡ padded (map above v)
-    → b ≡ padded (map below v) → (h : HeldWeights) → h ≡ record { above = sets (replicate 288 0) 0 a; below = sets (replicate 288 0) 0 b }
+    → b ≡ padded (map below v) → (h : ReadWeights) → h ≡ record { above = sets (replicate 288 0) 0 a; below = sets (replicate 288 0) 0 b }
     → record { ended = e; weights = h } ≡ outer_of o
-unfolding outer_of ended_of kept_or hold_weights tabled fill
+unfolding outer_of ended_of kept_or lay_weights tabled fill
 outer-got o v next is e p a b pa pb h laid = rw (is, p, laid, pa, pb)
 
 module _ (z : WeightShape) (s : Text) (at : ℕ) where
@@ -116,7 +116,7 @@ module _ (z : WeightShape) (s : Text) (at : ℕ) where
     unfolding outer_of ended_of kept_or
     outer-refused d e = rw (outer-is, e, row-bad outer-line r line d e)
 
-    pub outer_read : (next : ℕ) → r.ended ≡ Past next → (h : HeldWeights)
+    pub outer_read : (next : ℕ) → r.ended ≡ Past next → (h : ReadWeights)
         → h ≡ record { above = sets (replicate 288 0) 0 r.above; below = sets (replicate 288 0) 0 r.below }
         → record { ended = r.ended; weights = h } ≡ outer_of (read_outer z s at)
     outer_read next e =

@@ -9,6 +9,7 @@ use native.Mathlib.Nat.{zero-add}
 use lib.Dec.{eqb}
 use lib.ListN.{length, get_or, get_or-eq_default}
 use borrow.Author.Tests.{eqb-true}
+use Rattle.text.specs.declared.Cause.TheVariants.{Syntax}
 use Rattle.text.specs.Bytes.{Text, bytes}
 use Rattle.text.proofs.Basics.{and_true}
 use Rattle.text.specs.Lines.{Outcome, got, then, need, every, read_head, read_weights, modest}
@@ -52,7 +53,7 @@ module _ (m : eos.Model) where
       (first_makes (head_exactly (bytes "inv=1\n") s)
       (λ v. first_makes (weights_exactly (bytes "outer=") (eos.places m) (modest weight_limit) s)
       (λ o. last_makes (many_at_exactly s (read_inner m s) (weights_text (bytes "inner=")) (right_inner m) (inner_exactly s) 0 (length m.nets))
-      (λ i. true) 0 (λ i. record { outward = o; inward = i }) (λ w. w.inward) (λ i h. refl))
+      (λ i. true) Syntax (λ i. record { outward = o; inward = i }) (λ w. w.inward) (λ i h. refl))
       (λ w. w.outward) (λ o w h r. ap (λ (w : Weights). w.outward) r.2))
       (λ w. tt) (λ v w h r. refl))
       (λ w h. and_both (eqb (length w.outward) (eos.places m) && every (modest weight_limit) w.outward) _ h.1.0 h.1.1.0)

@@ -1,5 +1,5 @@
 -- What the parts of this crate's code answer.
-use Rattle.std.specs.Prelude.{ℕ, ◌+◌, ◌*◌, ◌≡◌, List, [], map, ℤ, get_or}
+use Rattle.std.specs.Prelude.{ℕ, ◌+◌, ◌*◌, ◌≤◌, ◌≡◌, List, [], map, ℤ, pos, nat_abs, length, get_or}
 use Rattle.std.proofs.lemmas.List.Edits.{sets}
 use Rattle.text.specs.Bytes.{Text, bytes}
 use Rattle.text.specs.Lines.{Outcome, then, read_head, read_weights, modest}
@@ -15,8 +15,9 @@ use Rattle.model.specs.Rules.{nth}
 use Rattle.model.specs.Held.{no_net, listed, model_of}
 use Rattle.model.specs.declared.Model.{Model}
 use Rattle.reader.specs.Reading.{read_end}
-use Rattle.keeper.specs.Held.{hold_weights, no_weights}
+use Rattle.keeper.specs.Held.{weight_lists, lay_weights, hold_weights, no_weights}
 use Rattle.keeper.specs.declared.HeldWeights.{HeldWeights}
+use Rattle.keeper.specs.declared.ReadWeights.{ReadWeights}
 use Rattle.keeper.specs.declared.WeightShape.{WeightShape}
 use Rattle.keeper.specs.declared.WeightLines.{WeightLines}
 
@@ -45,24 +46,24 @@ read_shaped z s at = then (read_outer z s at) λ o x. then (read_inners z s x) �
 -- ---- the lines as they are held
 
 unfoldable pub lines_of : Outcome Weights → WeightLines
-lines_of o = record { ended = ended_of o; weights = kept_or no_weights hold_weights o }
+lines_of o = record { ended = ended_of o; weights = kept_or no_weights lay_weights o }
 
 -- outer weights, and none of a net
 abbrev pub outer_alone : List ℤ → Weights
 outer_alone o = record { outward = o; inward = [] }
 
 unfoldable pub outer_of : Outcome (List ℤ) → WeightLines
-outer_of o = record { ended = ended_of o; weights = kept_or no_weights (λ w. hold_weights (outer_alone w)) o }
+outer_of o = record { ended = ended_of o; weights = kept_or no_weights (λ w. lay_weights (outer_alone w)) o }
 
 -- a row behind the first one
 abbrev pub put_next : (List ℤ → List ℕ) → ℕ → List ℤ → List ℕ → List ℕ
 put_next f n a table = sets table (n * 32 + 32) (padded (f a))
 
 -- the weights of the nets behind the outer weights
-abbrev pub behind_outer : HeldWeights → List (List ℤ) → HeldWeights
+abbrev pub behind_outer : ReadWeights → List (List ℤ) → ReadWeights
 behind_outer h l = record { above = fill (put_next (map above)) 0 l h.above; below = fill (put_next (map below)) 0 l h.below }
 
-unfoldable pub inners_of : HeldWeights → Outcome (List (List ℤ)) → WeightLines
+unfoldable pub inners_of : ReadWeights → Outcome (List (List ℤ)) → WeightLines
 inners_of h o = record { ended = ended_of o; weights = kept_or no_weights (behind_outer h) o }
 
 -- ---- block by block
@@ -90,3 +91,9 @@ behind_outer_at z outer s at = let inners = inners_at z outer s at in end_at inn
 pub record Holds (m : Model) (w : Weights) (h : HeldWeights) : Type 0 where
   pub shaped : Shaped (model_of m) w
   pub is : h ≡ hold_weights w
+
+-- weights that have room: few rows, of no more than 32 weights, each at most 1,000 either side of 0
+pub record Light (w : Weights) : Type 0 where
+  pub nets : length w.inward ≤ 8
+  pub long : (r : ℕ) → length (get_or (weight_lists w) r []) ≤ 32
+  pub small : (r i : ℕ) → nat_abs (get_or (get_or (weight_lists w) r []) i (pos 0)) ≤ weight_limit

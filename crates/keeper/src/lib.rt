@@ -1,21 +1,21 @@
 // The Keeper level: a weight file is read for a held model, judged, and weighed on a held marking.
 #![tactic(auto)]
 
-ghost use Rattle.std.specs.Prelude.{◌≡◌, true, ◌&&◌, ◌-◌};
-ghost use Rattle.eos.specs.Weights.{Weights, weigh};
+ghost use Rattle.std.specs.Prelude.{◌≡◌, true, length};
+ghost use Rattle.eos.specs.Multiset.{every};
+ghost use Rattle.eos.specs.Weights.{Weights, is_zero};
 ghost use Rattle.model.specs.Held.{model_of};
-ghost use Rattle.model.specs.Test.{empty};
 ghost use Rattle.marking.specs.Held.{tokens_of};
 ghost use Rattle.reader.specs.Answers.{held_both};
 ghost use Rattle.marking.specs.Sizes.{sizes_for};
-ghost use Rattle.keeper.specs.Answers.{refused_weights, passed_weights, faulty, judged_weights, weight_checking};
+ghost use Rattle.keeper.specs.Answers.{sum_of, refused_weights, faulty, judged_weights, weight_checking};
 ghost use Rattle.keeper.specs.Parts.{Holds};
 
 use effects::unbalanced;
 use marking::Marking;
-use marking_rows::empty_from;
 use model::Model;
 use reader::test_marking;
+use signed::signed;
 use text::{Ended, Fault, Spot};
 use text_scan::spot_of;
 use weigh_cover::covers;
@@ -23,12 +23,18 @@ use weigh_marking::marking_weight;
 use weightfile::{shape_of, weight_lines};
 
 mod effects;
+mod signed;
 mod weightfile;
 
-// The weights of a model's places, each as its part above 0 and its part below 0: nine rows of 32, the outer weights and then those of
-// each net. Unused room is 0.
+// The weights of a model's places in nine rows of 32: the outer weights, and then those of each net. Unused room is 0.
 #[derive(Clone, Copy)]
 pub struct HeldWeights {
+    pub rows: [[i16; 32]; 9],
+}
+
+// The same as they are read, each weight as its part above 0 and its part below 0.
+#[derive(Clone, Copy)]
+pub struct ReadWeights {
     pub above: [u16; 288],
     pub below: [u16; 288],
 }
@@ -45,7 +51,7 @@ pub struct WeightShape {
 #[derive(Clone, Copy)]
 pub struct WeightLines {
     pub ended: Ended,
-    pub weights: HeldWeights,
+    pub weights: ReadWeights,
 }
 
 // How the check of a weight file ended.
@@ -63,6 +69,18 @@ pub enum WeightAnswer {
 pub struct Sum {
     pub above: u64,
     pub below: u64,
+}
+
+// The part of a number above 0 and its part below 0.
+impl From<i64> for Sum {
+    ghost from_gives = { λ value sum. sum ≡ sum_of value };
+
+    fn from(value: i64) -> Sum {
+        Sum {
+            above: value.max(0) as u64,
+            below: value.min(0).unsigned_abs(),
+        }
+    }
 }
 
 // The answer; for weights that pass, the marking's weighted sum and whether the weights cover.
@@ -94,76 +112,52 @@ fn fault_answer(s: &[u8], fault: Fault) -> WeightAnswer
 }
 
 // Whether every weight is 0.
-fn all_zero(h: HeldWeights) -> bool
-    ensures { result ≡ (empty h.above && empty h.below) }
+fn all_zero(held: &HeldWeights) -> bool
+    ensures { result ≡ every (every is_zero) held.now.rows }
 {
-    let up = empty_from(&h.above, 0);
-    let down = empty_from(&h.below, 0);
-    up & down
+    held.rows.iter().all(|row| row_zero(row))
 }
 
-// The difference of two sums.
-fn difference(up: u64, down: u64) -> Sum
-    ensures { result ≡ record { above = up - down; below = down - up } }
+// The same of one row.
+fn row_zero(row: &[i16; 32]) -> bool
+    ensures { result ≡ every is_zero row.now }
 {
-    if up < down {
-        return Sum {
-            above: 0,
-            below: down - up,
-        };
-    }
-    Sum {
-        above: up - down,
-        below: 0,
-    }
+    row.iter().all(|weight| weight_zero(*weight))
 }
 
-// The check of weights that pass: the marking's weighted sum, and whether the weights cover for `most` net-tokens.
-fn passed(most: u64, m: Model, k: Marking, h: HeldWeights) -> WeightCheck
-    requires { held_both m k ≡ true }
-    ensures { (w : Weights) → Holds m w h → result ≡ passed_weights most w (weigh (model_of m) w (tokens_of (sizes_for m) k)) }
+fn weight_zero(weight: i16) -> bool
+    ensures { result ≡ is_zero weight }
 {
-    let types = m.types;
-    let len = k.len;
-    let up = marking_weight(&h.above, types, &k.rows, len);
-    let down = marking_weight(&h.below, types, &k.rows, len);
-    let sum = difference(up, down);
-    let objects = m.objects;
-    let above = h.above;
-    let cover = covers(
-        most,
-        m.places,
-        m.nets,
-        objects,
-        above,
-        sum.above + sum.below,
-    );
-    WeightCheck {
-        answer: WeightAnswer::Passed,
-        sum,
-        cover,
-    }
+    weight == 0
 }
 
-// The check of the weights of a file: 6, 7, or they pass.
-fn judged(most: u64, m: Model, k: Marking, h: HeldWeights) -> WeightCheck
-    requires { held_both m k ≡ true }
-    ensures { (w : Weights) → Holds m w h → result ≡ judged_weights most (model_of m) (tokens_of (sizes_for m) k) w }
+// The check of the weights of a file: 6, 7, or they pass, and then the marking's weighted sum, and whether the weights cover for `most`
+// net-tokens.
+fn judged(most: u64, m: &Model, k: &Marking, held: &HeldWeights) -> WeightCheck
+    requires both { held_both m.now k.now ≡ true }
+    requires room { (length m.now.objects ≡ 8) × (length m.now.events ≡ 64) }
+    ensures { (w : Weights) → Holds m.now w held.now → result ≡ judged_weights most (model_of m.now) (tokens_of (sizes_for m.now) k.now) w }
 {
-    if all_zero(h) {
+    let last = m.nets + 2;
+    if all_zero(held) {
         return weights_refused(WeightAnswer::Turned {
             cause: 6,
-            beside: m.nets + 2,
+            beside: last,
         });
     }
-    let event = unbalanced(m, h);
-    if event != 0 {
+    if let Some(event) = unbalanced(m, held) {
         return weights_refused(WeightAnswer::Turned {
             cause: 7,
-            beside: event,
+            beside: event + 1,
         });
     }
-    passed(most, m, k, h)
+    let sum = marking_weight(&held.rows, &m.types, k.held());
+    let cover = covers(most, m, &held.rows, sum.unsigned_abs());
+    WeightCheck {
+        answer: WeightAnswer::Passed,
+        sum: Sum::from(sum),
+        cover,
+    }
 }
 
 // Reads the weight file of a held model, judges the weights, and weighs a held marking.
@@ -173,14 +167,14 @@ pub fn check_weights(m: Model, k: Marking, s: &[u8]) -> WeightCheck
     if Model::LONGEST < s.len() {
         return weights_refused(WeightAnswer::TooLong);
     }
-    if !test_marking(&m, k) {
+    if !test_marking(&m, &k) {
         return weights_refused(WeightAnswer::NotHeld);
     }
     let read = weight_lines(shape_of(m), s);
     let ended = read.ended;
     let weights = read.weights;
     let Ended::Stopped { fault } = ended else {
-        return judged(Model::COVER as u64, m, k, weights);
+        return judged(Model::COVER as u64, &m, &k, &signed(&weights));
     };
     weights_refused(fault_answer(s, fault))
 }

@@ -6,7 +6,7 @@ ghost use Rattle.text_reader.specs.Place.{reached};
 ghost use Rattle.keeper.specs.Held.{no_weights};
 ghost use Rattle.keeper.specs.Parts.{shape_of, read_outer, read_net_weights, read_shaped, outer_of, inners_of, lines_of, inners_at, end_at, behind_outer_at};
 
-use super::{HeldWeights, WeightLines, WeightShape};
+use super::{ReadWeights, WeightLines, WeightShape};
 use model::Model;
 use model_tables::counts::put_counts;
 use text::Ended;
@@ -35,7 +35,7 @@ pub fn shape_of(m: Model) -> WeightShape
 fn no_lines(ended: Ended) -> WeightLines
     ensures { result ≡ record { ended = ended; weights = no_weights } }
 {
-    let weights = HeldWeights {
+    let weights = ReadWeights {
         above: [0u16; 288],
         below: [0u16; 288],
     };
@@ -51,14 +51,14 @@ fn lines_end(lines: WeightLines) -> usize
 }
 
 // The outer weights, in their row.
-fn outer_row(a: [u16; 32], b: [u16; 32]) -> HeldWeights
+fn outer_row(a: [u16; 32], b: [u16; 32]) -> ReadWeights
     ensures { result ≡ record { above = sets (replicate 288 0) 0 a; below = sets (replicate 288 0) 0 b } }
 {
     let mut above = [0u16; 288];
     let mut below = [0u16; 288];
     put_counts(&mut above, 0, a);
     put_counts(&mut below, 0, b);
-    HeldWeights { above, below }
+    ReadWeights { above, below }
 }
 
 // The first line and the outer weights, from `at` on.
@@ -93,7 +93,7 @@ fn inner_lines(
     from: usize,
     nets: usize,
     sizes: [usize; 8],
-    outer: HeldWeights,
+    outer: ReadWeights,
 ) -> WeightLines
     requires { nets ≤ 8 }
     ensures { result ≡ inners_of outer (many_at (read_net_weights sizes s.now) 0 nets from) }
@@ -115,7 +115,7 @@ fn inner_lines(
         at = next;
         i += 1;
     }
-    let weights = HeldWeights { above, below };
+    let weights = ReadWeights { above, below };
     WeightLines {
         ended: Ended::Past { next: at },
         weights,

@@ -15,11 +15,12 @@ use Rattle.marking.specs.Reading.{read_block}
 use Rattle.marking.proofs.BlockFaults.{block_faults}
 use Rattle.reader.specs.Reading.{bounds, read_end, read_lines, read_model_at, read_model, read_marking}
 use Rattle.keeper.specs.Reading.{read_inner, read_weights_at, read_weight_file}
+use Rattle.text.specs.declared.Cause.TheVariants.{Syntax}
 
 module _ (P : ℕ → Type 0) (two : P 2) (s : Text) where
   end_faults : {A : Type 0} (a : A) (at : ℕ) → Faults P (read_end s a at)
   unfolding read_end
-  end_faults a at = need_faults P (leb (length s) at) 2 at _ two tt
+  end_faults a at = need_faults P (leb (length s) at) Syntax at _ two tt
 
   module _ (three : P 3) where
     pub marking_faults : (z : Sizes) → Faults P (read_marking z s)

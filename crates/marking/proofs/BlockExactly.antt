@@ -17,6 +17,7 @@ use Rattle.eos.specs.Model as eos
 use Rattle.marking.specs.Held.{Sizes}
 use Rattle.marking.specs.Reading.{Limits, token_line, line_token, read_net_token, read_block, right_net_token, right_block}
 use Rattle.marking.specs.Printed.{net_token_text, block_text}
+use Rattle.text.specs.declared.Cause.TheVariants.{Syntax}
 
 line_again : (places : ℕ) (size : ℕ → ℕ) (range : ℕ → Bool) (t : Token) → right_token places size range t ≡ true → token_line (line_token t) ≡ t
 unfolding right_token
@@ -34,7 +35,7 @@ module _ (lim : Limits) (z : Sizes) (s : Text) where
   unfolding read_net_token net_token_text right_net_token need
   net_token_exactly =
       exactly_by
-      (last_makes (token_exactly (bytes "token=") z.places z.size lim.counts s) (λ t. true) 0 line_token token_line
+      (last_makes (token_exactly (bytes "token=") z.places z.size lim.counts s) (λ t. true) Syntax line_token token_line
       (line_again z.places z.size lim.counts))
       (λ t h. h.0) (λ t h. (h, refl, token_again t))
 

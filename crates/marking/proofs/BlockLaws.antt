@@ -1,40 +1,46 @@
--- Laws of the loop that reads net-tokens and inserts each where it belongs.
+-- Laws of the lines of net-tokens: of one line, of the loop that puts each in where it belongs, and of a whole block.
 use Prim.Native.Nat.{ℕ, suc, ◌+◌, ◌-◌, ◌≤◌, ◌<◌}
-use mathlib.Core.Path.{◌≡◌, refl, ap, sym, ◌∙◌, subst₂, fun_ext}
-use mathlib.Core.List.{List, [], ◌∷◌, map}
+use mathlib.Core.Path.{◌≡◌, refl, ap, ap₂, sym, ◌∙◌, subst, fun_ext}
+use mathlib.Core.List.{[], ◌∷◌, map}
 use mathlib.Core.Bool.{Bool, true, false, cond}
 use native.Mathlib.Omega.{arith}
 use native.Mathlib.Nat.{sub-zero}
 use lib.Dec.{leb, leb-zero}
-use lib.ListN.{length, length-map, replicate}
+use lib.ListN.{length, length-map}
 use Rattle.text.specs.Bytes.{Text, bytes}
 use Rattle.text.proofs.Basics.{and_true}
 use Rattle.text.specs.Lines.{Outcome, got, bad, then, many, in_range, read_number}
+use Rattle.std.specs.Prelude.{Result}
+use Rattle.std.specs.declared.result.Result.TheVariants.{Ok, Err}
 use Rattle.text.specs.Repeat.{fill, filled}
+use Rattle.text.specs.Answers as text
+use Rattle.text.specs.Answers.{kept, padded}
+use Rattle.text.specs.declared.TokenLine.{TokenLine}
+use Rattle.text.proofs.Loops.{loop_turn, loop_bad, loop_done}
+use Rattle.text_reader.specs.Place.{Reads}
+use Rattle.text_reader.specs.declared.Reader.{Reader}
+use Rattle.text_reader.proofs.ReadsLaws.{itself, plainly, read_of, refused_of, first_refused, followed, passes, fails}
+use Rattle.marking.specs.Answers.{hold_block}
 use Rattle.text.specs.Token.{Token, read_token, right_token}
-use Rattle.text.specs.Answers.{ended_of, kept_or, padded, token_row_of}
 use Rattle.text.specs.declared.Fault.{Fault}
-use Rattle.text.specs.declared.Ended.TheVariants.{Past, Stopped}
-use Rattle.text.specs.declared.TokenRow.{TokenRow}
 use Rattle.text.proofs.TestLaws.{within-is}
-use Rattle.text.proofs.Loops.{got_of, bad_of, loop_turn, loop_bad, loop_done}
 use Rattle.text.proofs.Exactly.{got-is}
 use Rattle.text.proofs.LinesExactly.{number_exactly}
 use Rattle.text.proofs.TokenExactly.{token_exactly}
-use Rattle.eos.specs.Vector.{lex_v}
 use Rattle.eos.specs.Multiset as M
 use Rattle.eos.specs.Model as eos
 use Rattle.eos.proofs.OrderLaws.{insert-sorted}
-use Rattle.eos.proofs.VectorLaws.{lex_order}
 use Rattle.eos.proofs.FiringLaws.{insert_all, after_in_order}
 use Rattle.model.specs.Limits.{line_limit, count_limit}
-use Rattle.marking.specs.Rows.{rows_in, laid, Kept}
-use Rattle.marking.proofs.KeptLaws.{rows-laid, kept-laid}
-use Rattle.marking.specs.Held.{Sizes, Roomy, token_row, hold_marking, no_marking}
+use Rattle.marking.specs.Tokens.{before, holding, tokens_in, Kept, put_in}
+use Rattle.marking.specs.declared.NetToken.{NetToken}
+use Rattle.marking.specs.declared.Marking.{Marking}
+use Rattle.marking.proofs.TokenOrder.{held_order}
+use Rattle.marking.proofs.KeptLaws.{tokens-held, kept-held}
+use Rattle.marking.specs.Held.{Sizes, Roomy, hold_token, hold_marking, no_marking}
 use Rattle.marking.specs.Reading.{Limits, limits, line_token, read_net_token, read_block}
-use Rattle.marking.specs.Answers.{block_of}
 use Rattle.marking.proofs.BlockExactly.{net_token_exactly}
-use Rattle.marking.proofs.RowOrder.{Fitting, All, none, map-insert, all_insert, rows_wide}
+use Rattle.marking.proofs.HeldOrder.{Fitting, All, none, map-insert, all_insert}
 use Rattle.marking.proofs.HoldMarking.{right_is, fitting}
 
 -- a net-token put where it belongs
@@ -58,116 +64,118 @@ insert-long t (u ∷ μ) = go (eos.before t u) (insert-long t μ)
     go true r = refl
     go false r = ap suc r
 
--- what the whole reading holds, by what was inserted
-block_bad : (o : Outcome eos.Marking) (d : Fault) → filled put 0 [] o ≡ bad d → record { ended = Stopped d; marking = no_marking } ≡ block_of o
-unfolding filled block_of ended_of kept_or
-block_bad (got ts x) d e = let z : ◌≡◌ {A = ℕ} 0 1 = cc in absurd (omega arith)
-block_bad (bad c) d e = let k : c ≡ d = cc in rw k
+-- ---- one line
 
-block_got : (o : Outcome eos.Marking) (μ : eos.Marking) (n at : ℕ) (rows : List ℕ) → length μ ≡ n → rows ≡ laid (map token_row μ) → filled put 0 [] o ≡ got μ at
-    → record { ended = Past at; marking = record { len = n; rows = rows } } ≡ block_of o
-unfolding filled block_of ended_of kept_or hold_marking
-block_got (got ts x) μ n at rows h r e =
-    let k = got-is e in
-    let c : eos.canonical ts ≡ μ = sym (fill-canonical ts) ∙ k.0 in
-    rw (c, h, r, k.1)
-block_got (bad c) μ n at rows h r e = let z : ◌≡◌ {A = ℕ} 0 1 = cc in absurd (omega arith)
+-- a net-token of numbers that a line gives
+abbrev pub token_at : TokenLine → NetToken
+token_at t = record { place = t.place; counts = t.counts }
 
-token_got : (o : Outcome Token) (t : Token) (next : ℕ) → o ≡ got t next → then o (λ t x. got (line_token t) x) ≡ got (line_token t) next
-unfolding then
-token_got o t next e = rw e
+module _ (lim : Limits) (z : Sizes) (old : Reader) where
+  abbrev line : Outcome Token
+  line = read_token (bytes "token=") z.places z.size lim.counts old.src.now old.at
 
--- the row of a line that was read
-row_parts : (row : TokenRow) (o : Outcome Token) (t : Token) (next : ℕ) → row ≡ token_row_of o → o ≡ got t next → row.place ∷ row.counts ≡ t.place ∷ padded t.counts
-unfolding token_row_of kept_or
-row_parts row o t next e f = rw (e, f)
+  abbrev make : Token → ℕ → Outcome eos.NetToken
+  make t x = got (line_token t) x
 
-module _ (lim : Limits) (z : Sizes) (s : Text) where
-  abbrev reads : ℕ → Outcome eos.NetToken
-  reads = read_net_token lim z s
+  pub token_refused : {new : Reader} (e : Fault) → Reads (kept text.token_line line) old new (Err e) → Reads (kept hold_token (read_net_token lim z old.src.now old.at)) old new (Err e)
+  unfolding read_net_token
+  token_refused e k = first_refused text.token_line hold_token line (λ _. make) e k
 
-  -- i net-tokens stand in the rows, and the reading goes on at `at`
-  pub record Going (n from : ℕ) (i at : ℕ) (rows : List ℕ) : Type 0 where
+  pub token_read : {new : Reader} (t : TokenLine) → Reads (kept text.token_line line) old new (Ok t)
+      → Reads (kept hold_token (read_net_token lim z old.src.now old.at)) old new (Ok (token_at t))
+  unfolding read_net_token right_token text.token_line
+  token_read {new} t k =
+      followed text.token_line hold_token line (λ _. make) t _ k
+      (λ v is held.
+      let a = (token_exactly (bytes "token=") z.places z.size lim.counts old.src.now).back old.at v new.at is in
+      let w = within-is 1 z.places v.place (and_true (in_range 1 z.places v.place) _ a.fine-is).0 in
+      let n : suc (v.place - 1) ≡ v.place = omega (arith, w.0) in
+      let same : token_at t ≡ hold_token (line_token v) = ap token_at held ∙ ap (λ (p : ℕ). record { place = p; counts = padded v.counts }) (sym n) in
+      subst (λ (x : NetToken). Reads (kept hold_token (make v new.at)) new new (Ok x)) (sym same) (passes hold_token (make v new.at) (line_token v) refl refl))
+
+-- a net-token that is read fits
+token_fits : (lim : Limits) (z : Sizes) (s : Text) (at : ℕ) (t : eos.NetToken) (next : ℕ) → Roomy z → read_net_token lim z s at ≡ got t next → Fitting z t
+token_fits lim z s at t next roomy e = fitting lim.counts z t roomy (right_is lim z t ((net_token_exactly lim z s).back at t next e).fine-is)
+
+-- ---- the loop
+
+module _ (lim : Limits) (z : Sizes) (n : ℕ) (old : Reader) where
+  abbrev reads : Text → ℕ → Outcome eos.NetToken
+  reads s = read_net_token lim z s
+
+  -- i net-tokens are held, and the reading goes on from here
+  pub record Going (i : ℕ) (k : Marking) (now : Reader) : Type 0 where
+    pub same : now.src ≡ old.src
     pub tokens : eos.Marking
     pub all : All z tokens
-    pub sorted : M.Sorted lex_v (map token_row tokens)
+    pub sorted : M.Sorted before (map hold_token tokens)
     pub long : length tokens ≡ i
-    pub rows_are : rows ≡ laid (map token_row tokens)
-    pub left : filled put 0 [] (many reads n from) ≡ filled put i tokens (many reads (n - i) at)
+    pub held : k ≡ holding (map hold_token tokens)
+    pub left : filled put 0 [] (many (reads old.src.now) n old.at) ≡ filled put i tokens (many (reads old.src.now) (n - i) now.at)
 
-  -- one line, as the code has it: a net-token that fits, and its row
-  pub record Read (at next place : ℕ) (counts : List ℕ) : Type 0 where
-    pub token : eos.NetToken
-    pub is : reads at ≡ got token next
-    pub fits : Fitting z token
-    pub row_is : place ∷ counts ≡ token_row token
+  pub going_start : Going 0 no_marking old
+  going_start = record { same = refl; tokens = []; all = none; sorted = tt; long = refl; held = refl; left = rw (sub-zero n) refl }
 
-  module _ (at : ℕ) (row : TokenRow) (row_of : row ≡ token_row_of (read_token (bytes "token=") z.places z.size lim.counts s at)) where
-    ended_is : row.ended ≡ ended_of (read_token (bytes "token=") z.places z.size lim.counts s at)
-    unfolding token_row_of
-    ended_is = ap (λ (r : TokenRow). r.ended) row_of
+  abbrev whole : Outcome eos.Marking
+  whole = many (reads old.src.now) n old.at
 
-    pub read_past : (next : ℕ) → Roomy z → row.ended ≡ Past next → Read at next row.place row.counts
-    unfolding read_net_token then right_token
-    read_past next roomy e =
-        let o = read_token (bytes "token=") z.places z.size lim.counts s at in
-        let g = got_of o row.ended next ended_is e in
-        let t = g.value in
-        let a = (token_exactly (bytes "token=") z.places z.size lim.counts s).back at t next g.is in
-        let w = within-is 1 z.places t.place (and_true (in_range 1 z.places t.place) _ a.fine-is).0 in
-        let r : reads at ≡ got (line_token t) next = token_got o t next g.is in
-        let k : suc (t.place - 1) ≡ t.place = omega arith in
+  module _ (i : ℕ) (k : Marking) (now : Reader) (g : Going i k now) where
+    tokens_are : tokens_in k ≡ map hold_token g.tokens
+    tokens_are = rw g.held (tokens-held (map hold_token g.tokens))
+
+    pub going_long : k.len ≡ i
+    going_long = ap (λ (k : Marking). k.len) g.held ∙ length-map g.tokens hold_token ∙ g.long
+
+    -- they are kept, so that one more can be put in
+    pub going_kept : i ≤ 256 → Kept k
+    going_kept h = subst Kept (sym g.held) (kept-held (map hold_token g.tokens) (omega (arith, length-map g.tokens hold_token, g.long)) g.sorted)
+
+    -- one more net-token is read and put in
+    pub going_turn : (new : Reader) (t : NetToken) (after : Marking) → i < n → Roomy z
+        → Reads (kept hold_token (reads now.src.now now.at)) now new (Ok t) → after ≡ put_in t k → Going (i + 1) after new
+    unfolding put_in
+    going_turn new t after h roomy r f =
+        let q = read_of hold_token (reads now.src.now now.at) t r in
+        let u = q.value in
+        let is : reads old.src.now now.at ≡ got u new.at = subst (λ (x : _). reads x.now now.at ≡ got u new.at) g.same q.is in
+        let fits = token_fits lim z old.src.now now.at u new.at roomy is in
+        let m : M.insert before t (tokens_in k) ≡ map hold_token (M.insert eos.before u g.tokens) =
+        ap₂ (M.insert before) q.held tokens_are ∙ sym (map-insert z u g.tokens fits g.all) in
         record {
-          token = line_token t;
-          is = r;
-          fits = fitting lim.counts z (line_token t) roomy (right_is lim z (line_token t) ((net_token_exactly lim z s).back at (line_token t) next r).fine-is);
-          row_is = rw k (row_parts row _ t next row_of g.is);
+          same = ap (λ (x : Reader). x.src) q.moved ∙ g.same;
+          tokens = M.insert eos.before u g.tokens;
+          all = all_insert z u g.tokens fits g.all;
+          sorted = rw (map-insert z u g.tokens fits g.all) (insert-sorted before held_order (hold_token u) (map hold_token g.tokens) g.sorted);
+          long = insert-long u g.tokens ∙ rw g.long (omega arith);
+          held = f ∙ ap holding m;
+          left = g.left ∙ loop_turn put (reads old.src.now) i n now.at g.tokens h u new.at is;
         }
 
-    pub read_stopped : (d : Fault) → row.ended ≡ Stopped d → reads at ≡ bad d
-    unfolding read_net_token then
-    read_stopped d e = rw (bad_of _ row.ended d ended_is e)
+    -- a line that is refused ends the reading
+    pub going_bad : (new : Reader) (e : Fault) → i < n → Reads (kept hold_token (reads now.src.now now.at)) now new (Err e) → Reads (kept hold_block whole) old new (Err e)
+    unfolding filled
+    going_bad new e h r =
+        let q = refused_of hold_token (reads now.src.now now.at) e r in
+        let is : reads old.src.now now.at ≡ bad e = subst (λ (x : _). reads x.now now.at ≡ bad e) g.same q.is in
+        fails hold_block whole e (bad_filled whole (g.left ∙ loop_bad put (reads old.src.now) i n now.at g.tokens h e is)) (q.same ∙ g.same)
+      where
+        bad_filled : (o : Outcome eos.Marking) → filled put 0 [] o ≡ bad e → o ≡ bad e
+        bad_filled (got ts x) p = let z : ◌≡◌ {A = ℕ} 0 1 = cc in absurd (omega arith)
+        bad_filled (bad d) p = cc
 
-  module _ (n from : ℕ) where
-    pub going_start : Going n from 0 from (replicate 8448 0)
-    going_start = record { tokens = []; all = none; sorted = tt; long = refl; rows_are = refl; left = rw (sub-zero n) }
-
-    module _ (i at : ℕ) (rows : List ℕ) (g : Going n from i at rows) where
-      rows_in_lem : rows_in i rows ≡ map token_row g.tokens
-      rows_in_lem =
-          let k : i ≡ length (map token_row g.tokens) = sym g.long ∙ sym (length-map g.tokens token_row) in
-          rw (k, g.rows_are) (rows-laid (map token_row g.tokens) (rows_wide g.tokens))
-
-      -- the rows are kept, so that one more can be inserted
-      pub going_kept : i ≤ 256 → Kept i rows
-      going_kept h =
-          let k : length (map token_row g.tokens) ≡ i = length-map g.tokens token_row ∙ g.long in
-          subst₂ Kept k (sym g.rows_are) (kept-laid (map token_row g.tokens) (omega arith) (rows_wide g.tokens) g.sorted)
-
-      -- one more net-token is read and inserted
-      pub going_turn : (next place : ℕ) (counts row after : List ℕ) → i < n → Read at next place counts → row ≡ place ∷ counts → after ≡ laid (M.insert lex_v row (rows_in i rows))
-          → Going n from (i + 1) next after
-      going_turn next place counts row after h r e f =
-          let t = r.token in
-          let m : M.insert lex_v row (rows_in i rows) ≡ map token_row (M.insert eos.before t g.tokens) =
-          rw (e, r.row_is, rows_in_lem) (sym (map-insert z t g.tokens r.fits g.all)) in
-          record {
-            tokens = M.insert eos.before t g.tokens;
-            all = all_insert z t g.tokens r.fits g.all;
-            sorted = rw (map-insert z t g.tokens r.fits g.all) (insert-sorted lex_v lex_order (token_row t) (map token_row g.tokens) g.sorted);
-            long = insert-long t g.tokens ∙ rw g.long (omega arith);
-            rows_are = f ∙ ap laid m;
-            left = g.left ∙ loop_turn put reads i n at g.tokens h t next r.is;
-          }
-
-      -- a line that is refused ends the reading
-      pub going_bad : (d : Fault) → i < n → reads at ≡ bad d → record { ended = Stopped d; marking = no_marking } ≡ block_of (many reads n from)
-      going_bad d h e = block_bad (many reads n from) d (g.left ∙ loop_bad put reads i n at g.tokens h d e)
-
-      -- after n lines the rows are those of the canonical list
-      pub going_done : i ≤ n → n ≤ i → record { ended = Past at; marking = record { len = n; rows = rows } } ≡ block_of (many reads n from)
-      going_done h k =
-          block_got (many reads n from) g.tokens n at rows (omega (arith, g.long)) g.rows_are (g.left ∙ loop_done put reads i n at g.tokens k)
+    -- after n lines they are those of the canonical list
+    pub going_done : n ≤ i → Reads (kept hold_block whole) old now (Ok k)
+    unfolding filled hold_marking
+    going_done h = go whole (g.left ∙ loop_done put (reads old.src.now) i n now.at g.tokens h)
+      where
+        go : (o : Outcome eos.Marking) → filled put 0 [] o ≡ got g.tokens now.at → Reads (kept hold_block o) old now (Ok k)
+        go (got ts x) p =
+            let q = got-is p in
+            let c : eos.canonical ts ≡ g.tokens = sym (fill-canonical ts) ∙ q.0 in
+            let same : k ≡ hold_block ts = g.held ∙ ap (λ (μ : eos.Marking). holding (map hold_token μ)) (sym c) in
+            subst (λ (y : Marking). Reads (kept hold_block (got ts x)) old now (Ok y)) (sym same)
+            (passes hold_block (got ts x) ts (ap (λ (y : ℕ). got ts y) q.1) (ap (λ (s : _). record { src = s; at = now.at }) g.same))
+        go (bad d) p = let z : ◌≡◌ {A = ℕ} 0 1 = cc in absurd (omega arith)
 
 -- ---- the whole block
 
@@ -175,21 +183,30 @@ module _ (lim : Limits) (z : Sizes) (s : Text) where
 from_zero : (hi : ℕ) → in_range 0 hi ≡ (λ v. leb v hi)
 from_zero hi = fun_ext (λ v. rw (leb-zero v))
 
-pub counted-few : (key s : Text) (most at n next : ℕ) → read_number key (in_range 0 most) s at ≡ got n next → n ≤ most
-counted-few key s most at n next e = (within-is 0 most n ((number_exactly key (in_range 0 most) s).back at n next e).fine-is).1
+-- over how the net-tokens are held
+module _ {B : Type 0} (hold : eos.Marking → B) (key : Text) (most : ℕ) (z : Sizes) (old : Reader) where
+  abbrev number : Outcome ℕ
+  number = read_number key (in_range 0 most) old.src.now old.at
 
-module _ (key : Text) (most : ℕ) (z : Sizes) (s : Text) (at : ℕ) where
-  pub counted : (o : Outcome ℕ) → o ≡ read_number key (in_range 0 most) s at → o ≡ read_number key (limits most count_limit).tokens s at
-  counted o e = e ∙ ap (λ (r : ℕ → Bool). read_number key r s at) (from_zero most)
+  abbrev tokens_behind : Text → ℕ → ℕ → Outcome eos.Marking
+  tokens_behind s n x = many (read_net_token (limits line_limit count_limit) z s) n x
+
+  -- a line of a net-token does not depend on how many may follow
+  block_is : read_block key (limits most count_limit) z old.src.now old.at ≡ then number (tokens_behind old.src.now)
+  unfolding read_block read_net_token
+  block_is = ap (λ (r : ℕ → Bool). then (read_number key r old.src.now old.at) (tokens_behind old.src.now)) (sym (from_zero most))
 
   -- their number is refused
-  pub block_refused : (d : Fault) → read_number key (in_range 0 most) s at ≡ bad d
-      → record { ended = Stopped d; marking = no_marking } ≡ block_of (read_block key (limits most count_limit) z s at)
-  unfolding read_block then block_of ended_of kept_or
-  block_refused d e = rw (sym (counted (bad d) (sym e)))
+  pub block_refused : {new : Reader} (e : Fault) → Reads number old new (Err e) → Reads (kept hold (read_block key (limits most count_limit) z old.src.now old.at)) old new (Err e)
+  block_refused e k = rw block_is (first_refused itself hold number tokens_behind e (plainly k))
 
-  -- their number is read, and they follow; a line of a net-token does not depend on how many may follow
-  pub block_counted : (n next : ℕ) → read_number key (in_range 0 most) s at ≡ got n next
-      → block_of (many (read_net_token (limits line_limit count_limit) z s) n next) ≡ block_of (read_block key (limits most count_limit) z s at)
-  unfolding read_block read_net_token then
-  block_counted n next e = rw (sym (counted (got n next) (sym e)))
+  -- their number is read, and they follow
+  module _ {mid : Reader} (n : ℕ) (first : Reads number old mid (Ok n)) where
+    pub counted_few : n ≤ most
+    counted_few =
+        let q = read_of itself number n (plainly first) in
+        omega (arith, q.held, (within-is 0 most q.value ((number_exactly key (in_range 0 most) old.src.now).back old.at q.value mid.at q.is).fine-is).1)
+
+    pub block_counted : {new : Reader} (r : Result B Fault) → Reads (kept hold (tokens_behind mid.src.now n mid.at)) mid new r
+        → Reads (kept hold (read_block key (limits most count_limit) z old.src.now old.at)) old new r
+    block_counted r k = rw block_is (followed itself hold number tokens_behind n r (plainly first) (λ v is same. rw (← same) k))

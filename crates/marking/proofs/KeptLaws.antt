@@ -1,147 +1,135 @@
--- Laid out rows are kept, inserting and taking out keep them, and two tests decide what is kept.
-use Prim.Native.Nat.{ℕ, zero, suc, ◌+◌, ◌-◌, ◌*◌, ◌≤◌, ◌<◌}
-use mathlib.Core.Path.{◌≡◌, refl, sym, ap, ap₂, subst, ◌∙◌}
+-- Net-tokens laid in their room are kept, putting in and taking out keep them, and two tests decide what is kept.
+use Prim.Native.Nat.{ℕ, zero, suc, ◌+◌, ◌-◌, ◌≤◌, ◌<◌}
+use mathlib.Core.Path.{◌≡◌, refl, sym, ap, subst, ◌∙◌}
 use mathlib.Core.Bool.{Bool, true, false, cond, ◌&&◌}
 use mathlib.Core.List.{List, [], ◌∷◌, ◌++◌}
 use native.Mathlib.Omega.{arith}
-use lib.Dec.{eqb, eqb→eq}
-use lib.ListN.{length, take, drop, replicate, length-append, length-drop, length-replicate, take-append-drop}
-use lib.Seq.{drop_at, length-take-le}
-use Rattle.eos.specs.Vector.{eq_v, lex_v}
+use lib.ListN.{length, get_or, take, drop, replicate, length-append, length-drop, length-replicate, take-append-drop}
+use lib.Seq.{take_at, drop_at, length-take-le}
 use Rattle.eos.specs.Multiset.{bit, every, count, without, insert, Sorted}
 use Rattle.eos.proofs.Basics.{true_is, is_true, and_l, and_r, and_i}
 use Rattle.eos.proofs.OrderLaws.{insert-sorted, sorted-without}
-use Rattle.eos.proofs.VectorLaws.{lex_order}
-use Rattle.marking.specs.Rows.{Row, rows_in, concat, laid, place_for, ascending, Kept}
+use Rattle.marking.specs.Tokens.{like, before, no_token, laid, holding, tokens_in, OnPlaces, place_for, ascending, Kept, put_in}
+use Rattle.marking.specs.declared.NetToken.{NetToken}
+use Rattle.marking.specs.declared.Marking.{Marking}
+use Rattle.marking.proofs.TokenOrder.{held_alike, held_order}
 use Rattle.marking.proofs.PlaceFor.{place-within, insert-at}
-use Rattle.marking.proofs.RowLaws.{Wide, wide_take, wide_drop, wide_append, kept_wide, length-rows, concat-rows, rows-concat, concat-long, laid-long}
 
-pub rows-laid : (rs : List Row) → Wide rs → rows_in (length rs) (laid rs) ≡ rs
-rows-laid rs w = rows-concat rs (replicate (8448 - length rs * 33) 0) w
+-- ---- held net-tokens
 
-pub kept-laid : (rs : List Row) → length rs ≤ 256 → Wide rs → Sorted lex_v rs → Kept (length rs) (laid rs)
-kept-laid rs h w s =
-    let e : rows_in (length rs) (laid rs) ≡ rs = rows-laid rs w in
-    record { few = h; long = laid-long rs w h; sorted = subst (Sorted lex_v) (sym e) s; is = ap laid (sym e) }
+pub tokens-held : (ts : List NetToken) → tokens_in (holding ts) ≡ ts
+tokens-held ts = take_at ts (replicate (256 - length ts) no_token) (length ts) refl
 
--- no rows
-pub kept_none : Kept 0 (replicate 8448 0)
-kept_none = record { few = omega arith; long = length-replicate {A = ℕ} 8448 0; sorted = tt; is = refl }
+pub laid-long : (ts : List NetToken) → length ts ≤ 256 → length (laid ts) ≡ 256
+laid-long ts h = omega (arith, length-append ts (replicate (256 - length ts) no_token), length-replicate (256 - length ts) no_token)
 
--- what inserting and taking out do to a list
-length-insert : (r : Row) (rs : List Row) → length (insert lex_v r rs) ≡ suc (length rs)
-length-insert r rs =
-    let p : ℕ = place_for r rs in
+pub kept-held : (ts : List NetToken) → length ts ≤ 256 → Sorted before ts → Kept (holding ts)
+kept-held ts h s =
+    let e = tokens-held ts in
+    record { few = h; long = laid-long ts h; sorted = rw e s; is = rw e }
+
+-- as many net-tokens as their number says
+pub length-held : (k : Marking) → Kept k → length (tokens_in k) ≡ k.len
+length-held k p = length-take-le k.len k.tokens (omega (arith, p.few, p.long))
+
+-- kept net-tokens are held so
+pub kept-is : (k : Marking) → Kept k → k ≡ holding (tokens_in k)
+kept-is k p = let n = length-held k p in λ i. record { len = sym n i; tokens = p.is i }
+
+-- ---- putting in and taking out
+
+pub length-insert : (t : NetToken) (ts : List NetToken) → length (insert before t ts) ≡ suc (length ts)
+length-insert t ts =
+    let p : ℕ = place_for t ts in
     omega (
       arith,
-      ap length (insert-at r rs),
-      length-append (take p rs) (r ∷ drop p rs),
-      length-take-le p rs (place-within r rs),
-      length-drop p rs,
-      place-within r rs,
+      ap length (insert-at t ts),
+      length-append (take p ts) (t ∷ drop p ts),
+      length-take-le p ts (place-within t ts),
+      length-drop p ts,
+      place-within t ts,
     )
 
-wide_insert : (r : Row) (rs : List Row) → length r ≡ 33 → Wide rs → Wide (insert lex_v r rs)
-wide_insert r rs h w =
-    let p : ℕ = place_for r rs in
-    subst Wide (sym (insert-at r rs)) (wide_append (take p rs) (r ∷ drop p rs) (wide_take rs p w) (h, wide_drop rs p w))
-
-length_without : (r : Row) (rs : List Row) → 1 ≤ count eq_v r rs → suc (length (without eq_v r rs)) ≡ length rs
-length_without r [] h = absurd (omega arith)
-length_without r (x ∷ rs) h = go (eq_v r x) h (length_without r rs)
+pub length_without : (t : NetToken) (ts : List NetToken) → 1 ≤ count like t ts → suc (length (without like t ts)) ≡ length ts
+length_without t [] h = absurd (omega arith)
+length_without t (x ∷ ts) h = go (like t x) h (length_without t ts)
   where
-    go : (t : Bool) → 1 ≤ bit t + count eq_v r rs → (1 ≤ count eq_v r rs → suc (length (without eq_v r rs)) ≡ length rs)
-        → suc (length (cond t rs (x ∷ without eq_v r rs))) ≡ suc (length rs)
+    go : (b : Bool) → 1 ≤ bit b + count like t ts → (1 ≤ count like t ts → suc (length (without like t ts)) ≡ length ts)
+        → suc (length (cond b ts (x ∷ without like t ts))) ≡ suc (length ts)
     go true k f = refl
     go false k f = ap suc (f (omega arith))
 
-wide_without : (r : Row) (rs : List Row) → Wide rs → Wide (without eq_v r rs)
-wide_without r [] w = tt
-wide_without r (x ∷ rs) w = go (eq_v r x) (wide_without r rs w.1)
-  where
-    go : (t : Bool) → Wide (without eq_v r rs) → Wide (cond t rs (x ∷ without eq_v r rs))
-    go true v = w.1
-    go false v = (w.0, v)
+module _ (t : NetToken) (k : Marking) where
+  pub tokens-in : tokens_in (put_in t k) ≡ insert before t (tokens_in k)
+  unfolding put_in
+  tokens-in = tokens-held (insert before t (tokens_in k))
 
-module _ (n : ℕ) (l : List ℕ) (row : Row) (k : Kept n l) where
-  module _ (h : n < 256) (r : length row ≡ 33) where
-    long-insert : length (insert lex_v row (rows_in n l)) ≡ n + 1
-    long-insert = omega (arith, length-insert row (rows_in n l), length-rows n l)
+  pub kept-in : Kept k → k.len < 256 → Kept (put_in t k)
+  unfolding put_in
+  kept-in p h =
+      kept-held (insert before t (tokens_in k)) (omega (arith, length-insert t (tokens_in k), length-held k p))
+      (insert-sorted before held_order t (tokens_in k) p.sorted)
 
-    pub kept-insert : Kept (n + 1) (laid (insert lex_v row (rows_in n l)))
-    kept-insert =
-        let rs : List Row = insert lex_v row (rows_in n l) in
-        subst (λ (i : ℕ). Kept i (laid rs)) long-insert
-        (kept-laid rs (omega (arith, long-insert)) (wide_insert row (rows_in n l) r (kept_wide n l k))
-        (insert-sorted lex_v lex_order row (rows_in n l) k.sorted))
+  pub kept_out : Kept k → 1 ≤ count like t (tokens_in k) → Kept (holding (without like t (tokens_in k)))
+  kept_out p h =
+      kept-held (without like t (tokens_in k)) (omega (arith, length_without t (tokens_in k) h, length-held k p, p.few))
+      (sorted-without before held_order like t (tokens_in k) p.sorted)
 
-    pub rows-insert : rows_in (n + 1) (laid (insert lex_v row (rows_in n l))) ≡ insert lex_v row (rows_in n l)
-    rows-insert =
-        let rs : List Row = insert lex_v row (rows_in n l) in
-        subst (λ (i : ℕ). rows_in i (laid rs) ≡ rs) long-insert (rows-laid rs (wide_insert row (rows_in n l) r (kept_wide n l k)))
+-- ---- the test of the order decides it
 
-  module _ (h : 1 ≤ count eq_v row (rows_in n l)) where
-    long_out : length (without eq_v row (rows_in n l)) ≡ n - 1
-    long_out = omega (arith, length_without row (rows_in n l) h, length-rows n l)
-
-    pub kept_out : Kept (n - 1) (laid (without eq_v row (rows_in n l)))
-    kept_out =
-        let rs : List Row = without eq_v row (rows_in n l) in
-        subst (λ (i : ℕ). Kept i (laid rs)) long_out
-        (kept-laid rs (omega (arith, long_out, k.few)) (wide_without row (rows_in n l) (kept_wide n l k))
-        (sorted-without lex_v lex_order eq_v row (rows_in n l) k.sorted))
-
-    pub rows_out : rows_in (n - 1) (laid (without eq_v row (rows_in n l))) ≡ without eq_v row (rows_in n l)
-    rows_out =
-        let rs : List Row = without eq_v row (rows_in n l) in
-        subst (λ (i : ℕ). rows_in i (laid rs) ≡ rs) long_out (rows-laid rs (wide_without row (rows_in n l) (kept_wide n l k)))
-
--- the test of the order decides it
-pub ascending-sorted : (rs : List Row) → ascending rs ≡ true → Sorted lex_v rs
+pub ascending-sorted : (ts : List NetToken) → ascending ts ≡ true → Sorted before ts
 ascending-sorted [] e = tt
-ascending-sorted (r ∷ []) e = (tt, tt)
-ascending-sorted (r ∷ s ∷ rs) e =
-    let t : lex_v r s ≡ true = is_true (lex_v r s) (and_l (lex_v r s) (ascending (s ∷ rs)) (true_is e)) in
-    let d : ascending (s ∷ rs) ≡ true = is_true (ascending (s ∷ rs)) (and_r (lex_v r s) (ascending (s ∷ rs)) (true_is e)) in
-    subst (λ (b : Bool). Sorted lex_v (cond b (r ∷ s ∷ rs) (s ∷ insert lex_v r rs))) t
-    (insert-sorted lex_v lex_order r (s ∷ rs) (ascending-sorted (s ∷ rs) d))
+ascending-sorted (t ∷ []) e = (tt, tt)
+ascending-sorted (t ∷ u ∷ ts) e =
+    let b : before t u ≡ true = is_true (before t u) (and_l (before t u) (ascending (u ∷ ts)) (true_is e)) in
+    let d : ascending (u ∷ ts) ≡ true = is_true (ascending (u ∷ ts)) (and_r (before t u) (ascending (u ∷ ts)) (true_is e)) in
+    subst (λ (x : Bool). Sorted before (cond x (t ∷ u ∷ ts) (u ∷ insert before t ts))) b
+    (insert-sorted before held_order t (u ∷ ts) (ascending-sorted (u ∷ ts) d))
 
-pub sorted-ascending : (rs : List Row) → Sorted lex_v rs → ascending rs ≡ true
+pub sorted-ascending : (ts : List NetToken) → Sorted before ts → ascending ts ≡ true
 sorted-ascending [] s = refl
-sorted-ascending (r ∷ []) s = refl
-sorted-ascending (r ∷ x ∷ rs) s =
-    is_true (lex_v r x && ascending (x ∷ rs)) (and_i (lex_v r x) (ascending (x ∷ rs)) s.0.0 (true_is (sorted-ascending (x ∷ rs) s.1)))
+sorted-ascending (t ∷ []) s = refl
+sorted-ascending (t ∷ x ∷ ts) s =
+    is_true (before t x && ascending (x ∷ ts)) (and_i (before t x) (ascending (x ∷ ts)) s.0.0 (true_is (sorted-ascending (x ∷ ts) s.1)))
 
--- the test of the room decides it
-zeros_are : (m : List ℕ) → every (λ v. eqb v 0) m ≡ true → m ≡ replicate (length m) 0
-zeros_are [] e = refl
-zeros_are (v ∷ m) e =
-    ap₂ ◌∷◌ (eqb→eq v 0 (and_l (eqb v 0) (every (λ v. eqb v 0) m) (true_is e)))
-    (zeros_are m (is_true (every (λ v. eqb v 0) m) (and_r (eqb v 0) (every (λ v. eqb v 0) m) (true_is e))))
+-- ---- the test of the room decides it
 
-every-zeros : (k : ℕ) → every (λ v. eqb v 0) (replicate k 0) ≡ true
-every-zeros zero = refl
-every-zeros (suc k) = every-zeros k
+empty-are : (l : List NetToken) → every (like no_token) l ≡ true → l ≡ replicate (length l) no_token
+empty-are [] e = refl
+empty-are (t ∷ l) e =
+    let p : no_token ≡ t = held_alike.same no_token t (and_l (like no_token t) (every (like no_token) l) (true_is e)) in
+    let q : l ≡ replicate (length l) no_token = empty-are l (is_true (every (like no_token) l) (and_r (like no_token t) (every (like no_token) l) (true_is e))) in
+    λ i. sym p i ∷ q i
 
-module _ (n : ℕ) (l : List ℕ) where
-  pub kept_test : n ≤ 256 → length l ≡ 8448 → ascending (rows_in n l) ≡ true → every (λ v. eqb v 0) (drop (n * 33) l) ≡ true → Kept n l
+every-empty : (n : ℕ) → every (like no_token) (replicate n no_token) ≡ true
+every-empty zero = refl
+every-empty (suc n) = every-empty n
+
+module _ (k : Marking) where
+  pub kept_test : k.len ≤ 256 → length k.tokens ≡ 256 → ascending (tokens_in k) ≡ true → every (like no_token) (drop k.len k.tokens) ≡ true → Kept k
   kept_test h m e z =
-      let k : length (drop (n * 33) l) ≡ 8448 - length (rows_in n l) * 33 = omega (arith, length-drop (n * 33) l, length-rows n l) in
+      let n : length (drop k.len k.tokens) ≡ 256 - length (tokens_in k) =
+      omega (arith, length-drop k.len k.tokens, length-take-le k.len k.tokens (omega arith)) in
       record {
         few = h;
         long = m;
-        sorted = ascending-sorted (rows_in n l) e;
-        is = sym (take-append-drop (n * 33) l)
-            ∙ ap (λ (d : List ℕ). take (n * 33) l ++ d) (zeros_are (drop (n * 33) l) z)
-            ∙ ap (λ (d : List ℕ). d ++ replicate (length (drop (n * 33) l)) 0) (sym (concat-rows n l))
-            ∙ ap (λ (i : ℕ). concat (rows_in n l) ++ replicate i 0) k;
+        sorted = ascending-sorted (tokens_in k) e;
+        is = sym (take-append-drop k.len k.tokens)
+            ∙ ap (λ (d : List NetToken). tokens_in k ++ d) (empty-are (drop k.len k.tokens) z)
+            ∙ ap (λ (i : ℕ). tokens_in k ++ replicate i no_token) n;
       }
 
-  pub test-kept : Kept n l → (ascending (rows_in n l) ≡ true) × (every (λ v. eqb v 0) (drop (n * 33) l) ≡ true)
-  test-kept k =
-      let rs : List Row = rows_in n l in
-      let room : List ℕ = replicate (8448 - length rs * 33) 0 in
-      let d : drop (n * 33) l ≡ room =
-      ap (λ (z : List ℕ). drop (n * 33) z) k.is
-      ∙ drop_at (concat rs) room (n * 33) (omega (arith, concat-long rs (kept_wide n l k), length-rows n l)) in
-      (sorted-ascending rs k.sorted, ap (every (λ v. eqb v 0)) d ∙ every-zeros (8448 - length rs * 33))
+  pub test-kept : Kept k → (ascending (tokens_in k) ≡ true) × (every (like no_token) (drop k.len k.tokens) ≡ true)
+  test-kept p =
+      let room : List NetToken = replicate (256 - length (tokens_in k)) no_token in
+      let d : drop k.len k.tokens ≡ room =
+      ap (λ (l : List NetToken). drop k.len l) p.is ∙ drop_at (tokens_in k) room k.len (length-held k p) in
+      (sorted-ascending (tokens_in k) p.sorted, ap (every (like no_token)) d ∙ every-empty (256 - length (tokens_in k)))
+
+-- ---- places
+
+-- the place of net-token i, whatever is read past the last
+pub place_at : (ts : List NetToken) (i : ℕ) (d : NetToken) → OnPlaces ts → i < length ts → (1 ≤ (get_or ts i d).place) × ((get_or ts i d).place ≤ 32)
+place_at [] i d p h = absurd (omega arith)
+place_at (t ∷ ts) zero d p h = (p.0, p.1)
+place_at (t ∷ ts) (suc i) d p h = place_at ts i d p.2 (omega arith)

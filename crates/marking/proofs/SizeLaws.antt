@@ -1,4 +1,4 @@
--- How many counts the net-tokens of a held model have: a row has room for them, and they are as many as the model says that is held.
+-- How many counts the net-tokens of a held model have: there is room for them, and they are as many as the model says that is held.
 use Prim.Native.Nat.{ℕ, zero, suc, ◌+◌, ◌-◌, ◌≤◌, ◌<◌}
 use mathlib.Core.Path.{◌≡◌, refl, ap, sym, ◌∙◌}
 use mathlib.Core.List.{List}
@@ -55,7 +55,7 @@ module _ (m : Model) (h : held_model m ≡ true) where
       (λ r. omega (arith, most-nets m (held-is m h), leb-true (nth m.types p) m.nets (rw (cond_below m.places p below none r) at t)))
       (λ r. omega (arith, eqb-true (nth m.types p) 0 (rw (cond_from m.places p below none r) at t)))
 
-  net-few : (k : ℕ) → k < 8 → (get_or m.objects k no_net).places ≤ 32
+  pub net-few : (k : ℕ) → k < 8 → (get_or m.objects k no_net).places ≤ 32
   net-few k q =
       let n = get_or m.objects k no_net in
       let t = (and_true (count_test m.nets k n) (held_net n) (nets-at m (held-is m h).nets k q)).0 in
@@ -65,7 +65,7 @@ module _ (m : Model) (h : held_model m ≡ true) where
       (λ r. (within-is 1 32 n.places (and_true (in_range 1 32 n.places) _ (rw (cond_below m.nets k used free r) at t)).0).1)
       (λ r. omega (arith, (eqb_and n.places 0 _ (rw (cond_from m.nets k used free r) at t)).0))
 
-  -- no net has more places than a row has room for
+  -- no net has more places than there is room for
   pub nets-small : length m.objects ≡ 8 → SmallNets m.objects
   nets-small e k =
       by_index 8 k (net-few k)
@@ -75,7 +75,7 @@ module _ (m : Model) (h : held_model m ≡ true) where
   size_few zero q = omega arith
   size_few (suc k) q = net-few k q
 
-  -- a row has room for the counts of every place of a held model
+  -- there is room for the counts of every place of a held model
   pub held_roomy : Roomy (sizes_for m)
   unfolding sizes_in
   held_roomy p =

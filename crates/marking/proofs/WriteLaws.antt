@@ -1,20 +1,19 @@
--- The text of a marking: how long it is at most, that it is the text of the rows that hold it, and that it reads back.
-use Prim.Native.Nat.{ℕ, suc, ◌+◌, ◌-◌, ◌*◌, ◌≤◌, ◌<◌}
+-- The text of a marking: how long it is at most, that it is the text of the net-tokens that are held, and that it reads back.
+use Prim.Native.Nat.{ℕ, suc, ◌+◌, ◌-◌, ◌≤◌}
 use mathlib.Core.Path.{◌≡◌, refl, sym, ◌∙◌}
 use mathlib.Core.List.{List, [], ◌∷◌, ◌++◌, map, append-nil}
 use mathlib.Core.Bool.{true}
 use native.Mathlib.Omega.{arith}
 use native.Mathlib.Nat.{zero-add}
-use lib.Dec.{leb, eqb}
-use lib.ListN.{length, drop, get_or, length-append, length-map}
+use lib.Dec.{leb}
+use lib.ListN.{length, get_or, length-append, length-map}
 use lib.Seq.{sets, drop-length}
 use borrow.Author.Tests.{leb-true}
 use Rattle.text.specs.Bytes.{Text, bytes}
 use Rattle.text.proofs.Basics.{and_true}
 use Rattle.text.specs.Lines.{got, every, in_range}
 use Rattle.text.specs.Printed.{decimal, texts, number_text, token_text}
-use Rattle.text.specs.Answers.{ended_of, kept_or}
-use Rattle.text.specs.declared.Ended.TheVariants.{Past}
+use Rattle.text.specs.Answers.{kept}
 use Rattle.text.proofs.TestLaws.{within-is, every-at}
 use Rattle.text.proofs.DecimalLaws.{length-below}
 use Rattle.text.proofs.TextLengths.{texts-length, ended-length}
@@ -23,16 +22,16 @@ use Rattle.text.proofs.SetsLaws.{sets_append}
 use Rattle.text.proofs.LaidLaws.{Laid, number_line_length}
 use Rattle.eos.specs.Model as eos
 use Rattle.model.specs.Limits.{room_limit}
-use Rattle.marking.specs.Rows.{Row, rows_in, ascending}
-use Rattle.marking.proofs.RowLaws.{length-rows, row_at}
-use Rattle.marking.specs.Held.{Sizes, sizes_at, Roomy, hold_marking, token_of, tokens_of, right_row, held_rows, held_marking, SizedMarking}
+use Rattle.marking.specs.Tokens.{tokens_in}
+use Rattle.marking.specs.declared.NetToken.{NetToken}
+use Rattle.marking.proofs.KeptLaws.{length-held}
+use Rattle.marking.specs.Held.{Sizes, Roomy, hold_marking, token_of, tokens_of, held_token, held_marking, SizedMarking}
 use Rattle.marking.specs.Reading.{limits, read_block, right_net_token, right_block}
-use Rattle.marking.specs.Printed.{net_token_text, block_text, marking_text, row_text}
-use Rattle.marking.specs.Answers.{block_of}
+use Rattle.marking.specs.Printed.{net_token_text, block_text, marking_text, held_text}
+use Rattle.marking.specs.Answers.{hold_block}
 use Rattle.marking.specs.declared.Marking.{Marking}
 use Rattle.marking.proofs.BlockExactly.{block_exactly}
-use Rattle.marking.proofs.HoldMarking.{Right, right_is, Held, held-tokens}
-use Rattle.marking.proofs.HeldRowTests.{row_front}
+use Rattle.marking.proofs.HoldMarking.{Right, right_is, Held, held-tokens, held_tested}
 use Rattle.marking.proofs.LinesLaid.{few-digits, line-length}
 
 -- ---- how long it is at most
@@ -66,60 +65,39 @@ module _ (z : Sizes) (roomy : Roomy z) (places : z.places ≤ 99) where
   pub held-length : (k : Marking) → SizedMarking k → held_marking room_limit z k ≡ true → length (marking_text (tokens_of z k)) ≤ 51466
   held-length k sz h = marking_length (tokens_of z k) (held-tokens z roomy k sz h).0.right
 
--- ---- the text of the rows that hold it
+-- ---- the text of the net-tokens that it holds
 
-module _ (places : ℕ) (sizes : List ℕ) where
-  right_front : (r : Row) → right_row (sizes_at places sizes) r ≡ true → 1 ≤ get_or r 0 0
-  unfolding right_row
-  right_front r h = (within-is 1 places (get_or r 0 0) (and_true (in_range 1 places (get_or r 0 0)) _ h).0).0
+module _ (z : Sizes) where
+  -- the line of a held net-token is that of what it stands for
+  pub held_text_lem : (t : NetToken) → held_token z t ≡ true → net_token_text (token_of z t) ≡ held_text z t
+  unfolding net_token_text held_text held_token
+  held_text_lem t h =
+      let w = within-is 1 z.places t.place (and_true (in_range 1 z.places t.place) _ h).0 in
+      let k : suc (t.place - 1) ≡ t.place = omega arith in
+      rw k
 
-  -- the line of a right row is that of its net-token
-  pub row_text_lem : (r : Row) → right_row (sizes_at places sizes) r ≡ true → net_token_text (token_of (sizes_at places sizes) r) ≡ row_text sizes r
-  unfolding net_token_text row_text
-  row_text_lem r h = let p = right_front r h in let k : suc (get_or r 0 0 - 1) ≡ get_or r 0 0 = omega arith in rw k
-
-  rows_text : (rs : List Row) → every (right_row (sizes_at places sizes)) rs ≡ true
-      → texts net_token_text (map (token_of (sizes_at places sizes)) rs) ≡ texts (row_text sizes) rs
+  held_texts : (ts : List NetToken) → every (held_token z) ts ≡ true → texts net_token_text (map (token_of z) ts) ≡ texts (held_text z) ts
   unfolding texts
-  rows_text [] h = refl
-  rows_text (r ∷ rs) h = let p = and_true (right_row (sizes_at places sizes) r) _ h in rw (row_text_lem r p.0, rows_text rs p.1)
+  held_texts [] h = refl
+  held_texts (t ∷ ts) h = let p = and_true (held_token z t) _ h in rw (held_text_lem t p.0, held_texts ts p.1)
 
-  module _ (k : Marking) (h : held_marking room_limit (sizes_at places sizes) k ≡ true) where
-    pub held-few : k.len ≤ 256
-    unfolding held_rows
-    held-few = leb-true k.len 256 (and_true (leb k.len 256) _ h).0
-
-    held_right : every (right_row (sizes_at places sizes)) (rows_in k.len k.rows) ≡ true
-    unfolding held_rows
-    held_right =
-        let a = and_true (leb k.len 256) _ h in
-        let b = and_true (ascending (rows_in k.len k.rows)) _ a.1 in
-        (and_true (every (λ v. eqb v 0) (drop (k.len * 33) k.rows)) _ b.1).1
-
-    -- each row has a place
-    pub held-placed : (i : ℕ) → i < k.len → 1 ≤ get_or k.rows (i * 33) 0
-    held-placed i p =
-        let rs = rows_in k.len k.rows in
-        let r = right_front (get_or rs i []) (every-at (right_row (sizes_at places sizes)) rs i [] held_right (rw (length-rows k.len k.rows) p)) in
-        rw (row_at k.len k.rows i p, row_front k.rows (i * 33)) at r
-
+  module _ (k : Marking) (long : length k.tokens ≡ 256) (h : held_marking room_limit z k ≡ true) where
     module _ (key : Text) where
-      pub held_text : block_text key (tokens_of (sizes_at places sizes) k) ≡ number_text key k.len ++ texts (row_text sizes) (rows_in k.len k.rows)
+      pub block_held : block_text key (tokens_of z k) ≡ number_text key k.len ++ texts (held_text z) (tokens_in k)
       unfolding block_text tokens_of
-      held_text =
-          let rs = rows_in k.len k.rows in
-          rw (rows_text rs held_right, length-map rs (token_of (sizes_at places sizes)), length-rows k.len k.rows)
+      block_held =
+          let t = held_tested z k long h in
+          rw (held_texts (tokens_in k) t.right, length-map (tokens_in k) (token_of z), length-held k t.kept)
 
       -- its bytes, as the code counts them
-      pub text_length : length (block_text key (tokens_of (sizes_at places sizes) k))
-          ≡ length key + length (decimal k.len) + 1 + length (texts (row_text sizes) (rows_in k.len k.rows))
-      text_length = rw (held_text, length-append, number_line_length key k.len)
+      pub text_length : length (block_text key (tokens_of z k)) ≡ length key + length (decimal k.len) + 1 + length (texts (held_text z) (tokens_in k))
+      text_length = rw (block_held, length-append, number_line_length key k.len)
 
       -- and laid in two parts
       pub text_laid : (out : List ℕ) (at : ℕ) {next : ℕ} {m l : List ℕ} → Laid (number_text key k.len) out at next m
-          → l ≡ sets m next (texts (row_text sizes) (rows_in k.len k.rows))
-          → l ≡ sets out at (block_text key (tokens_of (sizes_at places sizes) k))
-      text_laid out at p e = e ∙ rw (p.0, p.1, held_text, sets_append)
+          → l ≡ sets m next (texts (held_text z) (tokens_in k))
+          → l ≡ sets out at (block_text key (tokens_of z k))
+      text_laid out at p e = e ∙ rw (p.0, p.1, block_held, sets_append)
 
 -- ---- it reads back
 
@@ -140,7 +118,7 @@ module _ (z : Sizes) (roomy : Roomy z) (k : Marking) (sz : SizedMarking k) (h : 
   held_again = let p = held-tokens z roomy k sz h in rw p.0.ordered (sym p.1)
 
   -- the written text of a held marking is read and held as that marking again
-  pub held_reads_back : block_of (read_block (bytes "start=") (limits 256 65535) z (marking_text (tokens_of z k)) 0)
-      ≡ record { ended = Past (length (marking_text (tokens_of z k))); marking = k }
-  unfolding block_of ended_of kept_or
+  pub held_reads_back : kept hold_block (read_block (bytes "start=") (limits 256 65535) z (marking_text (tokens_of z k)) 0)
+      ≡ got k (length (marking_text (tokens_of z k)))
+  unfolding kept
   held_reads_back = rw (written_reads_back z (tokens_of z k) (held-tokens z roomy k sz h).0, held_again)

@@ -1,4 +1,4 @@
-pub mod Rows
+pub mod Tokens
 pub mod Held
 pub mod Reading
 pub mod Printed

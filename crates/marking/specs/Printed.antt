@@ -1,8 +1,9 @@
 -- The text of net-tokens, and of a marking.
-use Rattle.std.specs.Prelude.{ℕ, ◌-◌, List, ◌++◌, length, take, drop, get_or}
+use Rattle.std.specs.Prelude.{◌++◌, length, take}
 use Rattle.text.specs.Bytes.{Text, bytes}
 use Rattle.text.specs.Printed.{number_text, token_text, texts}
-use Rattle.marking.specs.Rows.{Row}
+use Rattle.marking.specs.declared.NetToken.{NetToken}
+use Rattle.marking.specs.Held.{Sizes}
 use Rattle.eos.specs.Model as eos
 use Rattle.marking.specs.Reading.{token_line}
 
@@ -17,6 +18,6 @@ block_text key μ = number_text key (length μ) ++ texts net_token_text μ
 unfoldable pub marking_text : eos.Marking → Text
 marking_text μ = block_text (bytes "start=") μ
 
--- the line of a row's net-token: sizes says for each place how many counts
-unfoldable pub row_text : List ℕ → Row → Text
-row_text sizes r = token_text (bytes "token=") (record { place = get_or r 0 0; counts = take (get_or sizes (get_or r 0 0 - 1) 0) (drop 1 r) })
+-- the line of a held net-token
+unfoldable pub held_text : Sizes → NetToken → Text
+held_text z t = token_text (bytes "token=") (record { place = t.place; counts = take (z.size t.place) t.counts })

@@ -1,31 +1,44 @@
 // The held marking: net-tokens in canonical order, how they are read, held, tested and written. Definitions and laws.
 #![tactic(auto)]
 
-ghost use Rattle.std.specs.Prelude.{◌≡◌};
-ghost use Rattle.marking.specs.Held.{no_marking};
+ghost use Rattle.std.specs.Prelude.{◌≡◌, ◌≤◌, length};
+ghost use Rattle.model.specs.Limits.{room_limit};
+ghost use Rattle.marking.specs.Tokens.{no_token, tokens_in};
+ghost use Rattle.marking.specs.Held.{no_marking, as_sizes};
 
 use model::Model;
-use text::Ended;
 
-// One net-token: its place's number, from 1, and its counts. Unused room is 0.
-#[derive(Clone, Copy)]
+// A net-token: its place's number, from 1, and its counts; unused room is 0. The derived order, by place and then by counts from the first
+// on, is the canonical order of a marking.
+#[repr(C)]
+#[derive(Clone, Copy, PartialEq, Eq, PartialOrd, Ord)]
 pub struct NetToken {
     pub place: u16,
     pub counts: [u16; 32],
 }
 
-// Net-tokens in canonical order, as many as there is room for. A net-token is a row of 33 numbers: its place's number, from 1, and its counts. Unused room
-// is 0.
+impl NetToken {
+    // Unused room.
+    pub fn empty() -> NetToken
+        ensures { result ≡ no_token }
+    {
+        NetToken {
+            place: 0,
+            counts: [0; 32],
+        }
+    }
+}
+
+// Net-tokens in canonical order, as many as there is room for; unused room is empty. Their number stands beside the array, as C holds them.
 #[repr(C)]
 #[derive(Clone, Copy)]
 pub struct Marking {
     pub len: usize,
-    pub rows: [u16; Marking::ROWS],
+    pub tokens: [NetToken; Marking::ROOM],
 }
 
 impl Marking {
-    // The numbers of its rows, each of 33.
-    pub const ROWS: usize = Model::ROOM as usize * 33;
+    pub const ROOM: usize = Model::ROOM as usize;
 
     // No net-token.
     pub fn empty() -> Marking
@@ -33,14 +46,33 @@ impl Marking {
     {
         Marking {
             len: 0,
-            rows: [0u16; Marking::ROWS],
+            tokens: [NetToken::empty(); Marking::ROOM],
         }
+    }
+
+    // The net-tokens that it holds.
+    pub fn held(&self) -> &[NetToken]
+        requires { self.now.len ≤ room_limit }
+        ensures tokens { result.now ≡ tokens_in self.now }
+        ensures room { length self.now.tokens ≡ room_limit }
+    {
+        &self.tokens[..self.len]
     }
 }
 
-// How the reading of net-tokens ended, and the net-tokens; a refusal holds none.
+// How many places there are, and how many counts the net-tokens of each have.
 #[derive(Clone, Copy)]
-pub struct Block {
-    pub ended: Ended,
-    pub marking: Marking,
+pub struct PlaceSizes {
+    pub places: u16,
+    pub sizes: [u8; 32],
+}
+
+impl PlaceSizes {
+    // How many counts the net-tokens of a place have, by its number from 1; 0 past the last.
+    pub fn size_at(&self, place: u16) -> usize
+        ensures { result ≡ (as_sizes self.now).size place }
+    {
+        let at = place.saturating_sub(1) as usize;
+        self.sizes.get(at).map_or(0, |size| *size as usize)
+    }
 }

@@ -1,92 +1,207 @@
--- Moving numbers at a row's place is inserting the row there, or taking it out.
-use Prim.Native.Nat.{ℕ, zero, suc, ◌+◌, ◌-◌, ◌*◌, ◌≤◌, ◌<◌}
+-- Moving the net-tokens from a place on is putting one in there, or taking it out.
+use Prim.Native.Nat.{ℕ, zero, suc, ◌+◌, ◌-◌, ◌≤◌, ◌<◌}
 use mathlib.Core.Path.{◌≡◌, refl, sym, ap, ◌∙◌}
 use mathlib.Core.Bool.{Bool, true, false}
-use mathlib.Core.List.{List, [], ◌∷◌, ◌++◌}
+use mathlib.Core.List.{List, [], ◌∷◌, ◌++◌, append_assoc}
 use native.Mathlib.Omega.{arith}
+use native.Mathlib.Numerals.{add-one}
 use borrow.Author.Tests.{le-leb, lt-leb}
-use lib.ListN.{length, get_or, take, drop, replicate, take-append-drop, length-drop}
-use lib.Seq.{paste, split_at, length-take-le}
-use Rattle.eos.specs.Vector.{eq_v, lex_v}
+use lib.ListN.{length, get_or, set, take, drop, replicate, take-append-drop, length-drop, length-append}
+use lib.Seq.{paste, length-paste, get_or-take, take-paste, drop-paste, take_at, drop_at, take_all, take-take, take-append-le, drop-drop, split_at, length-take-le, set_split}
+use Rattle.std.proofs.lemmas.List.{get_or_default}
 use Rattle.eos.specs.Multiset.{count, without, insert}
 use Rattle.eos.proofs.Basics.{true_is, false_is}
-use Rattle.eos.proofs.VectorLaws.{eq_v_eq}
-use Rattle.marking.specs.Rows.{Row, rows_in, laid, place_for, Kept, Out, take_out}
-use Rattle.marking.proofs.PlaceFor.{insert-at, without_at, count_from}
-use Rattle.marking.proofs.RowLaws.{Wide, wide_take, wide_drop, kept_wide, length-rows, opened_laid, closed-laid}
-use Rattle.marking.proofs.RowWalk.{place-few, row-test, count_more, count_stop, count_out}
+use Rattle.marking.specs.Tokens.{like, before, no_token, laid, holding, tokens_in, place_for, Kept, put_in, Out, take_out}
+use Rattle.marking.specs.declared.NetToken.{NetToken}
+use Rattle.marking.specs.declared.Marking.{Marking}
+use Rattle.marking.proofs.TokenOrder.{held_alike}
+use Rattle.marking.proofs.PlaceFor.{place-within, insert-at, without_at, count_from, count_on, count_none, count_done}
+use Rattle.marking.proofs.KeptLaws.{laid-long, length-held, length-insert, length_without}
 
-module _ (n : ℕ) (l : List ℕ) (row : Row) where
-  pub out_none : count eq_v row (rows_in n l) ≡ 0 → take_out row n l ≡ record { found = false; rows = l }
-  unfolding take_out
-  out_none e = rw (lt-leb 1 (count eq_v row (rows_in n l)) (omega arith), take_out)
+-- ---- lists
 
-  pub out_one : 1 ≤ count eq_v row (rows_in n l) → take_out row n l ≡ record { found = true; rows = laid (without eq_v row (rows_in n l)) }
+-- one put in behind x: y moves up, over z
+opened : (x y z w one : List NetToken) (at m : ℕ) → length x ≡ at → length y ≡ m → length z ≡ 1 → length one ≡ 1
+    → paste (paste (x ++ (y ++ (z ++ w))) (at + 1) (drop at (x ++ (y ++ (z ++ w)))) m) at one 1 ≡ x ++ (one ++ (y ++ w))
+opened x y z w one at m p q r s =
+    let l : List NetToken = x ++ (y ++ (z ++ w)) in
+    let n : length l ≡ at + m + 1 + length w = omega (arith, length-append x (y ++ (z ++ w)), length-append y (z ++ w), length-append z w) in
+    let f : List NetToken = take (at + 1) l in
+    let t : List NetToken = take m (drop at l) in
+    let d : List NetToken = drop (at + 1 + m) l in
+    let nf : length f ≡ at + 1 = length-take-le (at + 1) l (omega arith) in
+    let a : take at ((f ++ t) ++ d) ≡ x =
+    ap (λ (k : List NetToken). take at k) (append_assoc f t d) ∙ take-append-le at f (t ++ d) (omega arith) ∙ take-take at (at + 1) l (omega arith)
+    ∙ take_at x (y ++ (z ++ w)) at p in
+    let b : drop (at + 1) ((f ++ t) ++ d) ≡ t ++ d = ap (λ (k : List NetToken). drop (at + 1) k) (append_assoc f t d) ∙ drop_at f (t ++ d) (at + 1) nf in
+    let c : t ≡ y = ap (λ (k : List NetToken). take m k) (drop_at x (y ++ (z ++ w)) at p) ∙ take_at y (z ++ w) m q in
+    let g : l ≡ (x ++ (y ++ z)) ++ w = ap (λ (k : List NetToken). x ++ k) (sym (append_assoc y z w)) ∙ sym (append_assoc x (y ++ z) w) in
+    let e : d ≡ w = ap (λ (k : List NetToken). drop (at + 1 + m) k) g
+    ∙ drop_at (x ++ (y ++ z)) w (at + 1 + m) (omega (arith, length-append x (y ++ z), length-append y z)) in
+    ap (λ (k : List NetToken). (k ++ take 1 one) ++ drop (at + 1) ((f ++ t) ++ d)) a
+    ∙ ap (λ (k : List NetToken). (x ++ k) ++ drop (at + 1) ((f ++ t) ++ d)) (take_all 1 one (omega arith))
+    ∙ ap (λ (k : List NetToken). (x ++ one) ++ k) b
+    ∙ ap (λ (k : List NetToken). (x ++ one) ++ (k ++ d)) c
+    ∙ ap (λ (k : List NetToken). (x ++ one) ++ (y ++ k)) e
+    ∙ append_assoc x one (y ++ w)
+
+-- z behind x taken out: y moves down, and one comes behind it
+closed : (x z y w one : List NetToken) (at m : ℕ) → length x ≡ at → length z ≡ 1 → length y ≡ m → length one ≡ 1
+    → paste (paste (x ++ (z ++ (y ++ w))) at (drop (at + 1) (x ++ (z ++ (y ++ w)))) m) (at + m) one 1 ≡ x ++ (y ++ (one ++ w))
+closed x z y w one at m p r q s =
+    let l : List NetToken = x ++ (z ++ (y ++ w)) in
+    let n : length l ≡ at + 1 + m + length w = omega (arith, length-append x (z ++ (y ++ w)), length-append z (y ++ w), length-append y w) in
+    let b : drop (at + 1) l ≡ y ++ w =
+    ap (λ (k : List NetToken). drop (at + 1) k) (sym (append_assoc x z (y ++ w))) ∙ drop_at (x ++ z) (y ++ w) (at + 1) (omega (arith, length-append x z)) in
+    let o : List NetToken = paste l at (y ++ w) m in
+    let ny : m ≤ length (y ++ w) = omega (arith, length-append y w) in
+    let f : take (at + m) o ≡ take at l ++ take m (y ++ w) = take-paste l at (y ++ w) m (omega arith) ny in
+    let a : take at l ≡ x = take_at x (z ++ (y ++ w)) at p in
+    let t : take m (y ++ w) ≡ y = take_at y w m q in
+    let d : drop (at + m + 1) o ≡ w =
+    sym (drop-drop 1 (at + m) o) ∙ ap (λ (k : List NetToken). drop 1 k) (drop-paste l at (y ++ w) m (omega arith) ny) ∙ drop-drop 1 (at + m) l
+    ∙ ap (λ (k : ℕ). drop k l) (let u : at + m + 1 ≡ at + 1 + m = omega arith in u)
+    ∙ sym (drop-drop m (at + 1) l) ∙ ap (λ (k : List NetToken). drop m k) b ∙ drop_at y w m q in
+    ap (λ (k : List NetToken). paste (paste l at k m) (at + m) one 1) b
+    ∙ ap (λ (k : List NetToken). (k ++ take 1 one) ++ drop (at + m + 1) o) f
+    ∙ ap (λ (k : List NetToken). ((k ++ take m (y ++ w)) ++ take 1 one) ++ drop (at + m + 1) o) a
+    ∙ ap (λ (k : List NetToken). ((x ++ k) ++ take 1 one) ++ drop (at + m + 1) o) t
+    ∙ ap (λ (k : List NetToken). ((x ++ y) ++ k) ++ drop (at + m + 1) o) (take_all 1 one (omega arith))
+    ∙ ap (λ (k : List NetToken). ((x ++ y) ++ one) ++ k) d
+    ∙ append_assoc (x ++ y) one w ∙ append_assoc x y (one ++ w)
+
+-- one stored is one pasted
+stored : (l : List NetToken) (i : ℕ) (t : NetToken) → i < length l → set l i t ≡ paste l i (t ∷ []) 1
+stored l i t h = set_split l i t h ∙ sym (append_assoc (take i l) (t ∷ []) (drop (suc i) l)) ∙ rw (add-one i)
+
+module _ (a b : List NetToken) (t : NetToken) (h : length a + length b < 256) (p m : ℕ) (e : p ≡ length a) (f : m ≡ length b) where
+  rest : List NetToken
+  rest = replicate (256 - (length a + suc (length b))) no_token
+
+  without-one : laid (a ++ b) ≡ a ++ (b ++ (no_token ∷ rest))
+  unfolding rest
+  without-one =
+      let k : 256 - length (a ++ b) ≡ suc (256 - (length a + suc (length b))) = omega (arith, length-append a b) in
+      rw k (append_assoc a b _)
+
+  with_one : laid (a ++ (t ∷ b)) ≡ a ++ (t ∷ (b ++ rest))
+  unfolding rest
+  with_one = rw (length-append a (t ∷ b)) (append_assoc a (t ∷ b) _)
+
+  -- one put in between a and b
+  opened_laid : set (paste (laid (a ++ b)) (p + 1) (drop p (laid (a ++ b))) m) p t ≡ laid (a ++ (t ∷ b))
+  opened_laid =
+      let l : List NetToken = laid (a ++ b) in
+      let n : length l ≡ 256 = laid-long (a ++ b) (omega (arith, length-append a b)) in
+      let c : length (paste l (p + 1) (drop p l) m) ≡ 256 = length-paste l (p + 1) (drop p l) m (omega arith) (omega (arith, length-drop p l)) ∙ n in
+      stored (paste l (p + 1) (drop p l) m) p t (omega arith)
+      ∙ ap (λ (z : List NetToken). paste (paste z (p + 1) (drop p z) m) p (t ∷ []) 1) without-one
+      ∙ opened a b (no_token ∷ []) rest (t ∷ []) p m (sym e) (sym f) refl refl
+      ∙ sym with_one
+
+  -- the one between a and b taken out
+  closed-laid : set (paste (laid (a ++ (t ∷ b))) p (drop (p + 1) (laid (a ++ (t ∷ b)))) m) (p + m) no_token ≡ laid (a ++ b)
+  closed-laid =
+      let l : List NetToken = laid (a ++ (t ∷ b)) in
+      let n : length l ≡ 256 = laid-long (a ++ (t ∷ b)) (omega (arith, length-append a (t ∷ b))) in
+      let c : length (paste l p (drop (p + 1) l) m) ≡ 256 = length-paste l p (drop (p + 1) l) m (omega arith) (omega (arith, length-drop (p + 1) l)) ∙ n in
+      stored (paste l p (drop (p + 1) l) m) (p + m) no_token (omega arith)
+      ∙ ap (λ (z : List NetToken). paste (paste z p (drop (p + 1) z) m) (p + m) (no_token ∷ []) 1) with_one
+      ∙ closed a (t ∷ []) b rest (no_token ∷ []) p m (sym e) refl (sym f) refl
+      ∙ sym without-one
+
+-- ---- what taking out answers
+
+module _ (t : NetToken) (k : Marking) where
+  pub out_none : count like t (tokens_in k) ≡ 0 → take_out t k ≡ record { found = false; marking = k }
   unfolding take_out
-  out_one h = rw (le-leb 1 (count eq_v row (rows_in n l)) h, take_out)
+  out_none e = rw (lt-leb 1 (count like t (tokens_in k)) (omega arith), take_out)
+
+  pub out_one : 1 ≤ count like t (tokens_in k) → take_out t k ≡ record { found = true; marking = holding (without like t (tokens_in k)) }
+  unfolding take_out
+  out_one h = rw (le-leb 1 (count like t (tokens_in k)) h, take_out)
 
   -- what the answer of taking out tells
-  module _ {found : Bool} {last : List ℕ} (e : record { found = found; rows = last } ≡ take_out row n l) where
-    pub out_found : found ≡ true → (1 ≤ count eq_v row (rows_in n l)) × (last ≡ laid (without eq_v row (rows_in n l)))
-    out_found f = go (count eq_v row (rows_in n l)) refl
+  module _ {found : Bool} {last : Marking} (e : record { found = found; marking = last } ≡ take_out t k) where
+    pub out_found : found ≡ true → (1 ≤ count like t (tokens_in k)) × (last ≡ holding (without like t (tokens_in k)))
+    out_found f = go (count like t (tokens_in k)) refl
       where
-        go : (m : ℕ) → count eq_v row (rows_in n l) ≡ m → (1 ≤ count eq_v row (rows_in n l)) × (last ≡ laid (without eq_v row (rows_in n l)))
+        go : (m : ℕ) → count like t (tokens_in k) ≡ m → (1 ≤ count like t (tokens_in k)) × (last ≡ holding (without like t (tokens_in k)))
         go zero c = absurd (false_is (sym f ∙ ap (λ (o : Out). o.found) (e ∙ out_none c)) tt)
-        go (suc m) c = (omega arith, ap (λ (o : Out). o.rows) (e ∙ out_one (omega arith)))
+        go (suc m) c = (omega arith, ap (λ (o : Out). o.marking) (e ∙ out_one (omega arith)))
 
-    pub out_missing : found ≡ false → (count eq_v row (rows_in n l) ≡ 0) × (last ≡ l)
-    out_missing f = go (count eq_v row (rows_in n l)) refl
+    pub out_missing : found ≡ false → (count like t (tokens_in k) ≡ 0) × (last ≡ k)
+    out_missing f = go (count like t (tokens_in k)) refl
       where
-        go : (m : ℕ) → count eq_v row (rows_in n l) ≡ m → (count eq_v row (rows_in n l) ≡ 0) × (last ≡ l)
-        go zero c = (c, ap (λ (o : Out). o.rows) (e ∙ out_none c))
+        go : (m : ℕ) → count like t (tokens_in k) ≡ m → (count like t (tokens_in k) ≡ 0) × (last ≡ k)
+        go zero c = (c, ap (λ (o : Out). o.marking) (e ∙ out_none c))
         go (suc m) c = absurd (false_is (sym (sym f ∙ ap (λ (o : Out). o.found) (e ∙ out_one (omega arith)))) tt)
 
-module _ (n : ℕ) (l : List ℕ) (row : Row) (k : Kept n l) (p : ℕ) (e : p ≡ place_for row (rows_in n l)) where
-  wide : Wide (rows_in n l)
-  wide = kept_wide n l k
+-- ---- a kept marking changed at the place of a net-token
 
-  pub insert-laid : (last : List ℕ) → n < 256 → length row ≡ 33
-      → last ≡ paste (paste l (p * 33 + 33) (drop (p * 33) l) (n * 33 - p * 33)) (p * 33) row 33 → last ≡ laid (insert lex_v row (rows_in n l))
-  insert-laid last h r o =
-      let rs : List Row = rows_in n l in
-      let few : p ≤ n = omega (arith, place-few row n l) in
-      let a : List Row = take p rs in
-      let b : List Row = drop p rs in
-      let na : length a ≡ p = length-take-le p rs (omega (arith, length-rows n l)) in
-      let nb : length b ≡ n - p = omega (arith, length-drop p rs, length-rows n l) in
-      let cut : l ≡ laid (a ++ b) = k.is ∙ ap laid (sym (take-append-drop p rs)) in
-      let put : insert lex_v row rs ≡ a ++ (row ∷ b) = rw e (insert-at row rs) in
-      o ∙ ap (λ (z : List ℕ). paste (paste z (p * 33 + 33) (drop (p * 33) z) (n * 33 - p * 33)) (p * 33) row 33) cut
-      ∙ opened_laid a b row (wide_take rs p wide) (wide_drop rs p wide) r (omega arith) (p * 33) (n * 33 - p * 33) (omega arith) (omega arith)
-      ∙ ap laid (sym put)
+module _ (t : NetToken) (k : Marking) (kept : Kept k) (p : ℕ) (e : p ≡ place_for t (tokens_in k)) where
+  n-is : length (tokens_in k) ≡ k.len
+  n-is = length-held k kept
 
-  pub out_end : p ≡ n → record { found = false; rows = l } ≡ take_out row n l
-  out_end h = sym (out_none n l row (count_from row (rows_in n l) ∙ rw (← e) (count_out row n l p (omega arith))))
+  pub put-held : (after : List NetToken) → k.len < 256 → after ≡ paste k.tokens (p + 1) (drop p k.tokens) (k.len - p)
+      → record { len = k.len + 1; tokens = set after p t } ≡ put_in t k
+  unfolding put_in
+  put-held after h o =
+      let ts : List NetToken = tokens_in k in
+      let few : p ≤ k.len = omega (arith, place-within t ts, n-is) in
+      let a : List NetToken = take p ts in
+      let b : List NetToken = drop p ts in
+      let na : length a ≡ p = length-take-le p ts (omega (arith, n-is)) in
+      let nb : length b ≡ k.len - p = omega (arith, length-drop p ts, n-is) in
+      let cut : k.tokens ≡ laid (a ++ b) = kept.is ∙ ap laid (sym (take-append-drop p ts)) in
+      let put : insert before t ts ≡ a ++ (t ∷ b) = rw e (insert-at t ts) in
+      let tokens : set after p t ≡ laid (insert before t ts) =
+      ap (λ (z : List NetToken). set z p t) o
+      ∙ ap (λ (z : List NetToken). set (paste z (p + 1) (drop p z) (k.len - p)) p t) cut
+      ∙ opened_laid a b t (omega arith) p (k.len - p) (sym na) (sym nb)
+      ∙ ap laid (sym put) in
+      let len : k.len + 1 ≡ length (insert before t ts) = omega (arith, length-insert t ts, n-is) in
+      λ i. record { len = len i; tokens = tokens i }
 
-  module _ {t : Bool} (h : p < n) (q : t ≡ eq_v row (take 33 (drop (p * 33) l))) where
-    pub out_other : t ≡ false → record { found = false; rows = l } ≡ take_out row n l
-    out_other f = sym (out_none n l row (count_from row (rows_in n l) ∙ rw (← e) (count_stop row n l p k.sorted (omega arith) h q f)))
+  pub within : (p ≡ k.len → ⊥) → p < k.len
+  within h = omega (arith, place-within t (tokens_in k), n-is)
 
-    pub out_laid : (last : List ℕ) → t ≡ true → length row ≡ 33
-        → last ≡ paste (paste l (p * 33) (drop (p * 33 + 33) l) ((n - 1) * 33 - p * 33)) ((n - 1) * 33) (replicate 33 0) 33
-        → record { found = true; rows = last } ≡ take_out row n l
-    out_laid last f r o =
-        let rs : List Row = rows_in n l in
-        let m : ℕ = (n - 1) * 33 - p * 33 in
-        let a : List Row = take p rs in
-        let b : List Row = drop (suc p) rs in
-        let pn : p < length rs = omega (arith, length-rows n l) in
-        let na : length a ≡ p = length-take-le p rs (omega arith) in
-        let nb : length b ≡ n - suc p = omega (arith, length-drop (suc p) rs, length-rows n l) in
-        let like : eq_v row (get_or rs p []) ≡ true = row-test row n l p eq_v h q f in
-        let same : row ≡ get_or rs p [] = eq_v_eq row (get_or rs p []) (true_is like) in
-        let cut : l ≡ laid (a ++ (row ∷ b)) = k.is ∙ ap laid (split_at rs p [] pn) ∙ ap (λ (x : Row). laid (a ++ (x ∷ b))) (sym same) in
-        let gone : without eq_v row rs ≡ a ++ b = rw e (without_at row rs (rw (← e) pn) (rw (← e) like)) in
-        let one : 1 ≤ count eq_v row rs = omega (arith, count_from row rs, ap (λ (i : ℕ). count eq_v row (drop i rs)) e, count_more row n l p h q f) in
-        let last-is : last ≡ laid (without eq_v row rs) =
-        o ∙ ap (λ (z : List ℕ). paste (paste z (p * 33) (drop (p * 33 + 33) z) m) ((n - 1) * 33) (replicate 33 0) 33) cut
-        ∙ ap (λ (i : ℕ). paste (paste (laid (a ++ (row ∷ b))) (p * 33) (drop (p * 33 + 33) (laid (a ++ (row ∷ b)))) m) i (replicate 33 0) 33)
-        (let u : (n - 1) * 33 ≡ p * 33 + m = omega arith in u)
-        ∙ closed-laid a b row (wide_take rs p wide) (wide_drop rs (suc p) wide) r (omega (arith, k.few)) (p * 33) m (omega arith) (omega arith)
+  pub out_end : p ≡ k.len → record { found = false; marking = k } ≡ take_out t k
+  out_end h = sym (out_none t k (count_from t (tokens_in k) ∙ rw (← e) (count_done t (tokens_in k) p (omega (arith, n-is)))))
+
+  -- what stands there, with any net-token for those past the last
+  module _ (h : p < k.len) (d : NetToken) where
+    there : get_or (tokens_in k) p no_token ≡ get_or k.tokens p d
+    there = get_or-take k.len k.tokens p no_token h ∙ get_or_default k.tokens p no_token d (omega (arith, kept.few, kept.long))
+
+    pub out_other : like t (get_or k.tokens p d) ≡ false → record { found = false; marking = k } ≡ take_out t k
+    out_other f =
+        sym (out_none t k (count_from t (tokens_in k) ∙ rw (← e)
+        (count_none t (tokens_in k) p kept.sorted (omega arith) (omega (arith, n-is)) (rw there f))))
+
+    pub out_held : (after : List NetToken) → like t (get_or k.tokens p d) ≡ true → after ≡ paste k.tokens p (drop (p + 1) k.tokens) (k.len - (p + 1))
+        → record { found = true; marking = record { len = k.len - 1; tokens = set after (k.len - 1) no_token } } ≡ take_out t k
+    out_held after f o =
+        let ts : List NetToken = tokens_in k in
+        let m : ℕ = k.len - (p + 1) in
+        let a : List NetToken = take p ts in
+        let b : List NetToken = drop (suc p) ts in
+        let pn : p < length ts = omega (arith, n-is) in
+        let na : length a ≡ p = length-take-le p ts (omega arith) in
+        let nb : length b ≡ m = omega (arith, length-drop (suc p) ts, n-is) in
+        let alike : like t (get_or ts p no_token) ≡ true = rw there f in
+        let same : t ≡ get_or ts p no_token = held_alike.same t (get_or ts p no_token) (true_is alike) in
+        let cut : k.tokens ≡ laid (a ++ (t ∷ b)) =
+        kept.is ∙ ap laid (split_at ts p no_token pn) ∙ ap (λ (x : NetToken). laid (a ++ (x ∷ b))) (sym same) in
+        let gone : without like t ts ≡ a ++ b = rw e (without_at t ts (rw (← e) pn) (rw (← e) alike)) in
+        let one : 1 ≤ count like t ts =
+        omega (arith, count_from t ts, ap (λ (i : ℕ). count like t (drop i ts)) e, count_on t ts p pn alike) in
+        let u : k.len - 1 ≡ p + m = omega arith in
+        let tokens : set after (k.len - 1) no_token ≡ laid (without like t ts) =
+        ap (λ (z : List NetToken). set z (k.len - 1) no_token) o
+        ∙ ap (λ (z : List NetToken). set (paste z p (drop (p + 1) z) m) (k.len - 1) no_token) cut
+        ∙ ap (λ (i : ℕ). set (paste (laid (a ++ (t ∷ b))) p (drop (p + 1) (laid (a ++ (t ∷ b)))) m) i no_token) u
+        ∙ closed-laid a b t (omega (arith, kept.few)) p m (sym na) (sym nb)
         ∙ ap laid (sym gone) in
-        ap (λ (z : List ℕ). record { found = true; rows = z }) last-is ∙ sym (out_one n l row one)
+        let len : k.len - 1 ≡ length (without like t ts) = omega (arith, length_without t ts one, n-is) in
+        ap (λ (z : Marking). record { found = true; marking = z }) (λ i. record { len = len i; tokens = tokens i }) ∙ sym (out_one t k one)

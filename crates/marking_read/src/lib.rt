@@ -1,76 +1,52 @@
-// Net-tokens read from their lines into a marking.
+// Net-tokens read from their lines: one, and a block of them into a marking.
 #![tactic(auto)]
 
-ghost use Rattle.std.specs.Prelude.{◌≡◌, ◌∷◌, ◌≤◌};
+ghost use Rattle.std.specs.Prelude.{◌≡◌, ◌≤◌};
 ghost use Rattle.text.specs.Lines.{many};
+ghost use Rattle.text.specs.Answers.{kept};
+ghost use Rattle.text_reader.specs.Place.{Reads, lent};
 ghost use Rattle.model.specs.Limits.{line_limit, count_limit};
-ghost use Rattle.marking.specs.Held.{sizes_at, Roomy};
+ghost use Rattle.marking.specs.Held.{as_sizes, Roomy, hold_token, no_marking};
 ghost use Rattle.marking.specs.Reading.{limits, read_net_token, read_block};
-ghost use Rattle.marking.specs.Answers.{block_of};
+ghost use Rattle.marking.specs.Answers.{hold_block};
 
-use marking::{Block, Marking, NetToken};
+use marking::{Marking, NetToken, PlaceSizes};
 use marking_edit::insert;
 use model::Model;
-use text::{Ended, Line};
-use text_lines::{ended_of, number_line};
-use text_tokens::token_line;
+use text::{Fault, TokenLine};
+use text_reader::Reader;
 
-// A net-token's row: the number of its place, and its counts.
-pub fn token_row(t: NetToken) -> [u16; 33]
-    ensures { result ≡ t.place ∷ t.counts }
+// The line of a net-token.
+pub fn net_token(r: &mut Reader, z: &PlaceSizes) -> Result<NetToken, Fault>
+    ensures { Reads (kept hold_token (read_net_token (limits line_limit count_limit) (as_sizes z.now) r.old.src.now r.old.at)) r.old r.new result }
 {
-    let mut row = [0u16; 33];
-    row[0] = t.place;
-    let mut i = 0;
-    while i < 32 {
-        row[i + 1] = t.counts[i];
-        i += 1;
-    }
-    row
+    let TokenLine { place, counts } = r.token(b"token=", z.places, &z.sizes, Model::COUNT)?;
+    Ok(NetToken { place, counts })
 }
 
-// The lines of n net-tokens; `sizes` says for each place how many counts its net-tokens have.
-fn tokens_at(s: &[u8], from: usize, places: u16, sizes: [u8; 32], n: usize) -> Block
-    requires { (n ≤ line_limit) × Roomy (sizes_at places sizes) }
-    ensures { result ≡ block_of (many (read_net_token (limits line_limit count_limit) (sizes_at places sizes) s.now) n from) }
+// The lines of n net-tokens, put into a marking that has none.
+fn net_tokens(r: &mut Reader, z: &PlaceSizes, n: usize, marking: &mut Marking) -> Result<(), Fault>
+    requires { (n ≤ line_limit) × Roomy (as_sizes z.now) × (marking.old ≡ no_marking) }
+    ensures { Reads (kept hold_block (many (read_net_token (limits line_limit count_limit) (as_sizes z.now) r.old.src.now) n r.old.at)) r.old r.new (lent marking.new result) }
 {
-    let mut rows = [0u16; Marking::ROWS];
-    let mut at = from;
-    let mut i = 0;
-    while i < n {
-        let t = token_line(s, at, b"token=", places, &sizes, Model::COUNT);
-        let e = t.ended;
-        let Ended::Past { next } = e else {
-            let marking = Marking::empty();
-            return Block { ended: e, marking };
-        };
-        let counts = t.counts;
-        let token = NetToken {
-            place: t.place,
-            counts,
-        };
-        insert(&mut rows, i, token_row(token));
-        at = next;
-        i += 1;
+    for _ in 0..n {
+        let token = net_token(r, z)?;
+        insert(marking, &token);
     }
-    Block {
-        ended: Ended::Past { next: at },
-        marking: Marking { len: n, rows },
-    }
+    Ok(())
 }
 
-// The line of key and a number up to `most`, and that many lines of net-tokens, in any order.
-pub fn block_at(s: &[u8], at: usize, key: &[u8], most: u16, places: u16, sizes: [u8; 32]) -> Block
-    requires { (most ≤ line_limit) × Roomy (sizes_at places sizes) }
-    ensures { result ≡ block_of (read_block key.now (limits most count_limit) (sizes_at places sizes) s.now at) }
+// The line of key and a number up to `most`, and that many lines of net-tokens, in any order, put into a marking that has none.
+pub fn block(
+    r: &mut Reader,
+    key: &[u8],
+    most: u16,
+    z: &PlaceSizes,
+    marking: &mut Marking,
+) -> Result<(), Fault>
+    requires { (most ≤ line_limit) × Roomy (as_sizes z.now) × (marking.old ≡ no_marking) }
+    ensures { Reads (kept hold_block (read_block key.now (limits most count_limit) (as_sizes z.now) r.old.src.now r.old.at)) r.old r.new (lent marking.new result) }
 {
-    let line = number_line(s, at, key, 0, most);
-    let Line::Value { value, next } = line else {
-        let marking = Marking::empty();
-        return Block {
-            ended: ended_of(line),
-            marking,
-        };
-    };
-    tokens_at(s, next, places, sizes, value as usize)
+    let n = r.number(key, 0, most)? as usize;
+    net_tokens(r, z, n, marking)
 }

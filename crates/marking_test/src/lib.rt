@@ -1,113 +1,91 @@
 // How many counts the net-tokens of a held model have on each place, and the test of a held marking.
 #![tactic(auto)]
 
-ghost use Rattle.std.specs.Prelude.{◌≡◌, ◌+◌, ◌*◌, ◌≤◌, length, take, drop, get_or, true};
+ghost use Rattle.std.specs.Prelude.{◌≡◌, ℕ, ◌≤◌, ◌<◌, get_or, true};
 ghost use Rattle.text.specs.Lines.{every};
 ghost use Rattle.model.specs.Limits.{room_limit};
-ghost use Rattle.marking.specs.Rows.{rows_in};
-ghost use Rattle.marking.specs.Held.{sizes_at, right_row, held_rows, held_marking};
-ghost use Rattle.model.specs.Held.{listed};
+ghost use Rattle.model.specs.Held.{listed, no_net};
 ghost use Rattle.model.specs.Test.{held_model};
-ghost use Rattle.marking.specs.Sizes.{size_of_type, sizes_in, SmallNets};
+ghost use Rattle.marking.specs.Tokens.{like, no_token, ascending};
+ghost use Rattle.marking.specs.Held.{as_sizes, held_token, held_marking};
+ghost use Rattle.marking.specs.Sizes.{size_of_type, sizes_in, place_sizes};
 
-use marking::Marking;
-use marking_rows::{empty_from, in_order};
+use marking::{Marking, NetToken, PlaceSizes};
 use model::{Model, ObjectNet};
 
-// The number at i, 0 past the end.
-pub fn size_at(sizes: [u8; 32], i: usize) -> u8
-    ensures { result ≡ get_or sizes i 0 }
+// Whether a net-token is right: its place is one of the model's, and what follows the counts of the place is 0.
+fn token_held(t: &NetToken, z: &PlaceSizes) -> bool
+    ensures { result ≡ held_token (as_sizes z.now) t.now }
 {
-    if i < 32 {
-        return sizes[i];
-    }
-    0
+    let size = z.size_at(t.place);
+    1 <= t.place && t.place <= z.places && t.counts.iter().skip(size).all(|count| *count == 0)
 }
 
-// Whether the row at `at` is right: its place is one of the model's, and the room behind its counts is 0.
-fn right_row(rows: &[u16], at: usize, places: u16, sizes: [u8; 32]) -> bool
-    requires { at + 33 ≤ length rows.now }
-    ensures { result ≡ right_row (sizes_at places sizes) (take 33 (drop at rows.now)) }
+// Whether each of the net-tokens is right.
+fn all_held(tokens: &[NetToken], z: &PlaceSizes) -> bool
+    ensures { result ≡ every (held_token (as_sizes z.now)) tokens.now }
 {
-    let p = rows[at];
-    if p == 0 {
-        return false;
-    }
-    if places < p {
-        return false;
-    }
-    let end = at + 33;
-    let size = size_at(sizes, p as usize - 1);
-    empty_from(&rows[at..end], size as usize + 1)
+    tokens.iter().all(|t| token_held(t, z))
 }
 
-// Whether each of the first n rows is right.
-fn right_rows(rows: &[u16], n: usize, places: u16, sizes: [u8; 32]) -> bool
-    requires { n * 33 ≤ length rows.now }
-    ensures { result ≡ every (right_row (sizes_at places sizes)) (rows_in n rows.now) }
+// Whether net-tokens are in ascending order.
+fn in_order(tokens: &[NetToken]) -> bool
+    ensures { result ≡ ascending tokens.now }
 {
-    let mut i = 0;
-    while i < n {
-        if !right_row(rows, i * 33, places, sizes) {
-            return false;
-        }
-        i += 1;
-    }
-    true
+    tokens.is_sorted()
 }
 
-// Whether n lent rows, in room for so many, are a held marking of a model with so many places and such sizes.
-pub fn rows_held(rows: &[u16], n: usize, room: usize, places: u16, sizes: [u8; 32]) -> bool
-    requires { room * 33 ≤ length rows.now }
-    ensures { result ≡ held_rows room (sizes_at places sizes) n rows.now }
+// Whether room is unused.
+fn all_empty(room: &[NetToken]) -> bool
+    ensures { result ≡ every (like no_token) room.now }
 {
-    if room < n {
-        return false;
-    }
-    if !in_order(rows, n) {
-        return false;
-    }
-    if !empty_from(rows, n * 33) {
-        return false;
-    }
-    right_rows(rows, n, places, sizes)
+    let empty = NetToken::empty();
+    room.iter().all(|t| empty == *t)
 }
 
-// The same of a held marking.
-pub fn is_held(k: Marking, places: u16, sizes: [u8; 32]) -> bool
-    ensures { result ≡ held_marking room_limit (sizes_at places sizes) k }
+// Whether k is held as a marking of a model with such places is: no more net-tokens than there is room for, in canonical order, unused room
+// 0, each right.
+pub fn is_held(k: &Marking, z: &PlaceSizes) -> bool
+    ensures { result ≡ held_marking room_limit (as_sizes z.now) k.now }
 {
-    let rows = k.rows;
-    rows_held(&rows, k.len, Model::ROOM as usize, places, sizes)
+    if Marking::ROOM < k.len {
+        return false;
+    }
+    in_order(k.held()) && all_empty(&k.tokens[k.len..]) && all_held(k.held(), z)
 }
 
 // For each type, from that of black tokens on, how many counts a net-token has.
-fn by_type(objects: [ObjectNet; 8]) -> [u8; 9]
-    requires { SmallNets objects }
-    ensures { result ≡ listed (size_of_type objects) 0 9 }
+fn by_type(objects: &[ObjectNet; 8]) -> [u8; 9]
+    requires { (n : ℕ) → n < 8 → (get_or objects.now n no_net).places ≤ 32 }
+    ensures { result ≡ listed (size_of_type objects.now) 0 9 }
 {
     let mut sizes = [0u8; 9];
-    let mut n = 0;
-    while n < 8 {
+    for n in 0..8 {
         sizes[n + 1] = objects[n].places as u8;
-        n += 1;
     }
     sizes
 }
 
 // For each place, how many counts a net-token has.
-pub fn sizes(m: Model) -> [u8; 32]
-    requires { held_model m ≡ true }
-    ensures { result ≡ sizes_in m }
+fn sizes(m: &Model) -> [u8; 32]
+    requires { held_model m.now ≡ true }
+    ensures { result ≡ sizes_in m.now }
 {
-    let objects = m.objects;
-    let of_type = by_type(objects);
+    let of_type = by_type(&m.objects);
     let mut sizes = [0u8; 32];
-    let mut p = 0;
-    while p < 32 {
-        let d = m.types[p] as usize;
-        sizes[p] = of_type[d];
-        p += 1;
+    for p in 0..32 {
+        sizes[p] = of_type[m.types[p] as usize];
     }
     sizes
+}
+
+// How many places a held model has, and how many counts the net-tokens of each.
+pub fn place_sizes(m: &Model) -> PlaceSizes
+    requires { held_model m.now ≡ true }
+    ensures { result ≡ place_sizes m.now }
+{
+    PlaceSizes {
+        places: m.places as u16,
+        sizes: sizes(m),
+    }
 }

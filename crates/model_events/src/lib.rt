@@ -1,196 +1,105 @@
 // The lines of the events.
 #![tactic(auto)]
 
-ghost use Rattle.std.specs.Prelude.{◌≡◌, ◌≤◌, ◌<◌};
+ghost use Rattle.std.specs.Prelude.{◌≡◌, ◌≤◌, ◌<◌, replicate};
 ghost use Rattle.text.specs.Lines.{many};
 ghost use Rattle.text.specs.Repeat.{many_at};
-ghost use Rattle.model.specs.Held.{no_event};
+ghost use Rattle.text.specs.Answers.{kept, padded};
+ghost use Rattle.text_reader.specs.Place.{Reads, lent};
+ghost use Rattle.model.specs.Limits.{sync_room};
+ghost use Rattle.model.specs.Held.{row, tabled, hold_event, no_event};
+ghost use Rattle.model.specs.Test.{frame_in};
 ghost use Rattle.model_text.specs.Reading.{read_idle, read_move, read_act, read_sync, read_event};
-ghost use Rattle.model_text.specs.Answers.{as_frame, Fitting, acting_of, counts_of, syncs_of, event_lines_of, events_of};
+ghost use Rattle.model_text.specs.Answers.{Fitting, hold_act, with_events};
 
 use model::{Act, Event, Model};
 use model_acts::own_net;
-use model_nets::narrow;
 use model_rules::takes_part;
-use model_tables::bytes::put_bytes;
-use model_text::{Acting, Counts, EventLines, Events, Frame, Syncs};
-use text::{Ended, Line};
-use text_lines::number_line;
-use text_lists::list_line;
-use text_scan::{fault_at, starts};
+use model_tables::put_row;
+use text::{Cause, Fault};
+use text_reader::Reader;
+use text_scan::fault_at;
 
 // The line of an event that idles at a place, which is no place of black tokens.
-fn idle_at(s: &[u8], at: usize, f: Frame) -> Acting
-    requires { Fitting f }
-    ensures { result ≡ acting_of (read_idle (as_frame f) s.now at) }
+fn idle(r: &mut Reader, m: &Model) -> Result<Act, Fault>
+    requires { Fitting m.now }
+    ensures { Reads (kept hold_act (read_idle (frame_in m.now) r.old.src.now r.old.at)) r.old r.new result }
 {
-    let a = number_line(s, at, b"idle=", 1, f.places as u16);
-    match a {
-        Line::Value { value, next } => {
-            let types = f.types;
-            if types[value as usize - 1] == 0 {
-                return Acting::Refused {
-                    fault: fault_at(5, at),
-                };
-            }
-            Acting::Acts {
-                kind: 2,
-                index: value as u8,
-                next,
-            }
-        }
-        Line::Refused { fault } => Acting::Refused { fault },
+    let line = r.at;
+    let place = r.number(b"idle=", 1, m.places as u16)? as usize - 1;
+    if m.types[place] == 0 {
+        return Err(fault_at(Cause::Idling, line));
     }
+    Ok(Act::Idle { place })
 }
 
 // The line of an event that is a move.
-fn move_at(s: &[u8], at: usize, f: Frame) -> Acting
-    requires { Fitting f }
-    ensures { result ≡ acting_of (read_move (as_frame f) s.now at) }
+fn moving(r: &mut Reader, m: &Model) -> Result<Act, Fault>
+    requires { Fitting m.now }
+    ensures { Reads (kept hold_act (read_move (frame_in m.now) r.old.src.now r.old.at)) r.old r.new result }
 {
-    let a = number_line(s, at, b"event=", 1, f.moves as u16);
-    match a {
-        Line::Value { value, next } => Acting::Acts {
-            kind: 1,
-            index: value as u8,
-            next,
-        },
-        Line::Refused { fault } => Acting::Refused { fault },
-    }
+    let index = r.number(b"event=", 1, m.moves as u16)? as usize - 1;
+    Ok(Act::Move { index })
 }
 
 // The first line of an event.
-fn act_at(s: &[u8], at: usize, f: Frame) -> Acting
-    requires { Fitting f }
-    ensures { result ≡ acting_of (read_act (as_frame f) s.now at) }
+fn act(r: &mut Reader, m: &Model) -> Result<Act, Fault>
+    requires { Fitting m.now }
+    ensures { Reads (kept hold_act (read_act (frame_in m.now) r.old.src.now r.old.at)) r.old r.new result }
 {
-    if starts(s, at, b"idle=") {
-        return idle_at(s, at, f);
+    if r.starts(b"idle=") {
+        return idle(r, m);
     }
-    move_at(s, at, f)
+    moving(r, m)
 }
 
-// The line of the counts of net n, where the event idles in net `own`, from 1, or is a move: 5 where that net does not take part, or
+// The line of the counts of net n, where the event idles in net `own`, from 1, or is a move: a fault where that net does not take part, or
 // another does.
-fn sync_at(s: &[u8], at: usize, f: Frame, own: u8, n: usize) -> Counts
-    requires fitting { Fitting f }
-    requires n_lt_nets { n < f.nets }
-    ensures { result ≡ counts_of (read_sync (as_frame f) own s.now n at) }
+fn sync(r: &mut Reader, m: &Model, own: u8, n: usize) -> Result<[u8; 32], Fault>
+    requires fitting { Fitting m.now }
+    requires n_lt_nets { n < m.now.nets }
+    ensures { Reads (kept padded (read_sync (frame_in m.now) own r.old.src.now n r.old.at)) r.old r.new result }
 {
-    let steps = f.steps;
-    let a = list_line(s, at, b"sync=", steps[n] as usize, Model::ARC);
-    let e = a.ended;
-    let Ended::Past { next } = e else {
-        return Counts {
-            ended: e,
-            counts: [0u8; 32],
-        };
-    };
-    let values = a.values;
-    let counts = narrow(values);
+    let line = r.at;
+    let counts = r.list(b"sync=", m.objects[n].transitions, Model::ARC)?;
     if !takes_part(own, n, &counts) {
-        return Counts {
-            ended: Ended::Stopped {
-                fault: fault_at(5, at),
-            },
-            counts: [0u8; 32],
-        };
+        return Err(fault_at(Cause::Idling, line));
     }
-    Counts {
-        ended: Ended::Past { next },
-        counts,
-    }
+    Ok(counts)
 }
 
 // A line of counts for each net.
-fn syncs_at(s: &[u8], from: usize, f: Frame, own: u8) -> Syncs
-    requires { Fitting f }
-    ensures { result ≡ syncs_of (many_at (read_sync (as_frame f) own s.now) 0 f.nets from) }
+fn syncs(r: &mut Reader, m: &Model, own: u8) -> Result<[u8; Event::SYNC], Fault>
+    requires { Fitting m.now }
+    ensures { Reads (kept (tabled row sync_room) (many_at (read_sync (frame_in m.now) own r.old.src.now) 0 m.now.nets r.old.at)) r.old r.new result }
 {
-    let nets = f.nets;
-    let mut sync = [0u8; Event::SYNC];
-    let mut at = from;
-    let mut i = 0;
-    while i < nets {
-        let r = sync_at(s, at, f, own, i);
-        let e = r.ended;
-        let Ended::Past { next } = e else {
-            return Syncs {
-                ended: e,
-                sync: [0u8; Event::SYNC],
-            };
-        };
-        let counts = r.counts;
-        put_bytes(&mut sync, i * 32, counts);
-        at = next;
-        i += 1;
+    let mut table = [0; Event::SYNC];
+    for n in 0..m.nets {
+        let counts = sync(r, m, own, n)?;
+        put_row(&mut table, n * 32, &counts);
     }
-    Syncs {
-        ended: Ended::Past { next: at },
-        sync,
-    }
-}
-
-// No event, and how the reading ended.
-fn no_event(ended: Ended) -> EventLines
-    ensures { result ≡ record { ended = ended; event = no_event } }
-{
-    let event = Event::empty();
-    EventLines { ended, event }
+    Ok(table)
 }
 
 // The lines of an event.
-fn event_at(s: &[u8], at: usize, f: Frame) -> EventLines
-    requires { Fitting f }
-    ensures { result ≡ event_lines_of (read_event (as_frame f) s.now at) }
+fn event(r: &mut Reader, m: &Model) -> Result<Event, Fault>
+    requires { Fitting m.now }
+    ensures { Reads (kept hold_event (read_event (frame_in m.now) r.old.src.now r.old.at)) r.old r.new result }
 {
-    let a = act_at(s, at, f);
-    match a {
-        Acting::Acts { kind, index, next } => {
-            let types = f.types;
-            let own = own_net(&types, Act::of(kind, index));
-            let b = syncs_at(s, next, f, own);
-            let e = b.ended;
-            let Ended::Past { next: last } = e else {
-                return no_event(e);
-            };
-            let sync = b.sync;
-            let event = Event { kind, index, sync };
-            EventLines {
-                ended: Ended::Past { next: last },
-                event,
-            }
-        }
-        Acting::Refused { fault } => no_event(Ended::Stopped { fault }),
-    }
+    let act = act(r, m)?;
+    let sync = syncs(r, m, own_net(&m.types, act))?;
+    Ok(Event::new(act, sync))
 }
 
-// The lines of n events.
-pub fn events_at(s: &[u8], from: usize, f: Frame, n: usize) -> Events
-    requires fitting { Fitting f }
-    requires n_bound { n ≤ 64 }
-    ensures { result ≡ events_of (many (read_event (as_frame f) s.now) n from) }
+// The lines of n events, which are laid into a model that has none.
+pub fn events(r: &mut Reader, n: usize, m: &mut Model) -> Result<(), Fault>
+    requires fitting { Fitting m.old }
+    requires none { (n ≤ 64) × (m.old.events ≡ replicate 64 no_event) }
+    ensures { Reads (kept (with_events m.old) (many (read_event (frame_in m.old) r.old.src.now) n r.old.at)) r.old r.new (lent m.new result) }
 {
-    let none = Event::empty();
-    let mut events = [none; 64];
-    let mut at = from;
-    let mut i = 0;
-    while i < n {
-        let r = event_at(s, at, f);
-        let e = r.ended;
-        let Ended::Past { next } = e else {
-            return Events {
-                ended: e,
-                events: [none; 64],
-            };
-        };
-        let event = r.event;
-        events[i] = event;
-        at = next;
-        i += 1;
+    for i in 0..n {
+        m.events[i] = event(r, m)?;
     }
-    Events {
-        ended: Ended::Past { next: at },
-        events,
-    }
+    m.listed = n;
+    Ok(())
 }

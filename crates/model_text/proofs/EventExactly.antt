@@ -21,6 +21,7 @@ use Rattle.model.specs.Rules.{byte, list_of, Frame, own_net, takes_part, right_a
 use Rattle.model.specs.Acts.{index_of}
 use Rattle.model_text.specs.Reading.{read_idle, read_move, read_act, read_sync, read_event}
 use Rattle.model_text.specs.Printed.{act_text, event_text}
+use Rattle.text.specs.declared.Cause.TheVariants.{Syntax, Idling}
 
 suc_pred : (n : ℕ) → 1 ≤ n → suc (pred n) ≡ n
 suc_pred n h = omega arith
@@ -37,14 +38,14 @@ module _ (f : Frame) (s : Text) where
       (λ a. (in_range 1 f.places (index_of a) ≡ true) × (leb 1 (f.type (pred (index_of a))) ≡ true) × (idle (pred (index_of a)) ≡ a))
   unfolding read_idle
   idle_makes =
-      last_makes (number_exactly (bytes "idle=") (in_range 1 f.places) s) (λ p. leb 1 (f.type (pred p))) 5 (λ p. idle (pred p)) index_of
+      last_makes (number_exactly (bytes "idle=") (in_range 1 f.places) s) (λ p. leb 1 (f.type (pred p))) Idling (λ p. idle (pred p)) index_of
       (λ p h. suc_pred p (within-is 1 f.places p h).0)
 
   move_makes : Makes s (read_move f s) (λ a. number_text (bytes "event=") (index_of a))
       (λ a. (in_range 1 f.moves (index_of a) ≡ true) × (true ≡ true) × (move (pred (index_of a)) ≡ a))
   unfolding read_move need
   move_makes =
-      last_makes (number_exactly (bytes "event=") (in_range 1 f.moves) s) (λ k. true) 0 (λ k. move (pred k)) index_of
+      last_makes (number_exactly (bytes "event=") (in_range 1 f.moves) s) (λ k. true) Syntax (λ k. move (pred k)) index_of
       (λ k h. suc_pred k (within-is 1 f.moves k h).0)
 
   idle-back : (at : ℕ) (a : Act) (next : ℕ) → read_idle f s at ≡ got a next → Accepts s at (act_text a) next (right_act f a)
@@ -88,7 +89,7 @@ module _ (f : Frame) (s : Text) where
   pub sync_exactly : (own n : ℕ) → Exactly s (read_sync f own s n) (list_text (bytes "sync=")) (right_sync f own n)
   unfolding read_sync right_sync
   sync_exactly own n =
-      needed_exactly s _ (list_text (bytes "sync=")) (list_of (f.steps n) byte) (list_exactly (bytes "sync=") (f.steps n) byte s) (takes_part own n) 5
+      needed_exactly s _ (list_text (bytes "sync=")) (list_of (f.steps n) byte) (list_exactly (bytes "sync=") (f.steps n) byte s) (takes_part own n) Idling
 
   -- the lines of an event
   pub event_exactly : Exactly s (read_event f s) event_text (right_event f)
@@ -96,7 +97,7 @@ module _ (f : Frame) (s : Text) where
   event_exactly =
       exactly_by (first_makes act_exactly
       (λ a. last_makes (many_at_exactly s (read_sync f (own_net f.type a) s) (list_text (bytes "sync=")) (right_sync f (own_net f.type a)) (sync_exactly (own_net f.type a)) 0 f.nets)
-      (λ v. true) 0 (λ v. record { act = a; sync = v }) (λ e. e.sync) (λ v h. refl))
+      (λ v. true) Syntax (λ v. record { act = a; sync = v }) (λ e. e.sync) (λ v h. refl))
       (λ e. e.act) (λ a e h r. ap (λ (e : Event). e.act) r.2))
       (λ e h. rw h.0 h.1.0)
       (λ e h. let p = and_true (right_act f e.act) _ h in (p.0, (p.1, refl, refl)))

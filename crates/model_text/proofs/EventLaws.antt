@@ -1,165 +1,167 @@
--- Which case of an event's lines holds, by the answers of its parts; a turn of reading counts, and of reading events.
-use Prim.Native.Nat.{ℕ, ◌+◌, ◌-◌, ◌*◌, ◌≤◌, ◌<◌}
-use mathlib.Core.Path.{◌≡◌, refl, ap, ap₂, ◌∙◌}
-use mathlib.Core.List.{List}
+-- The lines of an event read one after the other: its counts, net after net, and all of them behind its first line; events laid into a model.
+use Prim.Native.Nat.{ℕ, suc, ◌≤◌}
+use mathlib.Core.Path.{◌≡◌, refl, sym, ap, subst, ◌∙◌}
+use mathlib.Core.List.{List, [], ◌∷◌}
+use mathlib.Core.Bool.{true, false}
 use native.Mathlib.Omega.{arith}
-use lib.ListN.{set, replicate}
-use lib.Seq.{sets}
-use Rattle.text.specs.Bytes.{Text}
-use Rattle.text.specs.Lines.{Outcome, got, bad, then, many}
-use Rattle.text.specs.Repeat.{many_at, filled}
-use Rattle.text.specs.Answers.{ended_of, kept_or, padded}
+use lib.ListN.{length, set, replicate}
+use Rattle.std.specs.Prelude.{Result}
+use Rattle.std.specs.declared.result.Result.TheVariants.{Ok, Err}
+use Rattle.text.specs.Bytes.{Text, bytes}
+use Rattle.text.specs.Lines.{Outcome, got, fault, then, need, many, read_list}
+use Rattle.text.specs.Repeat.{many_at, fill}
+use Rattle.text.specs.Answers.{kept, padded}
+use Rattle.text.specs.declared.Cause.TheVariants.{Idling}
 use Rattle.text.specs.declared.Fault.{Fault}
-use Rattle.text.specs.declared.Ended.{Ended}
-use Rattle.text.specs.declared.Ended.TheVariants.{Past, Stopped}
-use Rattle.text.proofs.Loops.{got_of, bad_of, turn_at_lem, bad-at}
-use Rattle.eos.specs.Model.{Act, Event}
-use Rattle.model.specs.Rules.{Frame, own_net}
-use Rattle.model.specs.Acts.{kind_of, index_of, own_in}
-use Rattle.model.specs.Held.{row, put_row, tabled, hold_event, no_event, put_at, hold_events}
+use Rattle.text.proofs.LineLaws.{need_met, need_unmet}
+use Rattle.text_reader.specs.Place.{Reads}
+use Rattle.text_reader.specs.declared.Reader.{Reader}
+use Rattle.text_reader.proofs.ReadsLaws.{read_of, refused_of, first_refused, followed, passes, fails}
+use Rattle.text_reader.proofs.LoopLaws.{filling}
+use Rattle.eos.specs.Model.{Act, move, idle, Event}
+use Rattle.model.specs.Rules.{byte, Frame, own_net, takes_part}
+use Rattle.model.specs.Acts.{as_act, kind_of, index_of}
+use Rattle.model.specs.Held.{row, tabled, hold_event, put_at, hold_events, no_event}
+use Rattle.model.specs.declared.Act as code
 use Rattle.model.specs.declared.Event as held
-use Rattle.model.proofs.HeldActs.{own_same, index-positive}
+use Rattle.model.specs.declared.Model.{Model}
+use Rattle.model.proofs.HeldTests.{part_padded}
 use Rattle.model_text.specs.Reading.{read_act, read_sync, read_event}
-use Rattle.model_text.specs.Answers.{acting_of, counts_of, syncs_of, event_lines_of, events_of}
-use Rattle.model_text.specs.declared.Acting.TheVariants.{Acts, Refused}
-use Rattle.model_text.specs.declared.Counts.{Counts}
-use Rattle.model_text.specs.declared.Syncs.{Syncs}
-use Rattle.model_text.specs.declared.EventLines.{EventLines}
+use Rattle.model_text.specs.Answers.{hold_act, with_events}
+use Rattle.model_text.proofs.LineAnswers.{list_in, many-long}
 use Rattle.model_text.proofs.ActLaws.{act-few}
-use Rattle.model_text.proofs.LineAnswers.{turn_past, turn_stopped, filled-got, filled-bad}
 
--- ---- a turn of reading counts
+-- ---- the counts of a net
 
-module _ (f : ℕ → ℕ → Outcome (List ℕ)) (i n at : ℕ) (table : List ℕ) (below : i < n) (r : Counts) (line : r ≡ counts_of (f i at)) where
-  counts_end : r.ended ≡ ended_of (f i at)
-  unfolding counts_of
-  counts_end = ap (λ (x : Counts). x.ended) line
+module _ (f : Frame) (own n : ℕ) (few : f.steps n ≤ 32) (old : Reader) where
+  abbrev line : Outcome (List ℕ)
+  line = read_list (bytes "sync=") (f.steps n) byte old.src.now old.at
 
-  counts-held : (v : List ℕ) (next : ℕ) → f i at ≡ got v next → r.counts ≡ padded v
-  unfolding counts_of kept_or
-  counts-held v next e = ap (λ (x : Counts). x.counts) line ∙ rw e
+  abbrev judge : List ℕ → ℕ → Outcome (List ℕ)
+  judge v x = need (takes_part own n v) Idling old.at (got v x)
 
-  pub syncs_more : (next : ℕ) → r.ended ≡ Past next → (u : List ℕ) → u ≡ sets table (i * 32) r.counts
-      → filled (put_row row) i table (many_at f i (n - i) at) ≡ filled (put_row row) (i + 1) u (many_at f (i + 1) (n - (i + 1)) next)
-  syncs_more next e u p =
-      let g = got_of (f i at) r.ended next counts_end e in
-      turn_at_lem (put_row row) f i n at table below g.value next g.is ∙ rw (p ∙ ap (sets table (i * 32)) (counts-held g.value next g.is))
+  pub sync_refused : {new : Reader} (e : Fault) → Reads (kept padded line) old new (Err e) → Reads (kept padded (read_sync f own old.src.now n old.at)) old new (Err e)
+  unfolding read_sync
+  sync_refused e k = first_refused padded padded line (λ _. judge) e k
 
-  pub syncs_stop : (d : Fault) → r.ended ≡ Stopped d → filled (put_row row) i table (many_at f i (n - i) at) ≡ bad d
-  syncs_stop d e = bad-at (put_row row) f i n at table below d (bad_of (f i at) r.ended d counts_end e)
+  module _ {new : Reader} (counts : List ℕ) (read : Reads (kept padded line) old new (Ok counts)) where
+    judged : (r : Result (List ℕ) Fault)
+        → ((v : List ℕ) → counts ≡ padded v → takes_part own n counts ≡ takes_part own n v → Reads (kept padded (judge v new.at)) new new r)
+        → Reads (kept padded (read_sync f own old.src.now n old.at)) old new r
+    unfolding read_sync
+    judged r next =
+        followed padded padded line (λ _. judge) counts r read
+        (λ v is held. next v held
+        (rw held (part_padded own n v (omega (arith, few, (list_in (bytes "sync=") (f.steps n) 255 old.src.now old.at v new.at is).0)))))
 
-pub syncs_refused : (o : Outcome (List (List ℕ))) (e : Ended) (d : Fault) → e ≡ Stopped d → filled (put_row row) 0 (replicate 256 0) o ≡ bad d
-    → record { ended = e; sync = replicate 256 0 } ≡ syncs_of o
-unfolding syncs_of ended_of kept_or
-syncs_refused o e d h k = rw (h, filled-bad (put_row row) (replicate 256 0) o d k)
+    pub no_part : takes_part own n counts ≡ false → Reads (kept padded (read_sync f own old.src.now n old.at)) old new (Err (fault Idling old.at))
+    no_part h = judged _ (λ v held same. fails padded _ _ (need_unmet _ _ _ _ (sym same ∙ h)) refl)
 
-pub syncs_read : (o : Outcome (List (List ℕ))) (t : List ℕ) (at : ℕ) → filled (put_row row) 0 (replicate 256 0) o ≡ got t at
-    → record { ended = Past at; sync = t } ≡ syncs_of o
-unfolding syncs_of tabled
-syncs_read o t at k = let p = filled-got (put_row row) (replicate 256 0) o t at k in rw (p.0, p.1 (replicate 256 0))
+    pub sync_read : takes_part own n counts ≡ true → Reads (kept padded (read_sync f own old.src.now n old.at)) old new (Ok counts)
+    sync_read h = judged _ (λ v held same. rw held (passes padded _ v (need_met _ _ _ _ (sym same ∙ h)) refl))
 
 -- ---- an event
 
--- an act that was accepted
-pub record ActGot (o : Outcome Act) (kind index next : ℕ) : Type 0 where
-  pub act : Act
-  pub is : o ≡ got act next
-  pub kind_is : kind ≡ kind_of act
-  pub index_is : index ≡ index_of act
+-- an act is held as it is
+pub act_again : (a : Act) → as_act (hold_act a) ≡ a
+act_again (move k) = refl
+act_again (idle p) = refl
 
-pub act-got : (o : Outcome Act) (kind index next : ℕ) → Acts kind index next ≡ acting_of o → ActGot o kind index next
-unfolding acting_of
-act-got (got a n) kind index next e = record { act = a; is = (cc); kind_is = (cc); index_is = (cc) }
-act-got (bad d) kind index next e = let z : ◌≡◌ {A = ℕ} 0 1 = cc in absurd (omega arith)
+module _ (f : Frame) (old : Reader) where
+  abbrev first_line : Outcome Act
+  first_line = read_act f old.src.now old.at
 
-act-bad : (o : Outcome Act) (d : Fault) → Refused d ≡ acting_of o → o ≡ bad d
-unfolding acting_of
-act-bad (got a n) d e = let z : ◌≡◌ {A = ℕ} 0 1 = cc in absurd (omega arith)
-act-bad (bad c) d e = cc
+  abbrev make : Act → List (List ℕ) → ℕ → Outcome Event
+  make a v x₂ = got (record { act = a; sync = v }) x₂
 
-event-bad : (o : Outcome Event) (e : Ended) (d : Fault) → e ≡ Stopped d → o ≡ bad d → record { ended = e; event = no_event } ≡ event_lines_of o
-unfolding event_lines_of ended_of kept_or
-event-bad o e d h k = rw (h, k)
+  abbrev behind_act : Text → Act → ℕ → Outcome Event
+  behind_act s a x₁ = then (many_at (read_sync f (own_net f.type a) s) 0 f.nets x₁) (make a)
 
-event-got : (o : Outcome Event) (a : Act) (v : List (List ℕ)) (next kind index : ℕ) (table : List ℕ) → o ≡ got (record { act = a; sync = v }) next
-    → kind ≡ kind_of a → index ≡ index_of a → table ≡ tabled row 256 v
-    → record { ended = Past next; event = record { kind = kind; index = index; sync = table } } ≡ event_lines_of o
-unfolding event_lines_of ended_of kept_or hold_event
-event-got o a v next kind index table k p q r = rw (k, p, q, r)
+  abbrev whole : Outcome Event
+  whole = read_event f old.src.now old.at
 
-module _ (f : Frame) (s : Text) (at : ℕ) where
-  act-stops : (d : Fault) → read_act f s at ≡ bad d → read_event f s at ≡ bad d
-  unfolding read_event then
-  act-stops d e = rw e
+  pub act_refused : {new : Reader} (e : Fault) → Reads (kept hold_act first_line) old new (Err e) → Reads (kept hold_event whole) old new (Err e)
+  unfolding read_event
+  act_refused e k = first_refused hold_act hold_event first_line behind_act e k
 
-  pub act-refused : (d : Fault) → Refused d ≡ acting_of (read_act f s at) → record { ended = Stopped d; event = no_event } ≡ event_lines_of (read_event f s at)
-  act-refused d e = event-bad _ _ d refl (act-stops d (act-bad _ d e))
+  module _ {mid : Reader} (a : code.Act) (first : Reads (kept hold_act first_line) old mid (Ok a)) where
+    -- its index is one of 01's
+    pub act_in : f.places ≤ 32 → f.moves ≤ 32 → index_of (as_act a) ≤ 32
+    act_in p m =
+        let q = read_of hold_act first_line a first in
+        rw (q.held, act_again q.value) (act-few f p m old.src.now old.at q.value mid.at q.is)
 
-  -- an act that is read is numbered from 1 to 32
-  pub index_in : f.places ≤ 32 → f.moves ≤ 32 → (kind index x₁ : ℕ) → ActGot (read_act f s at) kind index x₁ → (1 ≤ index) × (index ≤ 32)
-  index_in p m kind index x₁ g =
-      let k = act-few f p m s at g.act x₁ g.is in
-      let l = index-positive g.act in
-      (omega (arith, g.index_is, l), omega (arith, g.index_is, k))
+    module _ (own : ℕ) (owns : own ≡ own_net f.type (as_act a)) where
+      abbrev counts : Outcome (List (List ℕ))
+      counts = many_at (read_sync f own mid.src.now) 0 f.nets mid.at
 
-  module _ (kind index x₁ : ℕ) (g : ActGot (read_act f s at) kind index x₁) (own : ℕ) (owns : own ≡ own_in f.type kind index)
-      (r : Syncs) (read : r ≡ syncs_of (many_at (read_sync f own s) 0 f.nets x₁)) where
-    own_act : own ≡ own_net f.type g.act
-    own_act = owns ∙ ap₂ (own_in f.type) g.kind_is g.index_is ∙ own_same f.type g.act
+      behind : {new : Reader} (r : Result held.Event Fault)
+          → ((b : Act) → a ≡ hold_act b → own ≡ own_net f.type b → Reads (kept hold_event (then counts (make b))) mid new r) → Reads (kept hold_event whole) old new r
+      unfolding read_event
+      behind r next =
+          followed hold_act hold_event first_line behind_act a r first
+          (λ b is same.
+          let o : own ≡ own_net f.type b = owns ∙ ap (own_net f.type) (ap as_act same ∙ act_again b) in
+          rw (← o) (next b same o))
 
-    line : r ≡ syncs_of (many_at (read_sync f (own_net f.type g.act) s) 0 f.nets x₁)
-    line = read ∙ ap (λ (n : ℕ). syncs_of (many_at (read_sync f n s) 0 f.nets x₁)) own_act
+      pub counts_refused : {new : Reader} (e : Fault) → Reads (kept (tabled row 256) counts) mid new (Err e) → Reads (kept hold_event whole) old new (Err e)
+      counts_refused e k = behind (Err e) (λ b same o. first_refused (tabled row 256) hold_event counts (λ _. make b) e k)
 
-    syncs_end : r.ended ≡ ended_of (many_at (read_sync f (own_net f.type g.act) s) 0 f.nets x₁)
-    unfolding syncs_of
-    syncs_end = ap (λ (x : Syncs). x.ended) line
+      pub event_read : {new : Reader} (sync : List ℕ) → Reads (kept (tabled row 256) counts) mid new (Ok sync)
+          → Reads (kept hold_event whole) old new (Ok (record { kind = kind_of (as_act a); index = index_of (as_act a); sync = sync }))
+      unfolding hold_event
+      event_read {new} sync k =
+          behind _
+          (λ b same o.
+          followed (tabled row 256) hold_event counts (λ _. make b) sync _ k
+          (λ v is held. rw (same, act_again b, held) (passes hold_event (make b v new.at) (record { act = b; sync = v }) refl refl)))
 
-    syncs_held : (v : List (List ℕ)) (next : ℕ) → many_at (read_sync f (own_net f.type g.act) s) 0 f.nets x₁ ≡ got v next → r.sync ≡ tabled row 256 v
-    unfolding syncs_of kept_or
-    syncs_held v next e = ap (λ (x : Syncs). x.sync) line ∙ rw e
+-- ---- events laid into a model
 
-    sync-stops : (d : Fault) → many_at (read_sync f (own_net f.type g.act) s) 0 f.nets x₁ ≡ bad d → read_event f s at ≡ bad d
-    unfolding read_event then
-    sync-stops d e = rw (g.is, e)
+abbrev pub lay_event : ℕ → held.Event → Model → Model
+lay_event i e m = record {
+  nets = m.nets;
+  places = m.places;
+  moves = m.moves;
+  listed = m.listed;
+  types = m.types;
+  pre = m.pre;
+  post = m.post;
+  objects = m.objects;
+  events = set m.events i e;
+}
 
-    event-is : (v : List (List ℕ)) (x₂ : ℕ) → many_at (read_sync f (own_net f.type g.act) s) 0 f.nets x₁ ≡ got v x₂
-        → read_event f s at ≡ got (record { act = g.act; sync = v }) x₂
-    unfolding read_event then
-    event-is v x₂ e = rw (g.is, e)
+abbrev pub with_listed : Model → ℕ → List held.Event → Model
+with_listed m n events = record {
+  nets = m.nets;
+  places = m.places;
+  moves = m.moves;
+  listed = n;
+  types = m.types;
+  pre = m.pre;
+  post = m.post;
+  objects = m.objects;
+  events = events;
+}
 
-    pub counts-refused : (d : Fault) → r.ended ≡ Stopped d → record { ended = r.ended; event = no_event } ≡ event_lines_of (read_event f s at)
-    counts-refused d e = event-bad _ _ d e (sync-stops d (bad_of _ r.ended d syncs_end e))
+laid_is : (i : ℕ) (l : List Event) (m : Model) → fill (λ k e. lay_event k (hold_event e)) i l m ≡ with_listed m m.listed (fill (put_at hold_event) i l m.events)
+unfolding fill
+laid_is i [] m = refl
+laid_is i (e ∷ l) m = laid_is (suc i) l (lay_event i (hold_event e) m)
 
-    pub event_read : (x₂ : ℕ) → r.ended ≡ Past x₂
-        → record { ended = Past x₂; event = record { kind = kind; index = index; sync = r.sync } } ≡ event_lines_of (read_event f s at)
-    event_read x₂ e =
-        let v = got_of _ r.ended x₂ syncs_end e in
-        event-got _ g.act v.value x₂ kind index r.sync (event-is v.value x₂ v.is) g.kind_is g.index_is (syncs_held v.value x₂ v.is)
+-- a model with all of them, and their number
+pub events_held : (m : Model) → m.events ≡ replicate 64 no_event → (f : ℕ → Outcome Event) (n at : ℕ) (old new : Reader) (t : Model)
+    → Reads (kept (filling hold_event lay_event m) (many f n at)) old new (Ok t) → Reads (kept (with_events m) (many f n at)) old new (Ok (with_listed t n t.events))
+unfolding hold_events
+events_held m none f n at old new t k =
+    let q = read_of (filling hold_event lay_event m) (many f n at) t k in
+    let held : t ≡ with_listed m m.listed (fill (put_at hold_event) 0 q.value (replicate 64 no_event)) = q.held ∙ laid_is 0 q.value m ∙ ap (λ (es : List held.Event). with_listed m m.listed (fill (put_at hold_event) 0 q.value es)) none in
+    let long : length q.value ≡ n = many-long f n at q.value new.at q.is in
+    let same : with_listed t n t.events ≡ with_events m q.value =
+    ap (λ (x : Model). with_listed x n x.events) held ∙ ap (λ (k : ℕ). with_listed m k (fill (put_at hold_event) 0 q.value (replicate 64 no_event))) (sym long) in
+    subst (λ (x : Model). Reads (kept (with_events m) (many f n at)) old new (Ok x)) (sym same) (passes (with_events m) (many f n at) q.value q.is q.moved)
 
--- ---- a turn of reading events
-
-module _ (f : ℕ → Outcome Event) (i n at : ℕ) (table : List held.Event) (below : i < n) (r : EventLines) (line : r ≡ event_lines_of (f at)) where
-  event_end : r.ended ≡ ended_of (f at)
-  unfolding event_lines_of
-  event_end = ap (λ (x : EventLines). x.ended) line
-
-  event-held : (m : Event) (next : ℕ) → f at ≡ got m next → r.event ≡ hold_event m
-  unfolding event_lines_of kept_or
-  event-held m next e = ap (λ (x : EventLines). x.event) line ∙ rw e
-
-  pub events_more : (next : ℕ) → r.ended ≡ Past next
-      → filled (put_at hold_event) i table (many f (n - i) at) ≡ filled (put_at hold_event) (i + 1) (set table i r.event) (many f (n - (i + 1)) next)
-  events_more next e = turn_past (put_at hold_event) f i n at table below r.ended event_end next e _ (λ m k. ap (set table i) (event-held m next k))
-
-  pub events_stop : (d : Fault) → r.ended ≡ Stopped d → filled (put_at hold_event) i table (many f (n - i) at) ≡ bad d
-  events_stop d e = turn_stopped (put_at hold_event) f i n at table below r.ended event_end d e
-
-pub events-refused : (o : Outcome (List Event)) (e : Ended) (d : Fault) → e ≡ Stopped d → filled (put_at hold_event) 0 (replicate 64 no_event) o ≡ bad d
-    → record { ended = e; events = replicate 64 no_event } ≡ events_of o
-unfolding events_of ended_of kept_or
-events-refused o e d h k = rw (h, filled-bad (put_at hold_event) (replicate 64 no_event) o d k)
-
-pub events_read : (o : Outcome (List Event)) (t : List held.Event) (at : ℕ) → filled (put_at hold_event) 0 (replicate 64 no_event) o ≡ got t at
-    → record { ended = Past at; events = t } ≡ events_of o
-unfolding events_of hold_events
-events_read o t at k = let p = filled-got (put_at hold_event) (replicate 64 no_event) o t at k in rw (p.0, p.1 (replicate 64 no_event))
+-- or one of them is refused
+pub events_bad : (m : Model) (f : ℕ → Outcome Event) (n at : ℕ) (old new : Reader) (e : Fault)
+    → Reads (kept (filling hold_event lay_event m) (many f n at)) old new (Err e) → Reads (kept (with_events m) (many f n at)) old new (Err e)
+events_bad m f n at old new e k = let r = refused_of (filling hold_event lay_event m) (many f n at) e k in fails (with_events m) (many f n at) e r.is r.same

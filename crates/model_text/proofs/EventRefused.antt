@@ -25,6 +25,7 @@ use Rattle.model.proofs.RuleFails.{PartFails, wrong_part}
 use Rattle.model_text.specs.Reading.{read_idle, read_move, read_act, read_sync, read_event}
 use Rattle.model_text.specs.Printed.{act_text, event_text}
 use Rattle.model_text.proofs.EventExactly.{act_exactly, sync_exactly}
+use Rattle.text.specs.declared.Cause.TheVariants.{Syntax, Idling, Range}
 
 -- ---- the first line of an event
 
@@ -49,25 +50,25 @@ act_ruled f (idle_line n) = leb 1 (f.type (pred n))
 
 -- the faults of the first line of an event
 abbrev pub ActFaults : Text → Frame → ℕ → Fault → Type 0
-ActFaults s f = RuledFaults s act_line_text (LineFaults s act_line_text (λ a. true) (act_ranged f)) (act_ranged f) (act_ruled f) 5
+ActFaults s f = RuledFaults s act_line_text (LineFaults s act_line_text (λ a. true) (act_ranged f)) (act_ranged f) (act_ruled f) Idling
 
 module _ (f : Frame) (s : Text) where
   -- those of a line of one key, which makes a line of a number
   abbrev KeyFaults : (ℕ → ActLine) → ℕ → Fault → Type 0
   KeyFaults key =
-      RuledFaults s (λ n. act_line_text (key n)) (LineFaults s (λ n. act_line_text (key n)) (λ n. true) (λ n. act_ranged f (key n))) (λ n. act_ranged f (key n)) (λ n. act_ruled f (key n)) 5
+      RuledFaults s (λ n. act_line_text (key n)) (LineFaults s (λ n. act_line_text (key n)) (λ n. true) (λ n. act_ranged f (key n))) (λ n. act_ranged f (key n)) (λ n. act_ruled f (key n)) Idling
 
   idle_refuses : Refuses (read_idle f s) (KeyFaults idle_line)
   unfolding read_idle act_line_text
   idle_refuses =
       ruled_refuses (number_exactly (bytes "idle=") (in_range 1 f.places) s) (number_refuses (bytes "idle=") (in_range 1 f.places) s)
-      (λ p. leb 1 (f.type (pred p))) 5 (λ p. idle (pred p))
+      (λ p. leb 1 (f.type (pred p))) Idling (λ p. idle (pred p))
 
   move_refuses : Refuses (read_move f s) (KeyFaults event_line)
   unfolding read_move need act_line_text
   move_refuses =
       ruled_refuses (number_exactly (bytes "event=") (in_range 1 f.moves) s) (number_refuses (bytes "event=") (in_range 1 f.moves) s)
-      (λ k. true) 5 (λ k. move (pred k))
+      (λ k. true) Idling (λ k. move (pred k))
 
   -- where only lines of one key can stand, the faults are those of that key
   module _ (key : ℕ → ActLine) (at : ℕ) (alone : (a : ActLine) → Stands s at (act_line_text a) → (n : ℕ) × (a ≡ key n)) (e : Fault) where
@@ -119,7 +120,7 @@ module _ (f : Frame) (s : Text) where
 module _ (s : Text) (f : Frame) where
   -- the faults of the counts of net n, in an event that idles in the net own
   abbrev pub SyncFaults : ℕ → ℕ → ℕ → Fault → Type 0
-  SyncFaults own n = RuledFaults s (list_text (bytes "sync=")) (ListFaults s (bytes "sync=") (f.steps n) byte) (list_of (f.steps n) byte) (takes_part own n) 5
+  SyncFaults own n = RuledFaults s (list_text (bytes "sync=")) (ListFaults s (bytes "sync=") (f.steps n) byte) (list_of (f.steps n) byte) (takes_part own n) Idling
 
   -- of the lines of an event
   abbrev pub EventFaults : ℕ → Fault → Type 0
@@ -131,7 +132,7 @@ module _ (f : Frame) (s : Text) where
   pub sync_refuses : (own n : ℕ) → Refuses (read_sync f own s n) (SyncFaults s f own n)
   unfolding read_sync
   sync_refuses own n =
-      ruled_refuses (list_exactly (bytes "sync=") (f.steps n) byte s) (list_refuses (bytes "sync=") (f.steps n) byte s) (takes_part own n) 5 (λ v. v)
+      ruled_refuses (list_exactly (bytes "sync=") (f.steps n) byte s) (list_refuses (bytes "sync=") (f.steps n) byte s) (takes_part own n) Idling (λ v. v)
 
   pub event_refuses : Refuses (read_event f s) (EventFaults s f)
   unfolding read_event
@@ -144,29 +145,29 @@ module _ (f : Frame) (s : Text) where
 
 module _ (f : Frame) (s : Text) (at : ℕ) where
   -- the first line of an event is 2 exactly where no such line stands there, whatever its number
-  pub act_two : (read_act f s at ≡ bad (fault 2 at)) ↔ Formless s act_line_text (λ a. true) at
-  act_two = ruled_two s (read_act f s) act_line_text (λ a. true) (act_ranged f) (act_ranged f) (act_ruled f) 5 (lit< tt) (act_refuses f s) at
+  pub act_two : (read_act f s at ≡ bad (fault Syntax at)) ↔ Formless s act_line_text (λ a. true) at
+  act_two = ruled_two s (read_act f s) act_line_text (λ a. true) (act_ranged f) (act_ranged f) (act_ruled f) Idling (lit< tt) (act_refuses f s) at
 
   -- 3 exactly where one does whose number is that of no move, or of no place
-  pub act_three : (read_act f s at ≡ bad (fault 3 at)) ↔ Failing s act_line_text (λ a. true) (act_ranged f) at
-  act_three = ruled_three s (read_act f s) act_line_text (λ a. true) (act_ranged f) (act_ranged f) (act_ruled f) 5 (lit< tt) (act_refuses f s) at
+  pub act_three : (read_act f s at ≡ bad (fault Range at)) ↔ Failing s act_line_text (λ a. true) (act_ranged f) at
+  act_three = ruled_three s (read_act f s) act_line_text (λ a. true) (act_ranged f) (act_ranged f) (act_ruled f) Idling (lit< tt) (act_refuses f s) at
 
   -- 5 exactly where one in range idles at a place of black tokens
-  pub act_five : (read_act f s at ≡ bad (fault 5 at)) ↔ Failing s act_line_text (act_ranged f) (act_ruled f) at
-  act_five = ruled_why s (read_act f s) act_line_text (λ a. true) (act_ranged f) (act_ranged f) (act_ruled f) 5 (lit< tt) (act_refuses f s) at
+  pub act_five : (read_act f s at ≡ bad (fault Idling at)) ↔ Failing s act_line_text (act_ranged f) (act_ruled f) at
+  act_five = ruled_why s (read_act f s) act_line_text (λ a. true) (act_ranged f) (act_ranged f) (act_ruled f) Idling (lit< tt) (act_refuses f s) at
 
   module _ (own n : ℕ) where
     -- the counts of net n are 2 exactly where no list of as many numbers stands there as the net has transitions
-    pub sync_two : (read_sync f own s n at ≡ bad (fault 2 at)) ↔ Formless s (list_text (bytes "sync=")) (λ v. eqb (length v) (f.steps n)) at
-    sync_two = ruled_two s (read_sync f own s n) (list_text (bytes "sync=")) _ (every byte) (list_of (f.steps n) byte) (takes_part own n) 5 (lit< tt) (sync_refuses f s own n) at
+    pub sync_two : (read_sync f own s n at ≡ bad (fault Syntax at)) ↔ Formless s (list_text (bytes "sync=")) (λ v. eqb (length v) (f.steps n)) at
+    sync_two = ruled_two s (read_sync f own s n) (list_text (bytes "sync=")) _ (every byte) (list_of (f.steps n) byte) (takes_part own n) Idling (lit< tt) (sync_refuses f s own n) at
 
     -- 3 exactly where one does that has a number over 255
-    pub sync_three : (read_sync f own s n at ≡ bad (fault 3 at)) ↔ Failing s (list_text (bytes "sync=")) (λ v. eqb (length v) (f.steps n)) (every byte) at
-    sync_three = ruled_three s (read_sync f own s n) (list_text (bytes "sync=")) _ (every byte) (list_of (f.steps n) byte) (takes_part own n) 5 (lit< tt) (sync_refuses f s own n) at
+    pub sync_three : (read_sync f own s n at ≡ bad (fault Range at)) ↔ Failing s (list_text (bytes "sync=")) (λ v. eqb (length v) (f.steps n)) (every byte) at
+    sync_three = ruled_three s (read_sync f own s n) (list_text (bytes "sync=")) _ (every byte) (list_of (f.steps n) byte) (takes_part own n) Idling (lit< tt) (sync_refuses f s own n) at
 
     -- 5 exactly where one in range takes part and should not, or should and does not
-    pub sync_five : (read_sync f own s n at ≡ bad (fault 5 at)) ↔ Failing s (list_text (bytes "sync=")) (list_of (f.steps n) byte) (takes_part own n) at
-    sync_five = ruled_why s (read_sync f own s n) (list_text (bytes "sync=")) _ (every byte) (list_of (f.steps n) byte) (takes_part own n) 5 (lit< tt) (sync_refuses f s own n) at
+    pub sync_five : (read_sync f own s n at ≡ bad (fault Idling at)) ↔ Failing s (list_text (bytes "sync=")) (list_of (f.steps n) byte) (takes_part own n) at
+    sync_five = ruled_why s (read_sync f own s n) (list_text (bytes "sync=")) _ (every byte) (list_of (f.steps n) byte) (takes_part own n) Idling (lit< tt) (sync_refuses f s own n) at
 
 -- an event that idles at a place of black tokens stands there
 pub record IdlesBlack (f : Frame) (s : Text) (at : ℕ) : Type 0 where
@@ -196,7 +197,7 @@ module _ (f : Frame) (s : Text) (at x : ℕ) where
   act_part (idle_line n, st, li, ty) = let b = leb-false 1 (f.type (pred n)) ty in record { place = n; stands = st; in-range = li; black = omega (arith, b) }
 
   sync_part : (a : Act) → Stands s at (act_text a) → right_act f a ≡ true
-      → ManyFaults s (list_text (bytes "sync=")) (SyncFaults s f (own_net f.type a)) (right_sync f (own_net f.type a)) 0 f.nets (at + length (act_text a)) (fault 5 x)
+      → ManyFaults s (list_text (bytes "sync=")) (SyncFaults s f (own_net f.type a)) (right_sync f (own_net f.type a)) 0 f.nets (at + length (act_text a)) (fault Idling x)
       → WrongPart f s at x
   unfolding event_text
   sync_part a st ri (l, lt, sts, ev, inl k) = absurd (no_line_cause (lit< tt) k)
@@ -216,16 +217,16 @@ module _ (f : Frame) (s : Text) (at x : ℕ) where
       }
 
   -- the lines of an event are 5 exactly where it idles at a place of black tokens, there, or has the wrong part, at x
-  pub event_five : (read_event f s at ≡ bad (fault 5 x)) ↔ (((x ≡ at) × IdlesBlack f s at) ⊎ WrongPart f s at x)
+  pub event_five : (read_event f s at ≡ bad (fault Idling x)) ↔ (((x ≡ at) × IdlesBlack f s at) ⊎ WrongPart f s at x)
   unfolding event_text act_line_text
   event_five = (
     λ h.
         ⊎_elim
         (⊎_elim (λ k. absurd (no_line_cause (lit< tt) k)) (λ k. inl (one_place k.0, act_part k.1)))
         (λ k. inr (sync_part k.0 k.1 k.2 k.3))
-        ((event_refuses f s).back at (fault 5 x) h),
+        ((event_refuses f s).back at (fault Idling x) h),
     λ h.
-        (event_refuses f s).forth at (fault 5 x)
+        (event_refuses f s).forth at (fault Idling x)
         (⊎_elim
         (λ k.
         let b = k.1 in

@@ -1,5 +1,4 @@
 pub mod LineAnswers
-pub mod NarrowRow
 pub mod TransitionLines
 pub mod NetLaws
 pub mod ActLaws

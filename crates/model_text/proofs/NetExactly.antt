@@ -17,13 +17,14 @@ use Rattle.eos.specs.Model.{Transition, ObjectNet}
 use Rattle.model.specs.Rules.{byte, list_of, right_sides, right_net}
 use Rattle.model_text.specs.Reading.{read_sides, read_net}
 use Rattle.model_text.specs.Printed.{sides_text, net_text}
+use Rattle.text.specs.declared.Cause.TheVariants.{Syntax, Typing}
 
 -- the two lines of a transition
 pub sides_exactly : (size : ℕ) (fine : Transition → Bool) (s : Text) → Exactly s (read_sides size fine s) sides_text (λ t. right_sides size t && fine t)
 unfolding read_sides sides_text right_sides
 sides_exactly size fine s =
     exactly_by (first_makes (list_exactly (bytes "pre=") size byte s)
-    (λ p. last_makes (list_exactly (bytes "post=") size byte s) (λ q. fine (record { pre = p; post = q })) 4 (λ q. record { pre = p; post = q })
+    (λ p. last_makes (list_exactly (bytes "post=") size byte s) (λ q. fine (record { pre = p; post = q })) Typing (λ q. record { pre = p; post = q })
     (λ t. t.post) (λ q h. refl))
     (λ t. t.pre) (λ p t h r. ap (λ (t : Transition). t.pre) r.2))
     (λ t h. rw (h.0, h.1.0) h.1.1)
@@ -49,7 +50,7 @@ unfolding read_net net_text right_net need
 net_exactly s =
     exactly_by (first_makes (number_exactly (bytes "inner=") (in_range 1 32) s)
     (λ size. first_makes (number_exactly (bytes "steps=") (in_range 0 32) s)
-    (λ k. last_makes (steps_exactly size k s) (λ ts. true) 0 (λ ts. record { size = size; transitions = ts }) (λ n. n.transitions) (λ ts h. refl))
+    (λ k. last_makes (steps_exactly size k s) (λ ts. true) Syntax (λ ts. record { size = size; transitions = ts }) (λ n. n.transitions) (λ ts h. refl))
     (λ n. length n.transitions) (λ k n h r. sym (eqb_and (length n.transitions) k _ r.0).0))
     (λ n. n.size) (λ size n h r. ap (λ (n : ObjectNet). n.size) r.1.2))
     (λ n h. rw (h.0, h.1.0) (eqb_and (length n.transitions) (length n.transitions) _ h.1.1.0).1)

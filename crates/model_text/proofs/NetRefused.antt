@@ -23,13 +23,14 @@ use Rattle.model.proofs.RuleFails.{LosesNet, not_monotonous}
 use Rattle.model_text.specs.Reading.{read_sides, read_net}
 use Rattle.model_text.specs.Printed.{sides_text}
 use Rattle.model_text.proofs.NetExactly.{plain_exactly}
+use Rattle.text.specs.declared.Cause.TheVariants.{Typing}
 
 module _ (s : Text) where
   -- the faults of the two lines of a transition: of the second, 4 where the two are not fine
   abbrev pub SidesFaults : ℕ → (Transition → Bool) → ℕ → Fault → Type 0
   SidesFaults size fine =
       ThenFaults s (list_text (bytes "pre=")) (ListFaults s (bytes "pre=") size byte) (list_of size byte) λ p.
-      RuledFaults s (list_text (bytes "post=")) (ListFaults s (bytes "post=") size byte) (list_of size byte) (λ q. fine (record { pre = p; post = q })) 4
+      RuledFaults s (list_text (bytes "post=")) (ListFaults s (bytes "post=") size byte) (list_of size byte) (λ q. fine (record { pre = p; post = q })) Typing
 
   -- of the lines of an object net
   abbrev pub NetFaults : ℕ → Fault → Type 0
@@ -43,7 +44,7 @@ unfolding read_sides
 sides_refuses size fine s =
     then_refuses (list_exactly (bytes "pre=") size byte s) (list_refuses (bytes "pre=") size byte s)
     (λ p. ruled_refuses (list_exactly (bytes "post=") size byte s) (list_refuses (bytes "post=") size byte s)
-    (λ q. fine (record { pre = p; post = q })) 4 (λ q. record { pre = p; post = q }))
+    (λ q. fine (record { pre = p; post = q })) Typing (λ q. record { pre = p; post = q }))
 
 pub net_refuses : (s : Text) → Refuses (read_net s) (NetFaults s)
 unfolding read_net
@@ -60,7 +61,7 @@ module _ (size : ℕ) (fine : Transition → Bool) (s : Text) (at x : ℕ) where
   NotFine = (t : Transition) × Stands s at (sides_text t) × (right_sides size t ≡ true) × (fine t ≡ false) × (x ≡ at + length (list_text (bytes "pre=") t.pre))
 
   -- it is 4 exactly there
-  pub sides_four : (read_sides size fine s at ≡ bad (fault 4 x)) ↔ NotFine
+  pub sides_four : (read_sides size fine s at ≡ bad (fault Typing x)) ↔ NotFine
   unfolding sides_text right_sides
   sides_four = (
     λ h.
@@ -73,19 +74,19 @@ module _ (size : ℕ) (fine : Transition → Bool) (s : Text) (at x : ℕ) where
         let v = r.1 in
         (record { pre = k.0; post = v.0 }, stands_join s at (list_text (bytes "pre=") k.0) (list_text (bytes "post=") v.0) k.1 v.1, and_both (list_of size byte k.0) _ k.2 v.2, v.3, one_place r.0))
         k.3)
-        ((sides_refuses size fine s).back at (fault 4 x) h),
+        ((sides_refuses size fine s).back at (fault Typing x) h),
     λ h.
         let t = h.0 in
         let p = list_text (bytes "pre=") t.pre in
         let q = list_text (bytes "post=") t.post in
         let v = and_true (list_of size byte t.pre) _ h.2 in
-        (sides_refuses size fine s).forth at (fault 4 x)
+        (sides_refuses size fine s).forth at (fault Typing x)
         (inr (t.pre, stands_left s at p q h.1, v.0, inr (rw h.4, (t.post, stands_right s at p q h.1, v.1, h.3)))),
   )
 
 -- the lines of a move are 4 exactly where they stand there and are right, its `post` line at x, and its pre has a place of an object net of
 -- which its post has none
-pub move_four : (nets : ℕ) (types : List ℕ) (s : Text) (at x : ℕ) → (read_sides (length types) (keeps_types nets types) s at ≡ bad (fault 4 x))
+pub move_four : (nets : ℕ) (types : List ℕ) (s : Text) (at x : ℕ) → (read_sides (length types) (keeps_types nets types) s at ≡ bad (fault Typing x))
     ↔ ((t : Transition) × Stands s at (sides_text t) × (right_sides (length types) t ≡ true) × LosesNet nets types t
     × (x ≡ at + length (list_text (bytes "pre=") t.pre)))
 move_four nets types s at x =

@@ -1,88 +1,33 @@
--- Which case of the lines of an outline, of a system and of the listed events holds, by the answers on the way.
-use Prim.Native.Nat.{ℕ, ◌%◌, ◌≤◌}
-use mathlib.Core.Path.{◌≡◌, ap, sym, ◌∙◌}
-use mathlib.Core.List.{List, map}
+-- The lines of an outline and of a system read one after the other, and what those that are read keep to.
+use Prim.Native.Nat.{ℕ, ◌≤◌}
+use mathlib.Core.Path.{◌≡◌, refl, sym}
+use mathlib.Core.List.{List}
+use Rattle.std.specs.Prelude.{Result}
+use Rattle.std.specs.declared.result.Result.TheVariants.{Ok, Err}
+use Rattle.text.specs.Answers.{kept, padded}
+use Rattle.text.specs.declared.Fault.{Fault}
+use Rattle.text_reader.specs.Place.{Reads}
+use Rattle.text_reader.specs.declared.Reader.{Reader}
+use Rattle.text_reader.proofs.ReadsLaws.{itself, plainly, read_of, first_refused, followed, passes}
+use Rattle.model.specs.Held.{hold_nets}
+use Rattle.model.specs.declared.Model.{Model}
+use Rattle.model.specs.declared.ObjectNet as held
+use Rattle.model_text.specs.Answers.{hold_outline, hold_tables, with_system}
+use Rattle.model_text.specs.declared.Outline.{Outline}
+use Rattle.model_text.specs.declared.Tables.{Tables}
 use mathlib.Core.Bool.{Bool, true}
 use native.Mathlib.Omega.{arith}
 use lib.Dec.{leb}
-use lib.ListN.{length, replicate}
+use lib.ListN.{length}
 use Rattle.text.specs.Bytes.{Text, bytes}
-use Rattle.text.specs.Lines.{Outcome, got, bad, then, many, in_range, every, read_number, read_list, read_head}
-use Rattle.text.specs.Answers.{line_of, ended_of, kept_or, padded, row_of, ended_in}
-use Rattle.text.specs.declared.Fault.{Fault}
-use Rattle.text.specs.declared.Line.{Line}
-use Rattle.text.specs.declared.Line.TheVariants.{Value, Refused}
-use Rattle.text.specs.declared.Ended.{Ended}
-use Rattle.text.specs.declared.Ended.TheVariants.{Past, Stopped}
-use Rattle.text.specs.declared.Row.{Row}
+use Rattle.text.specs.Lines.{Outcome, got, then, many, in_range, every, read_number, read_list, read_head}
 use Rattle.text.proofs.Exactly.{then-got, got-is}
-use Rattle.text.proofs.Loops.{line-got, line-bad, head_got, Got, got_of, bad_of}
-use Rattle.eos.specs.Model.{Transition, ObjectNet, Event}
-use Rattle.model.specs.Rules.{Frame}
-use Rattle.model.specs.Held.{pre_of, post_of, tabled, no_net, hold_nets, no_event, hold_events}
-use Rattle.model.specs.declared.ObjectNet as held
-use Rattle.model.specs.declared.Event as held_event
-use Rattle.model_text.specs.Reading.{read_sides, read_net, read_event}
+use Rattle.eos.specs.Model.{Transition, ObjectNet}
+use Rattle.model_text.specs.Reading.{read_sides, read_net}
 use Rattle.model_text.specs.Parts as parts
-use Rattle.model_text.specs.Parts.{read_outline, read_system, read_listed}
-use Rattle.model_text.specs.Answers.{tables_of, nets_of, events_of, outline_of, system_of, listed_of}
-use Rattle.model_text.specs.declared.Tables.{Tables}
-use Rattle.model_text.specs.declared.Nets.{Nets}
-use Rattle.model_text.specs.declared.Events.{Events}
-use Rattle.model_text.specs.declared.Outline.{Outline}
-use Rattle.model_text.specs.declared.System.{System}
-use Rattle.model_text.specs.declared.Listed.{Listed}
-use Rattle.model_text.proofs.LineAnswers.{number_in, value_in, list_in, row-bad, bytes-got, many-long, many-every}
-use Rattle.model_text.proofs.TransitionLines.{tables_past, tables_stopped, tables_held}
+use Rattle.model_text.specs.Parts.{read_outline, read_system}
+use Rattle.model_text.proofs.LineAnswers.{number_in, list_in, many-long, many-every}
 use Rattle.model_text.proofs.NetLaws.{net-few}
-
--- ---- the outline
-
-abbrev pub no_outline : Ended → Outline
-no_outline e = record { ended = e; nets = 0; places = 0; types = replicate 32 0 }
-
-outline_held : (o : Outcome parts.Outline) (n p : ℕ) (l t : List ℕ) (next : ℕ) → o ≡ got (record { nets = n; places = p; types = l }) next → t ≡ padded l
-    → record { ended = Past next; nets = n; places = p; types = t } ≡ outline_of o
-unfolding outline_of ended_of kept_or
-outline_held o n p l t next k e = rw (k, e)
-
-module _ (s : Text) (at : ℕ) where
-  abbrev head : Outcome (Unit {0})
-  head = read_head (bytes "eos=1\n") s at
-
-  pub eos_refused : (a : Ended) (d : Fault) → a ≡ Stopped d → a ≡ ended_of head → no_outline a ≡ outline_of (read_outline s at)
-  unfolding read_outline then outline_of ended_of kept_or
-  eos_refused a d h k = rw (h, bad_of head a d k h)
-
-  module _ (x₁ : ℕ) (first : Past x₁ ≡ ended_of head) where
-    pub nets-refused : (a : Line) (d : Fault) → a ≡ Refused d → a ≡ line_of (read_number (bytes "nets=") (in_range 0 8) s x₁)
-        → no_outline (ended_in a) ≡ outline_of (read_outline s at)
-    unfolding read_outline then outline_of ended_of kept_or
-    nets-refused a d h k = rw (h, head_got head x₁ first, line-bad _ d (sym h ∙ k))
-
-    module _ (n x₂ : ℕ) (second : Value n x₂ ≡ line_of (read_number (bytes "nets=") (in_range 0 8) s x₁)) where
-      pub places-refused : (a : Line) (d : Fault) → a ≡ Refused d → a ≡ line_of (read_number (bytes "places=") (in_range 1 32) s x₂)
-          → no_outline (ended_in a) ≡ outline_of (read_outline s at)
-      unfolding read_outline then outline_of ended_of kept_or
-      places-refused a d h k = rw (h, head_got head x₁ first, line-got _ n x₂ second, line-bad _ d (sym h ∙ k))
-
-      module _ (p x₃ : ℕ) (third : Value p x₃ ≡ line_of (read_number (bytes "places=") (in_range 1 32) s x₂))
-          (a : Row) (fourth : a ≡ row_of (read_list (bytes "type=") p (λ d. leb d n) s x₃)) where
-        pub types-refused : (d : Fault) → a.ended ≡ Stopped d → no_outline a.ended ≡ outline_of (read_outline s at)
-        unfolding read_outline then outline_of ended_of kept_or
-        types-refused d h = rw (h, head_got head x₁ first, line-got _ n x₂ second, line-got _ p x₃ third, row-bad _ a d fourth h)
-
-        outline_is : (l : List ℕ) (x₄ : ℕ) → read_list (bytes "type=") p (λ d. leb d n) s x₃ ≡ got l x₄
-            → read_outline s at ≡ got (record { nets = n; places = p; types = l }) x₄
-        unfolding read_outline then
-        outline_is l x₄ e = rw (head_got head x₁ first, line-got _ n x₂ second, line-got _ p x₃ third, e)
-
-        pub outline_read : (x₄ : ℕ) → a.ended ≡ Past x₄ → (t : List ℕ) → t ≡ map (λ d. d % 256) a.values
-            → record { ended = Past x₄; nets = n; places = p; types = t } ≡ outline_of (read_outline s at)
-        outline_read x₄ h t e =
-            let few = (value_in (bytes "nets=") 0 8 s x₁ n x₂ second).1 in
-            let b = bytes-got (bytes "type=") p n s x₃ (omega (arith, few)) a x₄ fourth h in
-            outline_held _ n p b.list t x₄ (outline_is b.list x₄ b.is) (e ∙ b.row)
 
 -- what an outline that is read keeps to
 pub record Sound (o : parts.Outline) : Type 0 where
@@ -93,7 +38,7 @@ pub record Sound (o : parts.Outline) : Type 0 where
 pub outline_sound : (s : Text) (at : ℕ) (o : parts.Outline) (next : ℕ) → read_outline s at ≡ got o next → Sound o
 unfolding read_outline
 outline_sound s at o next e =
-    let a = then-got (head s at) _ o next e in
+    let a = then-got (read_head (bytes "eos=1\n") s at) _ o next e in
     let b = then-got (read_number (bytes "nets=") (in_range 0 8) s a.next) _ o next a.rest in
     let c = then-got (read_number (bytes "places=") (in_range 1 32) s b.next) _ o next b.rest in
     let d = then-got (read_list (bytes "type=") c.value (λ d. leb d b.value) s c.next) _ o next c.rest in
@@ -102,64 +47,6 @@ outline_sound s at o next e =
     let p = number_in (bytes "places=") 1 32 s b.next c.value c.next c.first in
     let l = list_in (bytes "type=") c.value b.value s c.next d.value d.next d.first in
     rw (← k.0) (record { nets = n.1; places = p.1; long = l.0 })
-
--- ---- the moves and the object nets
-
-abbrev pub no_system : Ended → System
-no_system e = record { ended = e; moves = 0; pre = replicate 1024 0; post = replicate 1024 0; objects = replicate 8 no_net }
-
-system_held : (o : Outcome parts.System) (l : List Transition) (m : List ObjectNet) (next k : ℕ) (a b : List ℕ) (c : List held.ObjectNet)
-    → o ≡ got (record { moves = l; nets = m }) next → k ≡ length l → a ≡ tabled pre_of 1024 l → b ≡ tabled post_of 1024 l → c ≡ hold_nets m
-    → record { ended = Past next; moves = k; pre = a; post = b; objects = c } ≡ system_of o
-unfolding system_of ended_of kept_or
-system_held o l m next k a b c e p q r t = rw (e, p, q, r, t)
-
-module _ (o : Outcome (List ObjectNet)) (r : Nets) (nets : r ≡ nets_of o) where
-  nets_past : (next : ℕ) → r.ended ≡ Past next → Got o next
-  unfolding nets_of
-  nets_past next e = got_of o r.ended next (ap (λ (x : Nets). x.ended) nets) e
-
-  nets_stopped : (d : Fault) → r.ended ≡ Stopped d → o ≡ bad d
-  unfolding nets_of
-  nets_stopped d e = bad_of o r.ended d (ap (λ (x : Nets). x.ended) nets) e
-
-  nets-held : (l : List ObjectNet) (next : ℕ) → o ≡ got l next → r.nets ≡ hold_nets l
-  unfolding nets_of kept_or
-  nets-held l next e = ap (λ (x : Nets). x.nets) nets ∙ rw e
-
-module _ (nets places : ℕ) (fine : Transition → Bool) (s : Text) (at : ℕ) where
-  abbrev system : Outcome parts.System
-  system = read_system nets places fine s at
-
-  pub moves-refused : (a : Line) (d : Fault) → a ≡ Refused d → a ≡ line_of (read_number (bytes "moves=") (in_range 0 32) s at)
-      → no_system (ended_in a) ≡ system_of system
-  unfolding read_system then system_of ended_of kept_or
-  moves-refused a d h k = rw (h, line-bad _ d (sym h ∙ k))
-
-  module _ (k x₁ : ℕ) (first : Value k x₁ ≡ line_of (read_number (bytes "moves=") (in_range 0 32) s at)) where
-    module _ (t : Tables) (second : t ≡ tables_of (many (read_sides places fine s) k x₁)) where
-      pub arcs_refused : (d : Fault) → t.ended ≡ Stopped d → no_system t.ended ≡ system_of system
-      unfolding read_system then system_of ended_of kept_or
-      arcs_refused d h = rw (h, line-got _ k x₁ first, tables_stopped _ t second d h)
-
-      module _ (x₂ : ℕ) (past : t.ended ≡ Past x₂) (o : Nets) (third : o ≡ nets_of (many (read_net s) nets x₂)) where
-        pub objects-refused : (d : Fault) → o.ended ≡ Stopped d → no_system o.ended ≡ system_of system
-        unfolding read_system then system_of ended_of kept_or
-        objects-refused d h = rw (h, line-got _ k x₁ first, (tables_past _ t second x₂ past).is, nets_stopped _ o third d h)
-
-        system_is : (l : List Transition) (m : List ObjectNet) (x₃ : ℕ) → many (read_sides places fine s) k x₁ ≡ got l x₂ → many (read_net s) nets x₂ ≡ got m x₃
-            → system ≡ got (record { moves = l; nets = m }) x₃
-        unfolding read_system then
-        system_is l m x₃ e f = rw (line-got _ k x₁ first, e, f)
-
-        pub system_read : (x₃ : ℕ) → o.ended ≡ Past x₃
-            → record { ended = Past x₃; moves = k; pre = t.pre; post = t.post; objects = o.nets } ≡ system_of system
-        system_read x₃ h =
-            let g = tables_past _ t second x₂ past in
-            let m = nets_past _ o third x₃ h in
-            let a = tables_held _ t second g.value x₂ g.is in
-            system_held _ g.value m.value x₃ k t.pre t.post o.nets (system_is g.value m.value x₃ g.is m.is)
-            (sym (many-long _ k x₁ g.value x₂ g.is)) a.0 a.1 (nets-held _ o third m.value x₃ m.is)
 
 -- what a system that is read keeps to
 pub record Bounded (nets : ℕ) (y : parts.System) : Type 0 where
@@ -183,47 +70,137 @@ system_bounded nets places fine s at y next e =
       few = many-every (λ m. leb (length m.transitions) 32) (read_net s) (net-few s) nets b.next c.value c.next c.first;
     })
 
--- ---- the events
+-- ---- the lines of an outline
 
-abbrev pub no_events : Ended → Listed
-no_events e = record { ended = e; listed = 0; events = replicate 64 no_event }
+abbrev make_outline : ℕ → ℕ → List ℕ → ℕ → Outcome parts.Outline
+make_outline n p types x₄ = got (record { nets = n; places = p; types = types }) x₄
 
-listed-held : (o : Outcome (List Event)) (l : List Event) (next n : ℕ) (a : List held_event.Event) → o ≡ got l next → n ≡ length l → a ≡ hold_events l
-    → record { ended = Past next; listed = n; events = a } ≡ listed_of o
-unfolding listed_of ended_of kept_or
-listed-held o l next n a e p q = rw (e, p, q)
+abbrev behind_places : ℕ → Text → ℕ → ℕ → Outcome parts.Outline
+behind_places n s p x₃ = then (read_list (bytes "type=") p (λ d. leb d n) s x₃) (make_outline n p)
 
-module _ (o : Outcome (List Event)) (r : Events) (events : r ≡ events_of o) where
-  events_past : (next : ℕ) → r.ended ≡ Past next → Got o next
-  unfolding events_of
-  events_past next e = got_of o r.ended next (ap (λ (x : Events). x.ended) events) e
+abbrev behind_nets : Text → ℕ → ℕ → Outcome parts.Outline
+behind_nets s n x₂ = then (read_number (bytes "places=") (in_range 1 32) s x₂) (behind_places n s)
 
-  events_stopped : (d : Fault) → r.ended ≡ Stopped d → o ≡ bad d
-  unfolding events_of
-  events_stopped d e = bad_of o r.ended d (ap (λ (x : Events). x.ended) events) e
+abbrev behind_head : Text → Unit {0} → ℕ → Outcome parts.Outline
+behind_head s t x₁ = then (read_number (bytes "nets=") (in_range 0 8) s x₁) (behind_nets s)
 
-  events-held : (l : List Event) (next : ℕ) → o ≡ got l next → r.events ≡ hold_events l
-  unfolding events_of kept_or
-  events-held l next e = ap (λ (x : Events). x.events) events ∙ rw e
+module _ (old : Reader) where
+  abbrev head_line : Outcome (Unit {0})
+  head_line = read_head (bytes "eos=1\n") old.src.now old.at
 
-module _ (f : Frame) (s : Text) (at : ℕ) where
-  pub events-refused : (a : Line) (d : Fault) → a ≡ Refused d → a ≡ line_of (read_number (bytes "events=") (in_range 0 64) s at)
-      → no_events (ended_in a) ≡ listed_of (read_listed f s at)
-  unfolding read_listed then listed_of ended_of kept_or
-  events-refused a d h k = rw (h, line-bad _ d (sym h ∙ k))
+  abbrev outline : Outcome parts.Outline
+  outline = read_outline old.src.now old.at
 
-  module _ (n x₁ : ℕ) (first : Value n x₁ ≡ line_of (read_number (bytes "events=") (in_range 0 64) s at)) where
-    listed-is : (o : Outcome (List Event)) → many (read_event f s) n x₁ ≡ o → read_listed f s at ≡ o
-    unfolding read_listed then
-    listed-is o e = rw (line-got _ n x₁ first, e)
+  pub head_refused : {new : Reader} (e : Fault) → Reads head_line old new (Err e) → Reads (kept hold_outline outline) old new (Err e)
+  unfolding read_outline
+  head_refused e k = first_refused itself hold_outline head_line behind_head e (plainly k)
 
-    module _ (r : Events) (second : r ≡ events_of (many (read_event f s) n x₁)) where
-      pub event-refused : (d : Fault) → r.ended ≡ Stopped d → no_events r.ended ≡ listed_of (read_listed f s at)
-      unfolding listed_of ended_of kept_or
-      event-refused d h = rw (h, listed-is (bad d) (events_stopped _ r second d h))
+  module _ {a : Reader} (first : Reads head_line old a (Ok tt)) where
+    abbrev nets_line : Outcome ℕ
+    nets_line = read_number (bytes "nets=") (in_range 0 8) a.src.now a.at
 
-      pub listed_read : (x₂ : ℕ) → r.ended ≡ Past x₂ → record { ended = Past x₂; listed = n; events = r.events } ≡ listed_of (read_listed f s at)
-      listed_read x₂ h =
-          let g = events_past _ r second x₂ h in
-          listed-held _ g.value x₂ n r.events (listed-is (got g.value x₂) g.is) (sym (many-long _ n x₁ g.value x₂ g.is))
-          (events-held _ r second g.value x₂ g.is)
+    at_head : {new : Reader} (r : Result Outline Fault) → Reads (kept hold_outline (behind_head a.src.now tt a.at)) a new r → Reads (kept hold_outline outline) old new r
+    unfolding read_outline
+    at_head r k = followed itself hold_outline head_line behind_head tt r (plainly first) (λ v is same. k)
+
+    pub nets_refused : {new : Reader} (e : Fault) → Reads nets_line a new (Err e) → Reads (kept hold_outline outline) old new (Err e)
+    nets_refused e k = at_head (Err e) (first_refused itself hold_outline nets_line behind_nets e (plainly k))
+
+    module _ {b : Reader} (n : ℕ) (second : Reads nets_line a b (Ok n)) where
+      abbrev places_line : Outcome ℕ
+      places_line = read_number (bytes "places=") (in_range 1 32) b.src.now b.at
+
+      pub nets_few : n ≤ 8
+      nets_few = let q = read_of itself nets_line n (plainly second) in omega (arith, q.held, (number_in (bytes "nets=") 0 8 a.src.now a.at q.value b.at q.is).1)
+
+      at_nets : {new : Reader} (r : Result Outline Fault) → Reads (kept hold_outline (behind_nets b.src.now n b.at)) b new r → Reads (kept hold_outline outline) old new r
+      at_nets r k = at_head r (followed itself hold_outline nets_line behind_nets n r (plainly second) (λ v is same. rw (← same) k))
+
+      pub places_refused : {new : Reader} (e : Fault) → Reads places_line b new (Err e) → Reads (kept hold_outline outline) old new (Err e)
+      places_refused e k = at_nets (Err e) (first_refused itself hold_outline places_line (behind_places n) e (plainly k))
+
+      module _ {c : Reader} (p : ℕ) (third : Reads places_line b c (Ok p)) where
+        abbrev types_line : Outcome (List ℕ)
+        types_line = read_list (bytes "type=") p (λ d. leb d n) c.src.now c.at
+
+        at_places : {new : Reader} (r : Result Outline Fault) → Reads (kept hold_outline (behind_places n c.src.now p c.at)) c new r → Reads (kept hold_outline outline) old new r
+        at_places r k = at_nets r (followed itself hold_outline places_line (behind_places n) p r (plainly third) (λ v is same. rw (← same) k))
+
+        pub types_refused : {new : Reader} (e : Fault) → Reads (kept padded types_line) c new (Err e) → Reads (kept hold_outline outline) old new (Err e)
+        types_refused e k = at_places (Err e) (first_refused padded hold_outline types_line (λ _. make_outline n p) e k)
+
+        pub outline_read : {new : Reader} (types : List ℕ) → Reads (kept padded types_line) c new (Ok types)
+            → Reads (kept hold_outline outline) old new (Ok (record { nets = n; places = p; types = types }))
+        outline_read {new} types k =
+            at_places _
+            (followed padded hold_outline types_line (λ _. make_outline n p) types _ k
+            (λ l is held. rw held (passes hold_outline (make_outline n p l new.at) (record { nets = n; places = p; types = l }) refl refl)))
+
+-- ---- the lines of a system
+
+abbrev make_system : List Transition → List ObjectNet → ℕ → Outcome parts.System
+make_system l o x₃ = got (record { moves = l; nets = o }) x₃
+
+module _ (m : Model) (fine : Transition → Bool) (old : Reader) where
+  abbrev system : Outcome parts.System
+  system = read_system m.nets m.places fine old.src.now old.at
+
+  abbrev moves_line : Outcome ℕ
+  moves_line = read_number (bytes "moves=") (in_range 0 32) old.src.now old.at
+
+  abbrev behind_arcs : Text → List Transition → ℕ → Outcome parts.System
+  behind_arcs s l x₂ = then (many (read_net s) m.nets x₂) (make_system l)
+
+  abbrev behind_moves : Text → ℕ → ℕ → Outcome parts.System
+  behind_moves s k x₁ = then (many (read_sides m.places fine s) k x₁) (behind_arcs s)
+
+  pub moves_refused : {new : Reader} (e : Fault) → Reads moves_line old new (Err e) → Reads (kept (with_system m) system) old new (Err e)
+  unfolding read_system
+  moves_refused e k = first_refused itself (with_system m) moves_line behind_moves e (plainly k)
+
+  module _ {a : Reader} (k : ℕ) (first : Reads moves_line old a (Ok k)) where
+    abbrev rows : Outcome (List Transition)
+    rows = many (read_sides m.places fine a.src.now) k a.at
+
+    pub moves_few : k ≤ 32
+    moves_few = let q = read_of itself moves_line k (plainly first) in omega (arith, q.held, (number_in (bytes "moves=") 0 32 old.src.now old.at q.value a.at q.is).1)
+
+    at_moves : {new : Reader} (r : Result Model Fault) → Reads (kept (with_system m) (behind_moves a.src.now k a.at)) a new r → Reads (kept (with_system m) system) old new r
+    unfolding read_system
+    at_moves r h = followed itself (with_system m) moves_line behind_moves k r (plainly first) (λ v is same. rw (← same) h)
+
+    pub rows_refused : {new : Reader} (e : Fault) → Reads (kept hold_tables rows) a new (Err e) → Reads (kept (with_system m) system) old new (Err e)
+    rows_refused e h = at_moves (Err e) (first_refused hold_tables (with_system m) rows behind_arcs e h)
+
+    module _ {b : Reader} (t : Tables) (second : Reads (kept hold_tables rows) a b (Ok t)) where
+      abbrev objects_lines : Outcome (List ObjectNet)
+      objects_lines = many (read_net b.src.now) m.nets b.at
+
+      at_rows : {new : Reader} (r : Result Model Fault)
+          → ((l : List Transition) → k ≡ length l → t ≡ hold_tables l → Reads (kept (with_system m) (then objects_lines (make_system l))) b new r)
+          → Reads (kept (with_system m) system) old new r
+      at_rows r next =
+          at_moves r
+          (followed hold_tables (with_system m) rows behind_arcs t r second
+          (λ l is held. next l (sym (many-long (read_sides m.places fine a.src.now) k a.at l b.at is)) held))
+
+      pub objects_refused : {new : Reader} (e : Fault) → Reads (kept hold_nets objects_lines) b new (Err e) → Reads (kept (with_system m) system) old new (Err e)
+      objects_refused e h = at_rows (Err e) (λ l long held. first_refused hold_nets (with_system m) objects_lines (λ _. make_system l) e h)
+
+      pub system_read : {new : Reader} (objects : List held.ObjectNet) → Reads (kept hold_nets objects_lines) b new (Ok objects)
+          → Reads (kept (with_system m) system) old new (Ok (record {
+            nets = m.nets;
+            places = m.places;
+            moves = k;
+            listed = m.listed;
+            types = m.types;
+            pre = t.pre;
+            post = t.post;
+            objects = objects;
+            events = m.events;
+          }))
+      system_read {new} objects h =
+          at_rows _
+          (λ l long held.
+          followed hold_nets (with_system m) objects_lines (λ _. make_system l) objects _ h
+          (λ o is held'. rw (long, held, held') (passes (with_system m) (make_system l o new.at) (record { moves = l; nets = o }) refl refl)))

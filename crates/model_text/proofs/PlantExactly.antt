@@ -16,6 +16,7 @@ use Rattle.model_text.specs.Reading.{read_net, eventless, read_plant}
 use Rattle.model_text.specs.Printed.{sides_text, net_text, event_text, plant_text}
 use Rattle.model_text.proofs.NetExactly.{sides_exactly, net_exactly}
 use Rattle.model_text.proofs.EventExactly.{event_exactly}
+use Rattle.text.specs.declared.Cause.TheVariants.{Syntax}
 
 -- the lines from `eos` to the last event
 pub plant_exactly : (s : Text) → Exactly s (read_plant s) plant_text right_model
@@ -31,7 +32,7 @@ plant_exactly s =
     (λ moves. first_makes (many_exactly s (read_net s) net_text right_net (net_exactly s) n)
     (λ nets. first_makes (number_exactly (bytes "events=") (in_range 0 64) s)
     (λ e. last_makes (many_exactly s _ event_text _ (event_exactly (frame_of (eventless types moves nets)) s) e)
-    (λ events. true) 0 (λ events. record { types = types; moves = moves; nets = nets; events = events }) (λ m. m.events) (λ events h. refl))
+    (λ events. true) Syntax (λ events. record { types = types; moves = moves; nets = nets; events = events }) (λ m. m.events) (λ events h. refl))
     (λ m. length m.events) (λ e m h r. sym (eqb_and (length m.events) e _ r.0).0))
     (λ m. m.nets) (λ nets m h r. ap (λ (m : Model). m.nets) r.1.2))
     (λ m. m.moves) (λ moves m h r. ap (λ (m : Model). m.moves) r.1.1.2))

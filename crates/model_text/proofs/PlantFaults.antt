@@ -11,6 +11,7 @@ use Rattle.text.proofs.FaultLaws.{Faults, then_faults, need_faults, many_faults,
 use Rattle.eos.specs.Model.{Transition}
 use Rattle.model.specs.Rules.{byte, Frame, frame_of, keeps_types, own_net, takes_part}
 use Rattle.model_text.specs.Reading.{read_sides, read_net, read_idle, read_move, read_act, read_sync, read_event, eventless, read_plant}
+use Rattle.text.specs.declared.Cause.TheVariants.{Typing, Idling}
 
 module _ (P : ℕ → Type 0) (two : P 2) (three : P 3) (four : P 4) (five : P 5) (s : Text) where
   sides_faults : (size : ℕ) (fine : Transition → Bool) (at : ℕ) → Faults P (read_sides size fine s at)
@@ -19,7 +20,7 @@ module _ (P : ℕ → Type 0) (two : P 2) (three : P 3) (four : P 4) (five : P 5
       then_faults P (read_list (bytes "pre=") size byte s at) _ (list_faults P two three (bytes "pre=") size byte s at)
       (λ p x₁.
       then_faults P (read_list (bytes "post=") size byte s x₁) _ (list_faults P two three (bytes "post=") size byte s x₁)
-      (λ q x₂. need_faults P (fine (record { pre = p; post = q })) 4 x₁ _ four tt))
+      (λ q x₂. need_faults P (fine (record { pre = p; post = q })) Typing x₁ _ four tt))
 
   net_faults : (at : ℕ) → Faults P (read_net s at)
   unfolding read_net
@@ -35,7 +36,7 @@ module _ (P : ℕ → Type 0) (two : P 2) (three : P 3) (four : P 4) (five : P 5
     unfolding read_idle
     idle_faults at =
         then_faults P (read_number (bytes "idle=") (in_range 1 f.places) s at) _ (number_faults P two three (bytes "idle=") (in_range 1 f.places) s at)
-        (λ p x. need_faults P (leb 1 (f.type (pred p))) 5 at _ five tt)
+        (λ p x. need_faults P (leb 1 (f.type (pred p))) Idling at _ five tt)
 
     move_faults : (at : ℕ) → Faults P (read_move f s at)
     unfolding read_move
@@ -52,7 +53,7 @@ module _ (P : ℕ → Type 0) (two : P 2) (three : P 3) (four : P 4) (five : P 5
     unfolding read_sync
     sync_faults own n at =
         then_faults P (read_list (bytes "sync=") (f.steps n) byte s at) _ (list_faults P two three (bytes "sync=") (f.steps n) byte s at)
-        (λ v x. need_faults P (takes_part own n v) 5 at _ five tt)
+        (λ v x. need_faults P (takes_part own n v) Idling at _ five tt)
 
     event_faults : (at : ℕ) → Faults P (read_event f s at)
     unfolding read_event

@@ -1,33 +1,33 @@
--- Which case of a model's lines holds, by the answers of its three parts.
+-- A model's lines are its three parts in a row; what is held of them is the held model.
 use Prim.Native.Nat.{ℕ, ◌≤◌}
-use mathlib.Core.Path.{◌≡◌, refl, ap, sym, ◌∙◌}
+use mathlib.Core.Path.{◌≡◌, refl, sym, ap, subst, ◌∙◌}
 use mathlib.Core.List.{List}
 use mathlib.Core.Bool.{Bool}
 use native.Mathlib.Omega.{arith}
-use lib.ListN.{length}
-use Rattle.text.specs.Bytes.{Text}
-use Rattle.text.specs.Lines.{Outcome, got, bad, then}
-use Rattle.text.specs.Answers.{ended_of, kept_or, padded}
+use lib.ListN.{length, replicate}
+use Rattle.text.specs.Bytes.{Text, bytes}
+use Rattle.text.specs.Lines.{Outcome, got, then, many, in_range, read_number}
+use Rattle.std.specs.Prelude.{Result}
+use Rattle.std.specs.declared.result.Result.TheVariants.{Ok, Err}
+use Rattle.text.specs.Answers.{kept, padded}
 use Rattle.text.specs.declared.Fault.{Fault}
-use Rattle.text.specs.declared.Ended.{Ended}
-use Rattle.text.specs.declared.Ended.TheVariants.{Past, Stopped}
+use Rattle.text_reader.specs.Place.{Reads}
+use Rattle.text_reader.specs.declared.Reader.{Reader}
+use Rattle.text_reader.proofs.ReadsLaws.{itself, plainly, read_of, first_refused, followed, passes}
 use Rattle.text.proofs.Exactly.{then-then}
-use Rattle.text.proofs.Loops.{Got, got_of, bad_of}
 use Rattle.eos.specs.Model as eos
-use Rattle.model.specs.Rules as rules
-use Rattle.model.specs.Rules.{nth, frame_of, monotonous, keeps_types}
-use Rattle.model.specs.Held.{pre_of, post_of, tabled, hold_nets, hold_events, hold_model, no_model}
+use Rattle.model.specs.Rules.{nth, Frame, frame_of, monotonous, keeps_types}
+use Rattle.model.specs.Held.{no_event, no_model, hold_model}
+use Rattle.model.specs.Test.{frame_in}
 use Rattle.model.specs.declared.Model.{Model}
-use Rattle.model_text.specs.Reading.{read_plant, eventless}
+use Rattle.model_text.specs.Reading.{read_event, read_plant, eventless}
+use Rattle.model_text.proofs.LineAnswers.{number_in}
 use Rattle.model_text.specs.Parts as parts
 use Rattle.model_text.specs.Parts.{read_outline, read_system, read_listed}
-use Rattle.model_text.specs.Answers.{outline_of, system_of, listed_of, reading_of, as_frame, frame_from, joined, Fitting}
+use Rattle.model_text.specs.Answers.{hold_outline, with_system, with_events, Fitting}
 use Rattle.model_text.specs.declared.Outline.{Outline}
-use Rattle.model_text.specs.declared.System.{System}
-use Rattle.model_text.specs.declared.Listed.{Listed}
-use Rattle.model_text.specs.declared.Frame.{Frame}
 use Rattle.model_text.proofs.PartLaws.{Sound, outline_sound, Bounded, system_bounded}
-use Rattle.model_text.proofs.FrameLaws.{step-few, steps-nth, fine-is, frame_is}
+use Rattle.model_text.proofs.FrameLaws.{step-few, fine-is, frame_is}
 
 -- ---- the three parts in a row are the lines of a model
 
@@ -36,182 +36,185 @@ unfolding then
 then_of a x f = refl
 
 -- the test of a move
-abbrev kept : parts.Outline → eos.Transition → Bool
-kept o = keeps_types o.nets o.types
+abbrev pub types_kept : parts.Outline → eos.Transition → Bool
+types_kept o = keeps_types o.nets o.types
 
 -- the model of its parts
-abbrev whole : parts.Outline → parts.System → List eos.Event → eos.Model
+abbrev pub whole : parts.Outline → parts.System → List eos.Event → eos.Model
 whole o y l = record { types = o.types; moves = y.moves; nets = y.nets; events = l }
 
-plant_parts : (s : Text) (at : ℕ) → read_plant s at
+pub plant_parts : (s : Text) (at : ℕ) → read_plant s at
     ≡ then (read_outline s at) λ o x₁.
-    then (read_system o.nets o.places (kept o) s x₁) λ y x₂.
+    then (read_system o.nets o.places (types_kept o) s x₁) λ y x₂.
     then (read_listed (frame_of (eventless o.types y.moves y.nets)) s x₂) λ l x₃. got (whole o y l) x₃
 unfolding read_plant read_outline read_system read_listed
 plant_parts s at = sym (simp (then-then, then_of))
 
-module _ (s : Text) (at : ℕ) where
-  outline_stops : (d : Fault) → read_outline s at ≡ bad d → read_plant s at ≡ bad d
-  unfolding then
-  outline_stops d e = plant_parts s at ∙ rw e
-
-  module _ (o : parts.Outline) (x₁ : ℕ) (first : read_outline s at ≡ got o x₁) where
-    system_stops : (d : Fault) → read_system o.nets o.places (kept o) s x₁ ≡ bad d → read_plant s at ≡ bad d
-    unfolding then
-    system_stops d e = plant_parts s at ∙ rw (first, e)
-
-    module _ (y : parts.System) (x₂ : ℕ) (second : read_system o.nets o.places (kept o) s x₁ ≡ got y x₂) where
-      events_stop : (d : Fault) → read_listed (frame_of (eventless o.types y.moves y.nets)) s x₂ ≡ bad d → read_plant s at ≡ bad d
-      unfolding then
-      events_stop d e = plant_parts s at ∙ rw (first, second, e)
-
-      plant-is : (l : List eos.Event) (x₃ : ℕ) → read_listed (frame_of (eventless o.types y.moves y.nets)) s x₂ ≡ got l x₃
-          → read_plant s at ≡ got (whole o y l) x₃
-      unfolding then
-      plant-is l x₃ e = plant_parts s at ∙ rw (first, second, e)
-
 -- ---- what is held of the parts
 
-record OutlineHeld (a : Outline) (o : parts.Outline) : Type 0 where
-  nets : a.nets ≡ o.nets
-  places : a.places ≡ o.places
-  types : a.types ≡ padded o.types
-
-outline_held : (r : Outcome parts.Outline) (a : Outline) (o : parts.Outline) (x : ℕ) → a ≡ outline_of r → r ≡ got o x → OutlineHeld a o
-unfolding outline_of kept_or
-outline_held r a o x e f = record {
-  nets = ap (λ (z : Outline). z.nets) e ∙ rw f;
-  places = ap (λ (z : Outline). z.places) e ∙ rw f;
-  types = ap (λ (z : Outline). z.types) e ∙ rw f;
+-- a model of which its outline is held
+abbrev pub with_outline : Outline → Model
+with_outline a = record {
+  nets = a.nets;
+  places = a.places;
+  moves = no_model.moves;
+  listed = no_model.listed;
+  types = a.types;
+  pre = no_model.pre;
+  post = no_model.post;
+  objects = no_model.objects;
+  events = no_model.events;
 }
 
-record SystemHeld (b : System) (y : parts.System) : Type 0 where
-  moves : b.moves ≡ length y.moves
-  pre : b.pre ≡ tabled pre_of 1024 y.moves
-  post : b.post ≡ tabled post_of 1024 y.moves
-  objects : b.objects ≡ hold_nets y.nets
-
-system_held : (r : Outcome parts.System) (b : System) (y : parts.System) (x : ℕ) → b ≡ system_of r → r ≡ got y x → SystemHeld b y
-unfolding system_of kept_or
-system_held r b y x e f = record {
-  moves = ap (λ (z : System). z.moves) e ∙ rw f;
-  pre = ap (λ (z : System). z.pre) e ∙ rw f;
-  post = ap (λ (z : System). z.post) e ∙ rw f;
-  objects = ap (λ (z : System). z.objects) e ∙ rw f;
-}
-
-record ListedHeld (c : Listed) (l : List eos.Event) : Type 0 where
-  listed : c.listed ≡ length l
-  events : c.events ≡ hold_events l
-
-listed-held : (r : Outcome (List eos.Event)) (c : Listed) (l : List eos.Event) (x : ℕ) → c ≡ listed_of r → r ≡ got l x → ListedHeld c l
-unfolding listed_of kept_or
-listed-held r c l x e f = record { listed = ap (λ (z : Listed). z.listed) e ∙ rw f; events = ap (λ (z : Listed). z.events) e ∙ rw f }
-
-module _ (o : parts.Outline) (sound : Sound o) (a : Outline) (h : OutlineHeld a o) where
+module _ (o : parts.Outline) (sound : Sound o) where
   -- the moves are put to the same test
-  system_exact : (s : Text) (x : ℕ)
-      → read_system a.nets a.places (λ t. monotonous a.nets a.places (nth a.types) (nth t.pre) (nth t.post)) s x
-      ≡ read_system o.nets o.places (kept o) s x
-  system_exact s x =
-      rw (h.nets, h.places, h.types)
-      (ap (λ (f : eos.Transition → Bool). read_system o.nets o.places f s x) (fine-is o.types o.places sound.long sound.places o.nets))
+  pub system_exact : (s : Text) (x : ℕ)
+      → read_system o.nets o.places (λ t. monotonous o.nets o.places (nth (padded o.types)) (nth t.pre) (nth t.post)) s x
+      ≡ read_system o.nets o.places (types_kept o) s x
+  system_exact s x = ap (λ (f : eos.Transition → Bool). read_system o.nets o.places f s x) (fine-is o.types o.places sound.long sound.places o.nets)
 
-  module _ (y : parts.System) (bounded : Bounded o.nets y) (b : System) (k : SystemHeld b y) where
-    frame_exact : as_frame (frame_from a b) ≡ frame_of (eventless o.types y.moves y.nets)
-    frame_exact =
-        rw (h.nets, h.places, h.types, k.moves, k.objects)
-        (frame_is o.types o.places sound.long sound.places y.moves y.nets o.nets bounded.long sound.nets bounded.few)
+  module _ (y : parts.System) (bounded : Bounded o.nets y) where
+    abbrev pub held : Model
+    held = with_system (with_outline (hold_outline o)) y
 
-    frame_fits : Fitting (frame_from a b)
+    -- the events depend on the same
+    pub frame_exact : frame_in held ≡ frame_of (eventless o.types y.moves y.nets)
+    frame_exact = frame_is o.types o.places sound.long sound.places y.moves y.nets o.nets bounded.long sound.nets
+
+    pub frame_fits : Fitting held
     frame_fits = record {
-      places = omega (arith, h.places, sound.places);
-      moves = omega (arith, k.moves, bounded.moves);
-      nets = omega (arith, h.nets, sound.nets);
-      steps = λ n.
-          let eight : length y.nets ≤ 8 = omega (arith, bounded.long, sound.nets) in
-          rw k.objects (omega (arith, steps-nth y.nets eight bounded.few n, step-few y.nets eight bounded.few n));
+      places = sound.places;
+      moves = bounded.moves;
+      nets = sound.nets;
+      steps = λ n. let eight : length y.nets ≤ 8 = omega (arith, bounded.long, sound.nets) in step-few y.nets eight bounded.few n;
     }
 
-    model-held : (l : List eos.Event) (c : Listed) → ListedHeld c l → joined a b c ≡ hold_model (whole o y l)
+    pub model-held : (l : List eos.Event) → with_events held l ≡ hold_model (whole o y l)
     unfolding hold_model
-    model-held l c m =
-        rw (h.nets, h.places, h.types, k.moves, k.pre, k.post, k.objects, m.listed, m.events, ← sound.long, ← bounded.long)
+    model-held l = rw (← sound.long, ← bounded.long) refl
 
--- ---- the model, by the answers of its parts
+-- ---- the three parts read
 
-reading_bad : (o : Outcome eos.Model) (e : Ended) (d : Fault) → e ≡ Stopped d → o ≡ bad d → record { ended = e; model = no_model } ≡ reading_of o
-unfolding reading_of ended_of kept_or
-reading_bad o e d h k = rw (h, k)
+abbrev behind_listed : parts.Outline → parts.System → List eos.Event → ℕ → Outcome eos.Model
+behind_listed o y l x₃ = got (whole o y l) x₃
 
-reading_got : (o : Outcome eos.Model) (m : eos.Model) (p : Model) (next : ℕ) → o ≡ got m next → p ≡ hold_model m
-    → record { ended = Past next; model = p } ≡ reading_of o
-unfolding reading_of ended_of kept_or
-reading_got o m p next k e = rw (k, e)
+abbrev behind_system : parts.Outline → Text → parts.System → ℕ → Outcome eos.Model
+behind_system o s y x₂ = then (read_listed (frame_of (eventless o.types y.moves y.nets)) s x₂) (behind_listed o y)
 
-module _ (s : Text) (at : ℕ) (a : Outline) (first : a ≡ outline_of (read_outline s at)) where
-  outline_end : a.ended ≡ ended_of (read_outline s at)
-  unfolding outline_of
-  outline_end = ap (λ (x : Outline). x.ended) first
+abbrev behind_outline : Text → parts.Outline → ℕ → Outcome eos.Model
+behind_outline s o x₁ = then (read_system o.nets o.places (types_kept o) s x₁) (behind_system o s)
 
-  pub outline_refused : (d : Fault) → a.ended ≡ Stopped d → record { ended = a.ended; model = no_model } ≡ reading_of (read_plant s at)
-  outline_refused d e = reading_bad _ _ d e (outline_stops s at d (bad_of _ a.ended d outline_end e))
+-- the test of a move, over what is held
+abbrev test : Model → eos.Transition → Bool
+test m t = monotonous m.nets m.places (nth m.types) (nth t.pre) (nth t.post)
 
-  module _ (x₁ : ℕ) (past : a.ended ≡ Past x₁) where
-    o : Got (read_outline s at) x₁
-    o = got_of _ a.ended x₁ outline_end past
+module _ (old : Reader) where
+  abbrev outline_lines : Outcome parts.Outline
+  outline_lines = read_outline old.src.now old.at
 
-    sound : Sound o.value
-    sound = outline_sound s at o.value x₁ o.is
+  abbrev plant : Outcome eos.Model
+  plant = read_plant old.src.now old.at
 
-    a_held : OutlineHeld a o.value
-    a_held = outline_held _ a o.value x₁ first o.is
+  pub outline_refused : {new : Reader} (e : Fault) → Reads (kept hold_outline outline_lines) old new (Err e) → Reads (kept hold_model plant) old new (Err e)
+  outline_refused e k = rw (plant_parts old.src.now old.at) (first_refused hold_outline hold_model outline_lines behind_outline e k)
 
-    pub outline_fits : (a.nets ≤ 8) × (a.places ≤ 32)
-    outline_fits = (omega (arith, a_held.nets, sound.nets), omega (arith, a_held.places, sound.places))
+  module _ {a : Reader} (outline : Outline) (first : Reads (kept hold_outline outline_lines) old a (Ok outline)) where
+    -- what the outline is, and what it keeps to
+    at_outline : {new : Reader} (r : Result Model Fault)
+        → ((o : parts.Outline) → Sound o → outline ≡ hold_outline o → Reads (kept hold_model (behind_outline a.src.now o a.at)) a new r)
+        → Reads (kept hold_model plant) old new r
+    at_outline r next =
+        rw (plant_parts old.src.now old.at)
+        (followed hold_outline hold_model outline_lines behind_outline outline r first
+        (λ o is held. next o (outline_sound old.src.now old.at o a.at is) held))
 
-    module _ (b : System)
-        (second : b
-        ≡ system_of (read_system a.nets a.places (λ t. monotonous a.nets a.places (nth a.types) (nth t.pre) (nth t.post)) s x₁)) where
-      second_is : b ≡ system_of (read_system o.value.nets o.value.places (kept o.value) s x₁)
-      second_is = second ∙ ap system_of (system_exact o.value sound a a_held s x₁)
+    pub outline_fits : (outline.nets ≤ 8) × (outline.places ≤ 32)
+    outline_fits =
+        let q = read_of hold_outline outline_lines outline first in
+        let z = outline_sound old.src.now old.at q.value a.at q.is in
+        rw q.held (z.nets, z.places)
 
-      system_end : b.ended ≡ ended_of (read_system o.value.nets o.value.places (kept o.value) s x₁)
-      unfolding system_of
-      system_end = ap (λ (x : System). x.ended) second_is
+    abbrev begun : Model
+    begun = with_outline outline
 
-      pub system_refused : (d : Fault) → b.ended ≡ Stopped d → record { ended = b.ended; model = no_model } ≡ reading_of (read_plant s at)
-      system_refused d e = reading_bad _ _ d e (system_stops s at o.value x₁ o.is d (bad_of _ b.ended d system_end e))
+    abbrev system_lines : Outcome parts.System
+    system_lines = read_system begun.nets begun.places (test begun) a.src.now a.at
 
-      module _ (x₂ : ℕ) (past₂ : b.ended ≡ Past x₂) (f : Frame) (f-is : f ≡ frame_from a b) where
-        y : Got (read_system o.value.nets o.value.places (kept o.value) s x₁) x₂
-        y = got_of _ b.ended x₂ system_end past₂
+    -- the same lines, by the test of what was read
+    exact : (o : parts.Outline) → Sound o → outline ≡ hold_outline o → system_lines ≡ read_system o.nets o.places (types_kept o) a.src.now a.at
+    exact o sound held = rw held (system_exact o sound a.src.now a.at)
 
-        bounded : Bounded o.value.nets y.value
-        bounded = system_bounded o.value.nets o.value.places (kept o.value) s x₁ y.value x₂ y.is
+    pub system_refused : {new : Reader} (e : Fault) → Reads (kept (with_system begun) system_lines) a new (Err e) → Reads (kept hold_model plant) old new (Err e)
+    system_refused e k =
+        at_outline (Err e)
+        (λ o sound held.
+        first_refused (with_system begun) hold_model (read_system o.nets o.places (types_kept o) a.src.now a.at) (behind_system o) e
+        (rw (exact o sound held) at k))
 
-        b_held : SystemHeld b y.value
-        b_held = system_held _ b y.value x₂ second_is y.is
+    module _ {b : Reader} (m : Model) (second : Reads (kept (with_system begun) system_lines) a b (Ok m)) where
+      -- what the system is, and what it keeps to
+      at_system : {new : Reader} (r : Result Model Fault)
+          → ((o : parts.Outline) (sound : Sound o) (y : parts.System) (bounded : Bounded o.nets y) → m ≡ held o sound y bounded
+          → Reads (kept hold_model (behind_system o b.src.now y b.at)) b new r)
+          → Reads (kept hold_model plant) old new r
+      at_system r next =
+          at_outline r
+          (λ o sound held.
+          followed (with_system begun) hold_model (read_system o.nets o.places (types_kept o) a.src.now a.at) (behind_system o) m r
+          (rw (exact o sound held) at second)
+          (λ y is k. next o sound y (system_bounded o.nets o.places (types_kept o) a.src.now a.at y b.at is) (k ∙ ap (λ (x : Outline). with_system (with_outline x) y) held)))
 
-        pub fits : Fitting f
-        fits = rw f-is (frame_fits o.value sound a a_held y.value bounded b b_held)
+      -- the events depend on what is held
+      pub fits : Fitting m
+      fits =
+          let q = read_of hold_outline outline_lines outline first in
+          let sound = outline_sound old.src.now old.at q.value a.at q.is in
+          let r = read_of (with_system begun) system_lines m second in
+          let e = exact q.value sound q.held in
+          let bounded = system_bounded q.value.nets q.value.places (types_kept q.value) a.src.now a.at r.value b.at (sym e ∙ r.is) in
+          rw (r.held ∙ ap (λ (x : Outline). with_system (with_outline x) r.value) q.held) (frame_fits q.value sound r.value bounded)
 
-        module _ (c : Listed) (third : c ≡ listed_of (read_listed (as_frame f) s x₂)) where
-          third_is : c ≡ listed_of (read_listed (frame_of (eventless o.value.types y.value.moves y.value.nets)) s x₂)
-          third_is =
-              third
-              ∙ ap (λ (g : rules.Frame). listed_of (read_listed g s x₂)) (ap as_frame f-is ∙ frame_exact o.value sound a a_held y.value bounded b b_held)
+      pub eventless_yet : m.events ≡ replicate 64 no_event
+      eventless_yet = let r = read_of (with_system begun) system_lines m second in ap (λ (x : Model). x.events) r.held
 
-          listed_end : c.ended ≡ ended_of (read_listed (frame_of (eventless o.value.types y.value.moves y.value.nets)) s x₂)
-          unfolding listed_of
-          listed_end = ap (λ (x : Listed). x.ended) third_is
+      abbrev listed_line : Outcome ℕ
+      listed_line = read_number (bytes "events=") (in_range 0 64) b.src.now b.at
 
-          pub listed-refused : (d : Fault) → c.ended ≡ Stopped d → record { ended = c.ended; model = no_model } ≡ reading_of (read_plant s at)
-          listed-refused d e =
-              reading_bad _ _ d e (events_stop s at o.value x₁ o.is y.value x₂ y.is d (bad_of _ c.ended d listed_end e))
+      abbrev event_lines : Text → ℕ → ℕ → Outcome (List eos.Event)
+      event_lines s n x = many (read_event (frame_in m) s) n x
 
-          pub plant_read : (x₃ : ℕ) → c.ended ≡ Past x₃ → (m : Model) → m ≡ joined a b c → record { ended = Past x₃; model = m } ≡ reading_of (read_plant s at)
-          plant_read x₃ e m m-is =
-              let l = got_of _ c.ended x₃ listed_end e in
-              reading_got _ (whole o.value y.value l.value) m x₃ (plant-is s at o.value x₁ o.is y.value x₂ y.is l.value x₃ l.is)
-              (m-is ∙ model-held o.value sound a a_held y.value bounded b b_held l.value c (listed-held _ c l.value x₃ third_is l.is))
+      -- the number of events and their lines, by what is held
+      listed_exact : (o : parts.Outline) (sound : Sound o) (y : parts.System) (bounded : Bounded o.nets y) → m ≡ held o sound y bounded
+          → read_listed (frame_of (eventless o.types y.moves y.nets)) b.src.now b.at ≡ then listed_line (event_lines b.src.now)
+      unfolding read_listed
+      listed_exact o sound y bounded is =
+          ap (λ (f : Frame). then listed_line (λ n x. many (read_event f b.src.now) n x)) (sym (ap frame_in is ∙ frame_exact o sound y bounded))
+
+      -- what is read of them is held beside the rest
+      at_listed : {new : Reader} (r : Result Model Fault) → Reads (kept (with_events m) (then listed_line (event_lines b.src.now))) b new r → Reads (kept hold_model plant) old new r
+      at_listed {new} r k =
+          at_system r
+          (λ o sound y bounded is. made o sound y bounded is r (rw (sym (listed_exact o sound y bounded is)) at k))
+        where
+          made : (o : parts.Outline) (sound : Sound o) (y : parts.System) (bounded : Bounded o.nets y) → m ≡ held o sound y bounded → (r : Result Model Fault)
+              → Reads (kept (with_events m) (read_listed (frame_of (eventless o.types y.moves y.nets)) b.src.now b.at)) b new r
+              → Reads (kept hold_model (behind_system o b.src.now y b.at)) b new r
+          made o sound y bounded is (Err e) k =
+              first_refused (with_events m) hold_model (read_listed (frame_of (eventless o.types y.moves y.nets)) b.src.now b.at) (λ _. behind_listed o y) e k
+          made o sound y bounded is (Ok t) k =
+              followed (with_events m) hold_model (read_listed (frame_of (eventless o.types y.moves y.nets)) b.src.now b.at) (λ _. behind_listed o y) t (Ok t) k
+              (λ l got is'.
+              subst (λ (x : Model). Reads (kept hold_model (behind_listed o y l new.at)) new new (Ok x))
+              (sym (is' ∙ ap (λ (x : Model). with_events x l) is ∙ model-held o sound y bounded l))
+              (passes hold_model (behind_listed o y l new.at) (whole o y l) refl refl))
+
+      pub listed_refused : {new : Reader} (e : Fault) → Reads listed_line b new (Err e) → Reads (kept hold_model plant) old new (Err e)
+      listed_refused e k = at_listed (Err e) (first_refused itself (with_events m) listed_line event_lines e (plainly k))
+
+      module _ {c : Reader} (n : ℕ) (third : Reads listed_line b c (Ok n)) where
+        pub listed_few : n ≤ 64
+        listed_few = let q = read_of itself listed_line n (plainly third) in omega (arith, q.held, (number_in (bytes "events=") 0 64 b.src.now b.at q.value c.at q.is).1)
+
+        pub events_read : {new : Reader} (r : Result Model Fault) → Reads (kept (with_events m) (many (read_event (frame_in m) c.src.now) n c.at)) c new r
+            → Reads (kept hold_model plant) old new r
+        events_read r k = at_listed r (followed itself (with_events m) listed_line event_lines n r (plainly third) (λ v is same. rw (← same) k))

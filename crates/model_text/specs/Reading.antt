@@ -5,13 +5,14 @@ use Rattle.text.specs.Lines.{Outcome, got, then, need, many, in_range, read_numb
 use Rattle.text.specs.Repeat.{many_at}
 use Rattle.eos.specs.Model.{Transition, ObjectNet, Act, move, idle, Event, Model}
 use Rattle.model.specs.Rules.{byte, Frame, frame_of, keeps_types, own_net, takes_part}
+use Rattle.text.specs.declared.Cause.TheVariants.{Typing, Idling}
 
 -- the lines `pre` and `post` of a transition between `size` places; what is not fine is 4 at its `post` line
 unfoldable pub read_sides : ℕ → (Transition → Bool) → Text → ℕ → Outcome Transition
 read_sides size fine s at =
     then (read_list (bytes "pre=") size byte s at) λ p x₁.
     then (read_list (bytes "post=") size byte s x₁) λ q x₂.
-    need (fine (record { pre = p; post = q })) 4 x₁ (got (record { pre = p; post = q }) x₂)
+    need (fine (record { pre = p; post = q })) Typing x₁ (got (record { pre = p; post = q }) x₂)
 
 unfoldable pub read_net : Text → ℕ → Outcome ObjectNet
 read_net s at =
@@ -21,7 +22,7 @@ read_net s at =
 
 -- `idle=` and a place, which is no place of black tokens (5), or `event=` and a move; both are numbered from 1
 unfoldable pub read_idle : Frame → Text → ℕ → Outcome Act
-read_idle f s at = then (read_number (bytes "idle=") (in_range 1 f.places) s at) λ p x. need (leb 1 (f.type (pred p))) 5 at (got (idle (pred p)) x)
+read_idle f s at = then (read_number (bytes "idle=") (in_range 1 f.places) s at) λ p x. need (leb 1 (f.type (pred p))) Idling at (got (idle (pred p)) x)
 
 unfoldable pub read_move : Frame → Text → ℕ → Outcome Act
 read_move f s at = then (read_number (bytes "event=") (in_range 1 f.moves) s at) λ k x. got (move (pred k)) x
@@ -31,7 +32,7 @@ read_act f s at = elim (starts (bytes "idle=") (drop at s)) [ true ↦ read_idle
 
 -- the counts of net n; 5 where the idling net does not take part, or another does
 unfoldable pub read_sync : Frame → ℕ → Text → ℕ → ℕ → Outcome (List ℕ)
-read_sync f own s n at = then (read_list (bytes "sync=") (f.steps n) byte s at) λ v x. need (takes_part own n v) 5 at (got v x)
+read_sync f own s n at = then (read_list (bytes "sync=") (f.steps n) byte s at) λ v x. need (takes_part own n v) Idling at (got v x)
 
 unfoldable pub read_event : Frame → Text → ℕ → Outcome Event
 read_event f s at =

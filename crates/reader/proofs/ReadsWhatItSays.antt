@@ -24,6 +24,7 @@ use Rattle.marking.specs.Printed.{marking_text}
 use Rattle.marking.proofs.BlockExactly.{block_exactly}
 use Rattle.reader.specs.Reading.{bounds, Loaded, read_end, read_lines, read_model, read_marking, right_loaded, read_model_at}
 use Rattle.reader.specs.Printed.{model_text}
+use Rattle.text.specs.declared.Cause.TheVariants.{Syntax}
 
 -- ---- a text, whole
 
@@ -33,7 +34,7 @@ module _ {A : Type 0} where
   unfolding read_end
   ended o s a next e =
       let p = then-got o (read_end s) a next e in
-      let q = need-got (leb (length s) p.next) 2 p.next (got p.value p.next) a next p.rest in
+      let q = need-got (leb (length s) p.next) Syntax p.next (got p.value p.next) a next p.rest in
       let k = got-is q.1 in
       (p.first ∙ rw (k.0, k.1), leb-true (length s) next (rw k.1 at q.0))
 
@@ -56,7 +57,7 @@ unfolding read_lines model_text right_loaded marking_text need
 lines_exactly s =
     exactly_by
     (first_makes (plant_exactly s)
-    (λ m. last_makes (block_exactly bounds (sizes_of m) s (bytes "start=")) (λ μ. true) 0 (λ μ. record { model = m; start = μ }) (λ l. l.start) (λ μ h. refl))
+    (λ m. last_makes (block_exactly bounds (sizes_of m) s (bytes "start=")) (λ μ. true) Syntax (λ μ. record { model = m; start = μ }) (λ l. l.start) (λ μ h. refl))
     (λ l. l.model) (λ m l h r. ap (λ (l : Loaded). l.model) r.2))
     (λ l h. and_both (right_model l.model) _ h.0 h.1.0)
     (λ l h. let p = and_true (right_model l.model) _ h in (p.0, (p.1, refl, refl)))

@@ -33,16 +33,17 @@ use Rattle.reader.specs.Answers.{loaded, model_reading, restored, marking_or, ma
 use Rattle.reader.specs.declared.ReadAnswer.TheVariants.{Accepted, TooLong, NotHeld, Faulty}
 use Rattle.reader.specs.Printed.{model_text}
 use Rattle.reader.proofs.ReadsWhatItSays.{lines_exactly}
+use Rattle.text.specs.declared.Cause.TheVariants.{Syntax}
 
 module _ (s : Text) where
   -- at the end of the lines: 2, where bytes stand behind them
   abbrev pub EndFaults : ℕ → Fault → Type 0
-  EndFaults at e = (e ≡ fault 2 at) × (at < length s)
+  EndFaults at e = (e ≡ fault Syntax at) × (at < length s)
 
   pub end_refuses : {A : Type 0} (a : A) → Refuses (read_end s a) EndFaults
   unfolding read_end need
   end_refuses a = record {
-    back = λ at e h. let n = need-bad (leb (length s) at) 2 at a at e h in (n.1, leb-false (length s) at n.0);
+    back = λ at e h. let n = need-bad (leb (length s) at) Syntax at a at e h in (n.1, leb-false (length s) at n.0);
     forth = λ at e h.
         by_test (leb (length s) at)
         (λ k. absurd (omega (arith, leb-true (length s) at k, h.1)))

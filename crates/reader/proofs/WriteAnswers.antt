@@ -16,14 +16,15 @@ use Rattle.text.proofs.LaidLaws.{lay-whole, lay-short}
 use Rattle.model.specs.Limits.{room_limit}
 use Rattle.model.specs.Test.{held_model}
 use Rattle.model.specs.declared.Model.{Model}
-use Rattle.marking.specs.Held.{sizes_at, Roomy, tokens_of, held_marking}
+use Rattle.marking.specs.Held.{as_sizes, Roomy, tokens_of, held_marking}
 use Rattle.marking.specs.Printed.{marking_text}
 use Rattle.marking.specs.declared.Marking.{Marking}
-use Rattle.marking.specs.Sizes.{sizes_in}
+use Rattle.marking.specs.Sizes.{place_sizes}
+use Rattle.marking.specs.declared.PlaceSizes.{PlaceSizes}
 use Rattle.reader.specs.Answers.{held_both, written_as, Answered, lay_whole, marking_writing, held_in}
 use Rattle.reader.specs.declared.WriteAnswer.{WriteAnswer}
 use Rattle.reader.specs.declared.WriteAnswer.TheVariants.{Written, Unheld, TooSmall}
-use Rattle.reader.proofs.ReadingLaws.{roomy_of}
+use Rattle.reader.proofs.ReadingLaws.{sizes_roomy}
 
 -- ---- a text laid from the first byte on
 
@@ -49,9 +50,9 @@ module _ (text : Text) (out : List ℕ) where
 
 module _ (m : Model) (k : Marking) where
   -- what the writer of a marking asks
-  pub write_asks : held_both m k ≡ true → (z : List ℕ) → z ≡ sizes_in m → (held_marking room_limit (sizes_at m.places z) k ≡ true) × Roomy (sizes_at m.places z)
+  pub write_asks : held_both m k ≡ true → (z : PlaceSizes) → z ≡ place_sizes m → (held_marking room_limit (as_sizes z) k ≡ true) × Roomy (as_sizes z)
   unfolding held_in
-  write_asks h z e = let p = and_true (held_model m) _ h in (rw e p.1, roomy_of m p.0 z e)
+  write_asks h z e = let p = and_true (held_model m) _ h in (rw e p.1, sizes_roomy m p.0 z e)
 
   module _ (out : List ℕ) where
     -- the two are not held
@@ -60,11 +61,11 @@ module _ (m : Model) (k : Marking) where
     write_unheld h = rw (h, marking_writing)
 
     -- the writer of a marking was called
-    pub write_laid : held_both m k ≡ true → (z : List ℕ) → z ≡ sizes_in m → (w : Result ℕ small.TooSmall) (a : WriteAnswer) (after : List ℕ) → a ≡ written_as w
-        → record { answer = w; bytes = after } ≡ lay (marking_text (tokens_of (sizes_at m.places z) k)) out 0
+    pub write_laid : held_both m k ≡ true → (z : PlaceSizes) → z ≡ place_sizes m → (w : Result ℕ small.TooSmall) (a : WriteAnswer) (after : List ℕ) → a ≡ written_as w
+        → record { answer = w; bytes = after } ≡ lay (marking_text (tokens_of (as_sizes z) k)) out 0
         → record { answer = a; bytes = after } ≡ marking_writing m k out
     unfolding marking_writing
     write_laid h z e w a after f l =
-        let text = marking_text (tokens_of (sizes_at m.places z) k) in
+        let text = marking_text (tokens_of (as_sizes z) k) in
         let s : lay_whole text out ≡ marking_writing m k out = rw (h, marking_writing, e) in
         whole_as text out w a after f l ∙ s

@@ -1,7 +1,7 @@
 -- What the calls of this crate answer and leave in lent memory, for every input; and the numbers of 01's table for each answer.
 use Rattle.std.specs.Prelude.{ℕ, Bool, true, false, ◌&&◌, List, leb, length, Result, Ok, Err}
 use Rattle.text.specs.Bytes.{Text}
-use Rattle.text.specs.Lines.{Outcome, got, bad, spot_of}
+use Rattle.text.specs.Lines.{Outcome, got, bad, spot_of, cause_number}
 use Rattle.text.specs.Writing.{lay}
 use Rattle.text.specs.declared.Fault.{Fault}
 use Rattle.text.specs.declared.TooSmall as small
@@ -32,7 +32,7 @@ abbrev pub read_pair : ReadAnswer → Refusal
 read_pair Accepted = pair 0 0
 read_pair TooLong = pair 1 0
 read_pair NotHeld = pair 14 0
-read_pair (Faulty e) = pair e.why e.line
+read_pair (Faulty e) = pair (cause_number e.cause) e.line
 
 abbrev pub write_pair : WriteAnswer → Refusal
 write_pair (Written n) = pair 0 0

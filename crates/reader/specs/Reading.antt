@@ -2,6 +2,7 @@
 use Rattle.std.specs.Prelude.{ℕ, Bool, ◌&&◌, leb, length}
 use Rattle.text.specs.Bytes.{Text, bytes}
 use Rattle.text.specs.Lines.{Outcome, got, then, need}
+use Rattle.text.specs.declared.Cause.TheVariants.{Syntax}
 use Rattle.eos.specs.Model as eos
 use Rattle.model.specs.Limits.{line_limit, count_limit}
 use Rattle.model.specs.Rules.{right_model}
@@ -19,7 +20,7 @@ pub record Loaded : Type 0 where
 
 -- nothing stands after the last line
 unfoldable pub read_end : {A : Type 0} → Text → A → ℕ → Outcome A
-read_end s a at = need (leb (length s) at) 2 at (got a at)
+read_end s a at = need (leb (length s) at) Syntax at (got a at)
 
 -- the lines of the model, and those of its start
 unfoldable pub read_lines : Text → ℕ → Outcome Loaded

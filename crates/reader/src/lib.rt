@@ -3,15 +3,14 @@
 
 ghost use Rattle.std.specs.Prelude.{◌≡◌};
 ghost use Rattle.model.specs.Test.{held_model};
-ghost use Rattle.reader.specs.Parts.{answer_of};
-ghost use Rattle.reader.specs.Answers.{no_reading, model_reading, no_tokens, marking_reading, held_both, written_as, marking_writing};
+ghost use Rattle.reader.specs.Answers.{faulty, no_reading, model_reading, no_tokens, marking_reading, held_both, written_as, marking_writing};
 
-use lines::{marking_lines, model_lines, place_sizes};
+use lines::{marking_lines, model_lines};
 use marking::Marking;
-use marking_test::sizes;
+use marking_test::place_sizes;
 use marking_write::write;
 use model::Model;
-use text::{Ended, Spot, TooSmall};
+use text::{Fault, Spot, TooSmall};
 use text_scan::spot_of;
 
 mod lines;
@@ -40,21 +39,6 @@ pub struct MarkingReading {
     pub marking: Marking,
 }
 
-// How the reading of a model's lines and of its start's ended, and what was read; refused, the empty model and no net-token.
-#[derive(Clone, Copy)]
-pub struct ModelLines {
-    pub ended: Ended,
-    pub model: Model,
-    pub start: Marking,
-}
-
-// How many places there are, and how many counts the net-tokens of each have.
-#[derive(Clone, Copy)]
-pub struct PlaceSizes {
-    pub places: u16,
-    pub sizes: [u8; 32],
-}
-
 // How writing a text into lent bytes ended.
 #[derive(Clone, Copy)]
 pub enum WriteAnswer {
@@ -63,13 +47,10 @@ pub enum WriteAnswer {
     TooSmall { needed: usize },
 }
 
-// The answer for how the lines of a text ended: a fault is named by its line.
-fn answer_of(s: &[u8], ended: Ended) -> ReadAnswer
-    ensures { result ≡ answer_of s.now ended }
+// The answer for a fault, which is named by its line.
+fn faulty(s: &[u8], fault: Fault) -> ReadAnswer
+    ensures { result ≡ faulty s.now fault }
 {
-    let Ended::Stopped { fault } = ended else {
-        return ReadAnswer::Accepted;
-    };
     ReadAnswer::Faulty {
         spot: spot_of(s, fault),
     }
@@ -95,12 +76,13 @@ pub fn read_model(s: &[u8]) -> ModelReading
     if Model::LONGEST < s.len() {
         return no_reading(ReadAnswer::TooLong);
     }
-    let lines = model_lines(s);
-    let ended = lines.ended;
-    let model = lines.model;
-    let start = lines.start;
+    let mut model = Model::empty();
+    let mut start = Marking::empty();
+    if let Err(fault) = model_lines(s, &mut model, &mut start) {
+        return no_reading(faulty(s, fault));
+    }
     ModelReading {
-        answer: answer_of(s, ended),
+        answer: ReadAnswer::Accepted,
         model,
         start,
     }
@@ -115,20 +97,21 @@ fn no_tokens(answer: ReadAnswer) -> MarkingReading
 }
 
 // Reads the text of a marking of a held model.
-pub fn read_marking(m: Model, s: &[u8]) -> MarkingReading
-    ensures { result ≡ marking_reading m s.now }
+pub fn read_marking(m: &Model, s: &[u8]) -> MarkingReading
+    ensures { result ≡ marking_reading m.now s.now }
 {
     if Model::LONGEST < s.len() {
         return no_tokens(ReadAnswer::TooLong);
     }
-    if !model_test::is_held(&m) {
+    if !model_test::is_held(m) {
         return no_tokens(ReadAnswer::NotHeld);
     }
-    let lines = marking_lines(place_sizes(m), s);
-    let ended = lines.ended;
-    let marking = lines.marking;
+    let mut marking = Marking::empty();
+    if let Err(fault) = marking_lines(s, &place_sizes(m), &mut marking) {
+        return no_tokens(faulty(s, fault));
+    }
     MarkingReading {
-        answer: answer_of(s, ended),
+        answer: ReadAnswer::Accepted,
         marking,
     }
 }
@@ -141,13 +124,13 @@ pub fn test_model(m: &Model) -> bool
 }
 
 // Whether m is held as a model is, and k as a marking of it.
-pub fn test_marking(m: &Model, k: Marking) -> bool
-    ensures { result ≡ held_both m.now k }
+pub fn test_marking(m: &Model, k: &Marking) -> bool
+    ensures { result ≡ held_both m.now k.now }
 {
     if !model_test::is_held(m) {
         return false;
     }
-    marking_test::is_held(k, m.places as u16, sizes(*m))
+    marking_test::is_held(k, &place_sizes(m))
 }
 
 // The answer for how the writing of a text ended.
@@ -161,11 +144,11 @@ fn written_as(wrote: Result<usize, TooSmall>) -> WriteAnswer
 }
 
 // Writes the text of a held marking of a held model: whole, or no byte of it.
-pub fn write_marking(m: Model, k: Marking, out: &mut [u8]) -> WriteAnswer
-    ensures { record { answer = result; bytes = out.new } ≡ marking_writing m k out.old }
+pub fn write_marking(m: &Model, k: &Marking, out: &mut [u8]) -> WriteAnswer
+    ensures { record { answer = result; bytes = out.new } ≡ marking_writing m.now k.now out.old }
 {
-    if !test_marking(&m, k) {
+    if !test_marking(m, k) {
         return WriteAnswer::Unheld;
     }
-    written_as(write(k, m.places as u16, sizes(m), b"start=", out, 0))
+    written_as(write(k, &place_sizes(m), b"start=", out, 0))
 }

@@ -16,14 +16,13 @@ use Rattle.eos.proofs.OrderLaws.{sort_again}
 use Rattle.eos.proofs.FiringLaws.{token_order, fires_yes}
 use Rattle.eos.proofs.CauseLaws.{no_cause_fires}
 use Rattle.model.specs.Limits.{room_limit}
-use Rattle.marking.proofs.RowLaws.{laid-long}
+use Rattle.marking.proofs.KeptLaws.{laid-long}
 use Rattle.model.specs.Held.{model_of}
 use Rattle.model.specs.Test.{held_model}
 use Rattle.model.specs.declared.Model.{Model}
-use Rattle.marking.specs.Held.{token_row, hold_marking, tokens_of}
+use Rattle.marking.specs.Held.{hold_token, hold_marking, tokens_of}
 use Rattle.marking.specs.Reading.{free, right_net_token}
 use Rattle.marking.specs.declared.Marking.{Marking}
-use Rattle.marking.proofs.RowOrder.{rows_wide}
 use Rattle.marking.proofs.HoldMarking.{ordered-held}
 use Rattle.reader.specs.Reading.{bounds}
 use Rattle.marking.specs.Sizes.{sizes_for}
@@ -38,10 +37,10 @@ use Rattle.runner.proofs.RuledLaws.{RightStep}
 use Rattle.runner.proofs.StepAnswers.{both_stands}
 use Rattle.runner.proofs.LeavesLaws.{step_hands_on}
 
--- a held marking, in an array of 8,448 numbers
+-- a held marking, in an array of 256 net-tokens
 pub record Keeps (m : Model) (k : Marking) : Type 0 where
   pub held : held_both m k ≡ true
-  pub long : length k.rows ≡ 8448
+  pub long : length k.tokens ≡ room_limit
 
 module _ (m : Model) (k : Marking) (kept : Keeps m k) where
   abbrev μ : eos.Marking
@@ -62,7 +61,7 @@ module _ (m : Model) (k : Marking) (kept : Keeps m k) where
       let right = after-every (right_net_token free z) t μ (fires_yes (model_of m) t μ f.0).1 st.right (any_range bounds z t.given r.given) in
       record {
         held = and_both (held_model m) _ model (ordered-held z (held_roomy m model) free ν few (sort_again eos.before token_order (after t μ)) right);
-        long = laid-long (map token_row ν) (rows_wide ν) (omega (arith, length-map ν token_row));
+        long = laid-long (map hold_token ν) (omega (arith, length-map ν hold_token));
       }
 
   pub step_keeps : (s : Text) → Keeps m (held_step room_limit m k s).marking

@@ -1,25 +1,21 @@
--- A step that was read is judged on its rows, and changes those of the marking, as the theory says of its net-tokens.
-use Prim.Native.Nat.{ℕ, ◌+◌, ◌-◌, ◌≤◌, ◌<◌}
+-- A step that was read is judged on its net-tokens as they are held, and changes the marking, as the theory says.
+use Prim.Native.Nat.{ℕ, ◌≤◌, ◌<◌}
 use mathlib.Core.Path.{◌≡◌, refl, ap, subst, ◌∙◌}
 use mathlib.Core.List.{List, ◌++◌, map}
 use mathlib.Core.Bool.{true}
 use mathlib.Core.Option.{Option, none, some}
-use native.Mathlib.Omega.{arith}
 use lib.Dec.{T, leb, ltb}
-use lib.ListN.{length, length-append, length-map}
+use lib.ListN.{length}
 use borrow.Author.Tests.{ltb-true, leb-true}
 use Rattle.text.specs.Bytes.{Text}
 use Rattle.text.proofs.Basics.{and_true}
 use Rattle.text.specs.Lines.{got, every}
-use Rattle.eos.specs.Vector.{eq_v, lex_v}
 use Rattle.eos.specs.Multiset as M
 use Rattle.eos.specs.Model as eos
 use Rattle.eos.specs.Firing.{Step, StepOf, after}
-use Rattle.eos.specs.Causes.{Cause, first, refusal}
-use Rattle.eos.proofs.MultisetLaws.{length-less}
-use Rattle.eos.proofs.FiringLaws.{alike, fires_yes}
-use Rattle.eos.proofs.CauseLaws.{no_cause_fires}
-use Rattle.marking.specs.Rows.{Row, rows_in, laid}
+use Rattle.eos.specs.Causes.{Cause, taking, giving, short, unequal, missing, crowded, first, refusal}
+use Rattle.marking.specs.Tokens.{like, before, holding, tokens_in}
+use Rattle.marking.specs.declared.NetToken.{NetToken}
 use Rattle.model.specs.Rules.{right_model}
 use Rattle.model.specs.Held.{SizedModel, model_of}
 use Rattle.model.specs.Test.{held_model}
@@ -28,12 +24,11 @@ use Rattle.model.proofs.SlotLaws.{length-listed}
 use Rattle.model.proofs.HeldTests.{held-is}
 use Rattle.model.proofs.HeldBack.{held_again}
 use Rattle.model.proofs.HeldRight.{held_right}
-use Rattle.marking.specs.Held.{Sizes, sizes_of, token_row, hold_marking, tokens_of}
+use Rattle.marking.specs.Held.{Sizes, sizes_of, hold_token, hold_marking, tokens_of}
 use Rattle.marking.specs.Reading.{Limits, free, right_net_token, right_block}
 use Rattle.marking.specs.declared.Marking.{Marking}
 use Rattle.marking.proofs.HoldMarking.{all_right}
 use Rattle.reader.specs.Reading.{bounds}
-use Rattle.reader.proofs.HeldExactly.{length-canonical}
 use Rattle.marking.specs.Sizes.{sizes_for}
 use Rattle.marking.proofs.SizeLaws.{held_roomy, sizes_same}
 use Rattle.step.specs.Rule.{hold_rule}
@@ -41,14 +36,14 @@ use Rattle.step.specs.declared.Rule.{Rule}
 use Rattle.step.specs.Reading.{read_step, right_step}
 use Rattle.step.proofs.StepExactly.{step_exactly}
 use Rattle.step.proofs.ChangeLaws.{change_is}
-use Rattle.step.specs.Verdict.{has_room, causes_in, verdict_of}
+use Rattle.step.specs.Verdict.{has_room, causes_in, cause_pair, cause_of, number_of, verdict_of}
 use Rattle.step.specs.VerdictParts.{Sound, Placed}
 use Rattle.step.proofs.CausesAre.{causes_are}
-use Rattle.step.proofs.SoundLaws.{sound_rule, placed-rows, proper_read}
-use Rattle.runner.specs.declared.StepAnswer.TheVariants.{Fired}
-use Rattle.runner.specs.Answers.{step_judged, stepped}
-use Rattle.runner.specs.Parts.{ruled}
-use Rattle.runner.proofs.StandsLaws.{Stands, stands_long, stands_all}
+use Rattle.step.proofs.SoundLaws.{sound_rule, placed-held, proper_read}
+use Rattle.runner.specs.declared.StepAnswer.TheVariants.{Fired, Turned}
+use Rattle.runner.specs.Answers.{step_judged, stays, stepped}
+use Rattle.runner.specs.Parts.{changed, ruled}
+use Rattle.runner.proofs.StandsLaws.{Stands, stands_all}
 
 -- ---- a step that was read
 
@@ -75,18 +70,14 @@ read_right z events s t next e =
       given = b.1;
     }
 
--- ---- how many net-tokens there are
-
--- after a step whose net-tokens are in the marking
-pub after-long : (t : Step) (μ : eos.Marking) → M.Within eos.like t.taken μ
-    → length (eos.canonical (after t μ)) ≡ length μ - length t.taken + length t.given
-after-long t μ w =
-    omega (
-      arith,
-      length-canonical (after t μ),
-      length-append (M.less eos.like μ t.taken) t.given,
-      length-less eos.like alike t.taken μ w,
-    )
+-- ---- a cause as the code says it has the number that the table gives it
+numbered_as : (lines : ℕ) (c : Cause) → number_of (cause_of c) ≡ (cause_pair lines c).number
+numbered_as lines taking = refl
+numbered_as lines giving = refl
+numbered_as lines (short n) = refl
+numbered_as lines (unequal n) = refl
+numbered_as lines (missing i) = refl
+numbered_as lines crowded = refl
 
 -- ---- on a held model
 module _ (m : Model) (sized : SizedModel m) (held : held_model m ≡ true) where
@@ -103,10 +94,10 @@ module _ (m : Model) (sized : SizedModel m) (held : held_model m ≡ true) where
   proper_of : (lim : Limits) (ts : eos.Marking) → every (right_net_token lim (sizes_for m)) ts ≡ true → T (M.every (eos.proper (model_of m)) ts)
   proper_of lim ts h = proper_read lim (model_of m) ts (subst (λ (z : Sizes). every (right_net_token lim z) ts ≡ true) sizes_are_lem h)
 
-  -- net-tokens that were read, in the first rows of an array
-  pub rows-placed : (ts : eos.Marking) → every (right_net_token bounds (sizes_for m)) ts ≡ true → length ts ≤ 256 → (n : ℕ) (l : List ℕ)
-      → n ≡ length ts → length l ≡ 8448 → rows_in n l ≡ map token_row ts → Placed n l
-  rows-placed ts h few n l e long is = placed-rows (model_of m) model_right ts (proper_of bounds ts h) n l (omega arith) long is
+  -- net-tokens that were read
+  pub read_placed : (ts : eos.Marking) → every (right_net_token bounds (sizes_for m)) ts ≡ true → length ts ≤ 256 → (l : List NetToken)
+      → l ≡ map hold_token ts → Placed l
+  read_placed ts h few l is = rw is (placed-held (model_of m) model_right ts (proper_of bounds ts h) few)
 
   module _ (t : Step) (r : RightStep (sizes_for m) m.listed t) where
     step_of : StepOf (model_of m) t
@@ -119,35 +110,32 @@ module _ (m : Model) (sized : SizedModel m) (held : held_model m ≡ true) where
       abbrev μ : eos.Marking
       μ = tokens_of (sizes_for m) k
 
-      abbrev taken : List Row
-      taken = map token_row t.taken
+      abbrev taken : List NetToken
+      taken = map hold_token t.taken
 
-      abbrev given : List Row
-      given = map token_row t.given
+      abbrev given : List NetToken
+      given = map hold_token t.given
 
-      -- the verdict on the rows is that of the theory
-      cause_same : first (causes_in room (hold_rule (model_of m) t.event) taken given (rows_in k.len k.rows)) ≡ refusal (has_room room) (model_of m) t μ
+      -- the verdict on them is that of the theory
+      cause_same : first (causes_in room (hold_rule (model_of m) t.event) taken given (tokens_in k)) ≡ refusal (has_room room) (model_of m) t μ
       cause_same =
-          ap (λ (rs : List Row). first (causes_in room (hold_rule (model_of m) t.event) taken given rs)) st.rows_are
+          ap (λ (ts : List NetToken). first (causes_in room (hold_rule (model_of m) t.event) taken given ts)) st.held_are
           ∙ causes_are (model_of m) model_right t step_of room μ (proper_of free μ st.right)
 
-      -- and so are the rows after it
-      change_same : (next : ℕ) (o : Option Cause) → refusal (has_room room) (model_of m) t μ ≡ o
-          → ruled next k taken given (verdict_of (length t.taken) o) ≡ stepped k (step_judged μ t next o)
-      unfolding ruled verdict_of step_judged stepped hold_marking
-      change_same next none e =
+      -- and so is the marking after it
+      change_same : changed k taken given ≡ hold_marking (eos.canonical (after t μ))
+      change_same =
           let roomy = held_roomy m held in
-          let w = (fires_yes (model_of m) t μ (no_cause_fires (has_room room) (model_of m) t μ e).0).1 in
-          let n : k.len - length taken + length given ≡ length (eos.canonical (after t μ)) =
-          omega (arith, after-long t μ w, stands_long (sizes_for m) k st, length-map t.taken token_row, length-map t.given token_row) in
-          let rows : laid (M.sort lex_v (M.less eq_v (rows_in k.len k.rows) taken ++ given)) ≡ laid (map token_row (eos.canonical (after t μ))) =
-          ap (λ (rs : List Row). laid (M.sort lex_v (M.less eq_v rs taken ++ given))) st.rows_are
+          ap (λ (ts : List NetToken). holding (M.sort before (M.less like ts taken ++ given))) st.held_are
           ∙ change_is (sizes_for m) t.event μ t.taken t.given (stands_all (sizes_for m) k st roomy)
-          (all_right bounds (sizes_for m) roomy t.taken r.taken) (all_right bounds (sizes_for m) roomy t.given r.given) in
-          λ i. record { answer = Fired next; marking = record { len = n i; rows = rows i } }
-      change_same next (some c) e = refl
+          (all_right bounds (sizes_for m) roomy t.taken r.taken) (all_right bounds (sizes_for m) roomy t.given r.given)
 
-      pub ruled_same : (next : ℕ) → ruled next k taken given (verdict_of (length t.taken) (first (causes_in room (hold_rule (model_of m) t.event) taken given (rows_in k.len k.rows))))
+      judged_same : (next : ℕ) (o : Option Cause) → ruled next k taken given (verdict_of (length t.taken) o) ≡ stepped k (step_judged μ t next o)
+      unfolding ruled verdict_of step_judged stepped
+      judged_same next none = ap (λ (k : Marking). record { answer = Fired next; marking = k }) change_same
+      judged_same next (some c) = ap (λ (n : ℕ). stays (Turned n (cause_pair (length t.taken) c).beside) k) (numbered_as (length t.taken) c)
+
+      pub ruled_same : (next : ℕ) → ruled next k taken given (verdict_of (length t.taken) (first (causes_in room (hold_rule (model_of m) t.event) taken given (tokens_in k))))
           ≡ stepped k (step_judged μ t next (refusal (has_room room) (model_of m) t μ))
       ruled_same next =
-          ap (λ (o : Option Cause). ruled next k taken given (verdict_of (length t.taken) o)) cause_same ∙ change_same next (refusal (has_room room) (model_of m) t μ) refl
+          ap (λ (o : Option Cause). ruled next k taken given (verdict_of (length t.taken) o)) cause_same ∙ judged_same next (refusal (has_room room) (model_of m) t μ)

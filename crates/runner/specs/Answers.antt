@@ -2,7 +2,7 @@
 use Rattle.std.specs.Prelude.{ℕ, Bool, true, false, leb, length}
 use Rattle.std.proofs.Math.Option.{Option, none, some}
 use Rattle.text.specs.Bytes.{Text}
-use Rattle.text.specs.Lines.{Outcome, got, bad, spot_of}
+use Rattle.text.specs.Lines.{Outcome, got, bad, cause_number, spot_of}
 use Rattle.eos.specs.Model as eos
 use Rattle.eos.specs.Firing.{Step, after}
 use Rattle.eos.specs.Causes.{Refusal, Cause, refusal}
@@ -25,7 +25,7 @@ abbrev pub step_pair : StepAnswer → Refusal
 step_pair (Fired n) = pair 0 0
 step_pair TooLong = pair 1 0
 step_pair NotHeld = pair 14 0
-step_pair (Faulty e) = pair e.why e.line
+step_pair (Faulty e) = pair (cause_number e.cause) e.line
 step_pair (Turned cause beside) = pair cause beside
 
 -- the bytes that a step used; a refused step used none

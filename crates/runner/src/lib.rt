@@ -23,10 +23,3 @@ pub struct Stepped {
     pub answer: StepAnswer,
     pub marking: Marking,
 }
-
-// How a step on lent rows ended, and how many rows there are after it.
-#[derive(Clone, Copy)]
-pub struct StepEnd {
-    pub answer: StepAnswer,
-    pub len: usize,
-}

@@ -4,8 +4,8 @@ ghost use Rattle.runner.specs.Answers.{stepping};
 
 use super::lent::step_on;
 use super::{StepAnswer, Stepped};
-use marking::Marking;
-use marking_test::sizes;
+use marking::{Marking, NetToken};
+use marking_test::place_sizes;
 use model::Model;
 use reader::test_marking;
 
@@ -19,28 +19,23 @@ pub fn step(m: &Model, k: Marking, s: &[u8]) -> Stepped
             marking: k,
         };
     }
-    if !test_marking(m, k) {
+    if !test_marking(m, &k) {
         return Stepped {
             answer: StepAnswer::NotHeld,
             marking: k,
         };
     }
-    let mut rows = k.rows;
-    let mut taken = [0u16; Marking::ROWS];
-    let mut given = [0u16; Marking::ROWS];
-    let end = step_on(
+    let mut marking = k;
+    let mut taken = [NetToken::empty(); Marking::ROOM];
+    let mut given = [NetToken::empty(); Marking::ROOM];
+    let answer = step_on(
         Model::ROOM as usize,
         m,
-        sizes(*m),
-        &mut rows,
-        k.len,
+        &place_sizes(m),
+        &mut marking,
         s,
         &mut taken,
         &mut given,
     );
-    let answer = end.answer;
-    Stepped {
-        answer,
-        marking: Marking { len: end.len, rows },
-    }
+    Stepped { answer, marking }
 }

@@ -28,7 +28,8 @@ use Rattle.runner.specs.declared.StepAnswer.TheVariants.{Fired, TooLong, NotHeld
 use Rattle.runner.specs.declared.Stepped.{Stepped}
 use Rattle.runner_trace.specs.declared.Stop.{Stop}
 use Rattle.runner_trace.specs.declared.Stop.TheVariants as stop
-use Rattle.runner_trace.specs.declared.Turn.TheVariants.{On, Off}
+use Rattle.std.specs.Prelude.{Result}
+use Rattle.std.specs.declared.result.Result.TheVariants.{Ok, Err}
 use Rattle.runner_trace.specs.declared.Ran.{Ran}
 use Rattle.runner.specs.Answers.{Tried, fires, stops, tried, stepped, held_step}
 use Rattle.runner_trace.specs.Parts.{turn_of}
@@ -39,23 +40,23 @@ use Rattle.runner.proofs.FiresExactly.{held-brings, brings-tried, brings-fires}
 
 -- ---- a step's answer, as a run takes it
 
-pub turn_on : (a : StepAnswer) (n : ℕ) → turn_of a ≡ On n → a ≡ Fired n
+pub turn_on : (a : StepAnswer) (n : ℕ) → turn_of a ≡ Ok n → a ≡ Fired n
 turn_on (Fired k) n e = let z : k ≡ n = cc in ap Fired z
 turn_on TooLong n e = let z : ◌≡◌ {A = ℕ} 0 1 = cc in absurd (omega arith)
 turn_on NotHeld n e = let z : ◌≡◌ {A = ℕ} 0 1 = cc in absurd (omega arith)
 turn_on (Faulty d) n e = let z : ◌≡◌ {A = ℕ} 0 1 = cc in absurd (omega arith)
 turn_on (Turned cause beside) n e = let z : ◌≡◌ {A = ℕ} 0 1 = cc in absurd (omega arith)
 
-off_is : {a b : Stop} → Off a ≡ Off b → a ≡ b
+pub off_is : {a b : Stop} → ◌≡◌ {A = Result ℕ Stop} (Err a) (Err b) → a ≡ b
 off_is e = cc
 
-on≢off : {A : Type 0} {n : ℕ} {a : Stop} → On n ≡ Off a → A
+pub on≢off : {A : Type 0} {n : ℕ} {a : Stop} → ◌≡◌ {A = Result ℕ Stop} (Ok n) (Err a) → A
 on≢off e = let z : ◌≡◌ {A = ℕ} 0 1 = cc in absurd (omega arith)
 
-pub fired_on : {G : Type 0} (a : StepAnswer) (b : Stop) (n : ℕ) → turn_of a ≡ Off b → a ≡ Fired n → G
+pub fired_on : {G : Type 0} (a : StepAnswer) (b : Stop) (n : ℕ) → turn_of a ≡ Err b → a ≡ Fired n → G
 fired_on a b n e f = on≢off (ap turn_of (sym f) ∙ e)
 
-pub turn_off : (a : StepAnswer) (b : Stop) → turn_of a ≡ Off b → stopped_by a ≡ b
+pub turn_off : (a : StepAnswer) (b : Stop) → turn_of a ≡ Err b → stopped_by a ≡ b
 turn_off (Fired k) b e = on≢off e
 turn_off TooLong b e = off_is e
 turn_off NotHeld b e = off_is e

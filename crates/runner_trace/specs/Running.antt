@@ -1,7 +1,7 @@
 -- What the run over a trace answers and leaves of the marking, for every input; and the numbers of 01's table for each stop.
 use Rattle.std.specs.Prelude.{ℕ, zero, suc, ◌+◌, [], ◌∷◌, Bool, true, false, leb, length, drop}
 use Rattle.text.specs.Bytes.{Text, bytes}
-use Rattle.text.specs.Lines.{Outcome, got, bad, spot_of, read_head}
+use Rattle.text.specs.Lines.{Outcome, got, bad, cause_number, spot_of, read_head}
 use Rattle.eos.specs.Model as eos
 use Rattle.eos.specs.Causes.{Refusal}
 use Rattle.model.specs.Limits.{longest, room_limit}
@@ -23,7 +23,7 @@ abbrev pub stop_pair : Stop → Refusal
 stop_pair AtEnd = pair 0 0
 stop_pair TooLong = pair 1 0
 stop_pair NotHeld = pair 14 0
-stop_pair (Faulty e) = pair e.why e.line
+stop_pair (Faulty e) = pair (cause_number e.cause) e.line
 stop_pair (Turned cause beside) = pair cause beside
 
 -- how a step that was not fired stops a run

@@ -17,6 +17,7 @@ use Rattle.marking.specs.Printed.{net_token_text, block_text}
 use Rattle.marking.specs.Reading.{limits, free, read_net_token, read_block}
 use Rattle.step.specs.Reading.{read_taking, read_step}
 use Rattle.step.specs.Printed.{step_text}
+use Rattle.text.specs.declared.Cause.TheVariants.{Range}
 
 -- two places with two counts each, as in the listing
 abbrev listed : Sizes
@@ -43,7 +44,7 @@ pub step-cases :
     × (read_step free listed 2 first 0 ≡ got (step 0 (token 0 (1 ∷ 0 ∷ []) ∷ []) (token 1 (0 ∷ 1 ∷ []) ∷ [])) 45)
     × (read_step (limits line_limit count_limit) listed 2 second 0 ≡ got (step 0 (token 0 (0 ∷ 0 ∷ []) ∷ []) (token 1 (0 ∷ 0 ∷ []) ∷ [])) 45)
     × (read_step free listed 2 second 0 ≡ got (step 0 (token 0 (0 ∷ 0 ∷ []) ∷ []) (token 1 (0 ∷ 0 ∷ []) ∷ [])) 45)
-    × (read_step (limits line_limit count_limit) listed 2 large 0 ≡ bad (fault 3 21))
+    × (read_step (limits line_limit count_limit) listed 2 large 0 ≡ bad (fault Range 21))
     × (read_step free listed 2 large 0 ≡ got (step 1 [] (token 1 (70000 ∷ 0 ∷ []) ∷ [])) 37)
 unfolding read_taking read_step read_block read_net_token read_token token_at counts_at read_number behind judged many need then list_end items item prepended ended stop_of
     number number_of digits starts

@@ -20,6 +20,7 @@ use Rattle.keeper.specs.Printed.{weight_file_text}
 use Rattle.keeper.specs.Reading.{read_inner, read_weights_at, read_weight_file}
 use Rattle.keeper.specs.Answers.{refused_weights, turned_or, judged_weights}
 use Rattle.keeper.specs.declared.WeightAnswer.TheVariants.{Passed, Turned}
+use Rattle.text.specs.declared.Cause.TheVariants.{Syntax, Range}
 
 abbrev onward : Transition
 onward = record { pre = 1 ∷ 0 ∷ []; post = 0 ∷ 1 ∷ [] }
@@ -42,8 +43,8 @@ weights a b c = record { outward = a ∷ b ∷ []; inward = (c ∷ c ∷ []) ∷
 pub read-cases :
     (read_weight_file listing (bytes "inv=1\nouter=1,1\ninner=1,1\n") ≡ got (weights (pos 1) (pos 1) (pos 1)) 26)
     × (read_weight_file listing (bytes "inv=1\nouter=-7,0\ninner=1,1\n") ≡ got (weights (negsuc 6) (pos 0) (pos 1)) 27)
-    × (read_weight_file listing (bytes "inv=1\nouter=1,1\ninner=1001,1\n") ≡ bad (fault 3 16))
-    × (read_weight_file listing (bytes "inv=1\nouter=1,1\n") ≡ bad (fault 2 16))
+    × (read_weight_file listing (bytes "inv=1\nouter=1,1\ninner=1001,1\n") ≡ bad (fault Range 16))
+    × (read_weight_file listing (bytes "inv=1\nouter=1,1\n") ≡ bad (fault Syntax 16))
 unfolding read_weights_at read_inner read_end read_head read_number read_weights behind judged need then many_at starts
     stop_of ended prepended item items list_end digits number_of number plainly negated signed
 read-cases = (refl, refl, refl, refl)

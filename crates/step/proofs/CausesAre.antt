@@ -1,4 +1,4 @@
--- The verdict on rows is the theory's: the rows of a right step meet the cause that the step meets.
+-- The verdict on held net-tokens is the theory's: those of a right step meet the cause that the step meets.
 use Prim.Native.Nat.{ℕ, ◌+◌, ◌-◌, ◌<◌}
 use mathlib.Core.Path.{◌≡◌, refl, sym, ap, ◌∙◌}
 use mathlib.Core.Bool.{Bool, true}
@@ -19,14 +19,14 @@ use Rattle.eos.proofs.CauseLaws.{no_cause_fires}
 use Rattle.model.specs.Rules.{right_model}
 use Rattle.model.proofs.RuleLaws.{right_is, few-places}
 use Rattle.model.proofs.PaddedRows.{eq_padded}
-use Rattle.marking.specs.Held.{token_row}
+use Rattle.marking.specs.Held.{hold_token}
 use Rattle.step.specs.Rule.{hold_sides, hold_rule}
-use Rattle.step.specs.Verdict.{outer_rows, inner_taken_in, inner_given_in, has_room, outer_causes, inner_causes, marking_causes, causes_in}
+use Rattle.step.specs.Verdict.{outer_tokens, inner_taken_in, inner_given_in, has_room, outer_causes, inner_causes, marking_causes, causes_in}
 use Rattle.step.proofs.FirstFailing.{failing_same}
 use Rattle.step.proofs.PaddedTests.{le_padded, moved_padded, moved_long}
 use Rattle.step.proofs.SidesHeld.{Side, pre_side, post_side, outer_side_long, inner_side_long, side_row, net-small}
-use Rattle.step.proofs.ProjectionLaws.{outer-long, outer_rows_lem, inner-long, inner-rows}
-use Rattle.step.proofs.LikeRows.{lacking-rows}
+use Rattle.step.proofs.ProjectionLaws.{outer-long, outer_held, inner-long, inner-held}
+use Rattle.step.proofs.LikeTokens.{lacking-held}
 
 -- ---- a list of tests and one more
 
@@ -47,25 +47,25 @@ first_last (some r ∷ l) x y h = refl
 module _ (m : Model) (right : right_model m ≡ true) (s : Step) (of : StepOf m s) where
   -- both outer tests
   outer_same : (side : _) → Side side → (l : Marking) → T (M.every (proper m) l)
-      → eq_v (outer_rows (map token_row l)) (hold_sides side m (event m s.event)).outer ≡ eq_v (outer m l) (outer_of side m (event m s.event))
+      → eq_v (outer_tokens (map hold_token l)) (hold_sides side m (event m s.event)).outer ≡ eq_v (outer m l) (outer_of side m (event m s.event))
   unfolding hold_sides
   outer_same side f l h =
       let a = outer-long m right l h in
       let b = outer_side_long side f m right s.event of.known in
-      rw (outer_rows_lem m right l h) (eq_padded (outer m l) (outer_of side m (event m s.event)) (a ∙ sym b) (omega (arith, few-places m (right_is m right))))
+      rw (outer_held m right l h) (eq_padded (outer m l) (outer_of side m (event m s.event)) (a ∙ sym b) (omega (arith, few-places m (right_is m right))))
 
   -- the tests of net n
-  taken_at : (n : ℕ) → n < length m.nets → inner_taken_in (hold_rule m s.event) (map token_row s.taken) n ≡ inner_taken m (event m s.event) s.taken n
+  taken_at : (n : ℕ) → n < length m.nets → inner_taken_in (hold_rule m s.event) (map hold_token s.taken) n ≡ inner_taken m (event m s.event) s.taken n
   unfolding inner_taken_in inner_taken hold_rule
   taken_at n k =
       let ev = event m s.event in
       let small = net-small m right n k in
-      rw (side_row pre pre_side m right ev n k, inner-rows m right n k s.taken of.taken)
+      rw (side_row pre pre_side m right ev n k, inner-held m right n k s.taken of.taken)
       (le_padded (inner_of pre m ev n) (inner m n s.taken) (omega (arith, inner_side_long pre pre_side m right ev n k))
       (omega (arith, inner-long m right n k s.taken of.taken)))
 
   given-at : (n : ℕ) → n < length m.nets
-      → inner_given_in (hold_rule m s.event) (map token_row s.taken) (map token_row s.given) n ≡ inner_given m (event m s.event) s.taken s.given n
+      → inner_given_in (hold_rule m s.event) (map hold_token s.taken) (map hold_token s.given) n ≡ inner_given m (event m s.event) s.taken s.given n
   unfolding inner_given_in inner_given hold_rule
   given-at n k =
       let ev = event m s.event in
@@ -78,8 +78,8 @@ module _ (m : Model) (right : right_model m ≡ true) (s : Step) (of : StepOf m 
       rw (
         side_row pre pre_side m right ev n k,
         side_row post post_side m right ev n k,
-        inner-rows m right n k s.taken of.taken,
-        inner-rows m right n k s.given of.given,
+        inner-held m right n k s.taken of.taken,
+        inner-held m right n k s.given of.given,
         moved_padded (inner m n s.taken) (inner_of pre m ev n) (inner_of post m ev n) _ small x y z,
       )
       (eq_padded (inner m n s.given) (inner m n s.taken ⊖ inner_of pre m ev n ⊕ inner_of post m ev n) (g ∙ sym l) (omega arith))
@@ -108,27 +108,27 @@ module _ (m : Model) (right : right_model m ≡ true) (s : Step) (of : StepOf m 
         let w = (fires_yes m s μ (no_cause_fires (λ ν. true) m s μ r).0).1 in
         omega (arith, length-append (M.less like μ s.taken) s.given, length-less like alike s.taken μ w)
 
-    -- the same tests over rows
-    rows_are : (room : ℕ) → T (M.every (proper m) μ) → causes_in room (hold_rule m s.event) (map token_row s.taken) (map token_row s.given) (map token_row μ)
+    -- the same tests over what is held
+    held_are : (room : ℕ) → T (M.every (proper m) μ) → causes_in room (hold_rule m s.event) (map hold_token s.taken) (map hold_token s.given) (map hold_token μ)
         ≡ before ++ (unless (leb (length μ - length s.taken + length s.given) room) crowded ∷ [])
     unfolding causes_in outer_causes inner_causes marking_causes hold_rule outer_taken outer_given outer_of
-    rows_are room h =
+    held_are room h =
         let q = hold_rule m s.event in
         let ev = event m s.event in
-        let taken = map token_row s.taken in
-        let given = map token_row s.given in
-        let o : eq_v (outer_rows taken) (hold_sides pre m ev).outer ≡ outer_taken m ev s.taken = outer_same pre pre_side s.taken of.taken in
-        let p : eq_v (outer_rows given) (hold_sides post m ev).outer ≡ outer_given m ev s.taken s.given = outer_same post post_side s.given of.given in
+        let taken = map hold_token s.taken in
+        let given = map hold_token s.given in
+        let o : eq_v (outer_tokens taken) (hold_sides pre m ev).outer ≡ outer_taken m ev s.taken = outer_same pre pre_side s.taken of.taken in
+        let p : eq_v (outer_tokens given) (hold_sides post m ev).outer ≡ outer_given m ev s.taken s.given = outer_same post post_side s.given of.given in
         let a = failing_same (length m.nets) 0 (inner_taken_in q taken) (inner_taken m ev s.taken) (λ i k. taken_at i (omega arith)) in
         let b = failing_same (length m.nets) 0 (inner_given_in q taken given) (inner_given m ev s.taken s.given) (λ i k. given-at i (omega arith)) in
-        let l = lacking-rows m right μ 0 [] s.taken h tt of.taken in
-        rw (o, p, a, b, l, length-map s.taken token_row, length-map s.given token_row, length-map μ token_row)
+        let l = lacking-held m right μ 0 [] s.taken h tt of.taken in
+        rw (o, p, a, b, l, length-map s.taken hold_token, length-map s.given hold_token, length-map μ hold_token)
 
-  -- the rows meet the cause that the step meets
+  -- what is held meets the cause that the step meets
   pub causes_are : (room : ℕ) (μ : Marking) → T (M.every (proper m) μ)
-      → first (causes_in room (hold_rule m s.event) (map token_row s.taken) (map token_row s.given) (map token_row μ)) ≡ refusal (has_room room) m s μ
+      → first (causes_in room (hold_rule m s.event) (map hold_token s.taken) (map hold_token s.given) (map hold_token μ)) ≡ refusal (has_room room) m s μ
   causes_are room μ h =
-      ap first (rows_are μ room h)
+      ap first (held_are μ room h)
       ∙ first_last (before μ) (unless (leb (length μ - length s.taken + length s.given) room) crowded) (unless (has_room room (after s μ)) crowded)
       (λ e. ap (λ (n : ℕ). unless (leb n room) crowded) (sym (left μ e)))
       ∙ sym (refusal_is μ (has_room room))

@@ -1,22 +1,22 @@
--- Rows are like, counted and taken away as their net-tokens are. So a marking's rows, changed by the rows of a step, are those of the
--- marking after the step.
+-- Held net-tokens are like, counted and taken away as those are that they stand for. So what a marking holds, changed by what a step takes
+-- and gives, is what the marking after the step holds.
 use Prim.Native.Nat.{ℕ}
 use mathlib.Core.Path.{◌≡◌, refl, ap, sym, ◌∙◌}
 use mathlib.Core.Logic.{◌↔◌}
 use mathlib.Core.List.{List, [], ◌∷◌, ◌++◌, map, map-append}
 use mathlib.Core.Bool.{Bool, true, false, cond}
 use lib.Dec.{leb}
-use Rattle.eos.specs.Vector.{eq_v, lex_v}
 use Rattle.eos.specs.Multiset as M
 use Rattle.eos.specs.Model as eos
 use Rattle.eos.specs.Firing.{after}
 use Rattle.eos.proofs.MultisetLaws.{within_yes, within_all}
-use Rattle.eos.proofs.VectorLaws.{vectors}
 use Rattle.eos.proofs.FiringLaws.{alike}
-use Rattle.marking.specs.Rows.{Row, laid}
-use Rattle.marking.specs.Held.{Sizes, token_row}
-use Rattle.marking.proofs.RowOrder.{Fitting, All, none, more, map-canonical}
-use Rattle.marking.proofs.CountLaws.{like-rows, count-rows}
+use Rattle.marking.specs.Tokens.{like, before, holding}
+use Rattle.marking.specs.declared.NetToken.{NetToken}
+use Rattle.marking.specs.Held.{Sizes, hold_token, hold_marking}
+use Rattle.marking.proofs.TokenOrder.{held_alike}
+use Rattle.marking.proofs.HeldOrder.{Fitting, All, none, more, map-canonical}
+use Rattle.marking.proofs.CountLaws.{like-held, count-held}
 
 module _ (z : Sizes) where
   -- ---- differences and sums
@@ -30,23 +30,23 @@ module _ (z : Sizes) where
       go false r = more g r
 
   map-without : (t : eos.NetToken) (μ : eos.Marking) → Fitting z t → All z μ
-      → map token_row (M.without eos.like t μ) ≡ M.without eq_v (token_row t) (map token_row μ)
+      → map hold_token (M.without eos.like t μ) ≡ M.without like (hold_token t) (map hold_token μ)
   map-without t [] f none = refl
-  map-without t (u ∷ μ) f (more g a) = go (eos.like t u) (like-rows z t u f g) (map-without t μ f a)
+  map-without t (u ∷ μ) f (more g a) = go (eos.like t u) (like-held z t u f g) (map-without t μ f a)
     where
-      go : (b : Bool) → eq_v (token_row t) (token_row u) ≡ b → map token_row (M.without eos.like t μ) ≡ M.without eq_v (token_row t) (map token_row μ)
-          → map token_row (cond b μ (u ∷ M.without eos.like t μ)) ≡ M.without eq_v (token_row t) (token_row u ∷ map token_row μ)
+      go : (b : Bool) → like (hold_token t) (hold_token u) ≡ b → map hold_token (M.without eos.like t μ) ≡ M.without like (hold_token t) (map hold_token μ)
+          → map hold_token (cond b μ (u ∷ M.without eos.like t μ)) ≡ M.without like (hold_token t) (hold_token u ∷ map hold_token μ)
       go true e r = rw e
-      go false e r = rw e (ap (λ (l : List Row). token_row u ∷ l) r)
+      go false e r = rw e (ap (λ (l : List NetToken). hold_token u ∷ l) r)
 
   all_less : (l μ : eos.Marking) → All z μ → All z (M.less eos.like μ l)
   all_less [] μ a = a
   all_less (t ∷ l) μ a = all_less l (M.without eos.like t μ) (all_without t μ a)
 
-  pub map-less : (l μ : eos.Marking) → All z l → All z μ → map token_row (M.less eos.like μ l) ≡ M.less eq_v (map token_row μ) (map token_row l)
+  pub map-less : (l μ : eos.Marking) → All z l → All z μ → map hold_token (M.less eos.like μ l) ≡ M.less like (map hold_token μ) (map hold_token l)
   map-less [] μ none a = refl
   map-less (t ∷ l) μ (more f b) a =
-      map-less l (M.without eos.like t μ) b (all_without t μ a) ∙ ap (λ (m : List Row). M.less eq_v m (map token_row l)) (map-without t μ f a)
+      map-less l (M.without eos.like t μ) b (all_without t μ a) ∙ ap (λ (m : List NetToken). M.less like m (map hold_token l)) (map-without t μ f a)
 
   all_append : (μ ν : eos.Marking) → All z μ → All z ν → All z (μ ++ ν)
   all_append [] ν none b = b
@@ -55,27 +55,28 @@ module _ (z : Sizes) where
   -- ---- containment
 
   -- the tests of containment agree, net-token by net-token
-  every-rows : (l taken μ : eos.Marking) → All z l → All z taken → All z μ
-      → M.every (λ r. leb (M.count eq_v r (map token_row taken)) (M.count eq_v r (map token_row μ))) (map token_row l)
+  every-held : (l taken μ : eos.Marking) → All z l → All z taken → All z μ
+      → M.every (λ r. leb (M.count like r (map hold_token taken)) (M.count like r (map hold_token μ))) (map hold_token l)
       ≡ M.every (λ t. leb (M.count eos.like t taken) (M.count eos.like t μ)) l
-  every-rows [] taken μ none a b = refl
-  every-rows (t ∷ l) taken μ (more f c) a b = rw (count-rows z t taken f a, count-rows z t μ f b, every-rows l taken μ c a b)
+  every-held [] taken μ none a b = refl
+  every-held (t ∷ l) taken μ (more f c) a b = rw (count-held z t taken f a, count-held z t μ f b, every-held l taken μ c a b)
 
-  -- the taken net-tokens are in the marking exactly where their rows are among its rows
-  pub within-rows : (taken μ : eos.Marking) → All z taken → All z μ → M.Within eos.like taken μ ↔ M.Within eq_v (map token_row taken) (map token_row μ)
-  within-rows taken μ a b =
-      let e = every-rows taken taken μ a a b in (
-        λ h. within_yes eq_v vectors (map token_row taken) (map token_row μ) (rw e (within_all eos.like alike taken μ h)),
-        λ h. within_yes eos.like alike taken μ (rw e at (within_all eq_v vectors (map token_row taken) (map token_row μ) h)),
+  -- the taken net-tokens are in the marking exactly where they are as they are held
+  pub within-held : (taken μ : eos.Marking) → All z taken → All z μ → M.Within eos.like taken μ ↔ M.Within like (map hold_token taken) (map hold_token μ)
+  within-held taken μ a b =
+      let e = every-held taken taken μ a a b in (
+        λ h. within_yes like held_alike (map hold_token taken) (map hold_token μ) (rw e (within_all eos.like alike taken μ h)),
+        λ h. within_yes eos.like alike taken μ (rw e at (within_all like held_alike (map hold_token taken) (map hold_token μ) h)),
       )
 
   -- ---- the marking after a step
 
   pub change_is : (event : ℕ) (μ taken given : eos.Marking) → All z μ → All z taken → All z given
-      → laid (M.sort lex_v (M.less eq_v (map token_row μ) (map token_row taken) ++ map token_row given))
-      ≡ laid (map token_row (eos.canonical (after (record { event = event; taken = taken; given = given }) μ)))
+      → holding (M.sort before (M.less like (map hold_token μ) (map hold_token taken) ++ map hold_token given))
+      ≡ hold_marking (eos.canonical (after (record { event = event; taken = taken; given = given }) μ))
+  unfolding hold_marking
   change_is event μ taken given a b c =
       let rest = M.less eos.like μ taken in
-      let m : map token_row (rest ++ given) ≡ M.less eq_v (map token_row μ) (map token_row taken) ++ map token_row given =
-      map-append token_row rest given ∙ ap (λ (l : List Row). l ++ map token_row given) (map-less taken μ b a) in
-      ap laid (ap (M.sort lex_v) (sym m) ∙ sym (map-canonical z (rest ++ given) (all_append rest given (all_less taken μ a) c)))
+      let m : map hold_token (rest ++ given) ≡ M.less like (map hold_token μ) (map hold_token taken) ++ map hold_token given =
+      map-append hold_token rest given ∙ ap (λ (l : List NetToken). l ++ map hold_token given) (map-less taken μ b a) in
+      ap holding (ap (M.sort before) (sym m) ∙ sym (map-canonical z (rest ++ given) (all_append rest given (all_less taken μ a) c)))

@@ -3,7 +3,7 @@ use Prim.Native.Nat.{ℕ, zero, suc, ◌+◌, ◌-◌, ◌*◌, ◌≤◌, ◌<�
 use mathlib.Core.Path.{◌≡◌, refl, sym, ◌∙◌}
 use mathlib.Core.Bool.{Bool, true, false, cond, ◌&&◌, and-true, and_assoc}
 use mathlib.Core.List.{List, ◌∷◌}
-use mathlib.Core.Option.{none, some}
+use mathlib.Core.Option.{Option, none, some}
 use native.Mathlib.Omega.{arith}
 use native.Mathlib.Numerals.{add-one}
 use lib.Dec.{eqb, leb}
@@ -13,11 +13,24 @@ use Rattle.eos.specs.Vector.{◌⊕◌, ◌⊖◌, le_v, eq_v}
 use Rattle.eos.specs.Causes.{failing}
 use Rattle.eos.proofs.VectorLaws.{get_d-⊕}
 use Rattle.eos.proofs.VectorSums.{long-left}
-use Rattle.marking.proofs.RowCompare.{eq_on, eq_end}
 use Rattle.model.specs.Rules.{nth}
 use Rattle.model.specs.Held.{row_in}
 use Rattle.model.proofs.TableLaws.{row_at, length-row}
 use Rattle.step.proofs.VectorArrays.{length-less, nth-less}
+
+-- none is not some
+pub none_some : {A B : Type 0} {a : A} → ◌≡◌ {A = Option A} none (some a) → B
+none_some e = let z : ◌≡◌ {A = ℕ} 0 1 = cc in absurd (omega arith)
+
+-- ---- vectors compared number by number
+
+module _ (a b : List ℕ) (i : ℕ) (t : Bool) where
+  eq_on : i < length a → i < length b
+      → t && eq_v (drop i a) (drop i b) ≡ (t && eqb (nth a i) (nth b i)) && eq_v (drop (i + 1) a) (drop (i + 1) b)
+  eq_on h k = rw (add-one i, drop-cons a i 0 h, drop-cons b i 0 k) (sym (and_assoc t (eqb (nth a i) (nth b i)) (eq_v (drop (suc i) a) (drop (suc i) b))))
+
+  eq_end : length a ≤ i → length b ≤ i → t && eq_v (drop i a) (drop i b) ≡ t
+  eq_end h k = rw (drop_of_length-le a {i = i} h, drop_of_length-le b {i = i} k) (and-true t)
 
 -- ---- the first number at which a test fails
 module _ (d n : ℕ) (f : ℕ → Bool) where
@@ -34,6 +47,15 @@ module _ (d n : ℕ) (f : ℕ → Bool) where
 
   pub failing_end : d ≤ n → failing (d - n) n f ≡ none
   failing_end h = let e : d - n ≡ 0 = omega arith in rw e
+
+-- it is one of those asked
+pub failing_below : (d n : ℕ) (f : ℕ → Bool) (i : ℕ) → failing d n f ≡ some i → i < n + d
+failing_below zero n f i e = none_some e
+failing_below (suc d) n f i e = go (f n) e (failing_below d (suc n) f i)
+  where
+    go : (b : Bool) → cond b (failing d (suc n) f) (some n) ≡ some i → (failing d (suc n) f ≡ some i → i < suc n + d) → i < n + suc d
+    go true e h = omega (arith, h e)
+    go false e h = let k : n ≡ i = cc in omega arith
 
 -- two tests that agree fail at the same number
 pub failing_same : (d n : ℕ) (f g : ℕ → Bool) → ((i : ℕ) → i < n + d → f i ≡ g i) → failing d n f ≡ failing d n g
@@ -82,7 +104,7 @@ module _ (made held pre post : List ℕ) (n : ℕ) (h : n < 8) (o : length made 
       → t && eq_v (drop k (row_in 32 made n)) (drop k (moved held pre post n))
       ≡ (t && eqb (nth made (n * 32 + k)) v) && eq_v (drop (k + 1) (row_in 32 made n)) (drop (k + 1) (moved held pre post n))
   even_on v c e =
-      eq_on (row_in 32 made n) (moved held pre post n) k (omega (arith, length-row made n 32 (omega arith))) (omega (arith, moved_long)) t
+      eq_on (row_in 32 made n) (moved held pre post n) k t (omega (arith, length-row made n 32 (omega arith))) (omega (arith, moved_long))
       ∙ rw (row_at made n k c, moved_at c, e)
 
   pub even_end : 32 ≤ k → t && eq_v (drop k (row_in 32 made n)) (drop k (moved held pre post n)) ≡ t

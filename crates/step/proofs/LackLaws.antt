@@ -1,6 +1,6 @@
--- Laws of the rows that a marking lacks.
-use Prim.Native.Nat.{ℕ, zero, suc, ◌+◌, ◌*◌, ◌≤◌, ◌<◌}
-use mathlib.Core.Path.{◌≡◌, refl, sym, ap, ◌∙◌}
+-- Laws of the net-tokens that a marking lacks.
+use Prim.Native.Nat.{ℕ, zero, suc, ◌+◌, ◌≤◌, ◌<◌}
+use mathlib.Core.Path.{◌≡◌, refl, ap, ◌∙◌}
 use mathlib.Core.Bool.{Bool, true, false, cond}
 use mathlib.Core.List.{List, [], ◌∷◌}
 use mathlib.Core.Option.{Option, none, some}
@@ -9,113 +9,115 @@ use native.Mathlib.Numerals.{add-one}
 use lib.Dec.{leb, ltb, leb→le}
 use lib.ListN.{length, get_or, take, drop, drop_of_length-le}
 use lib.Seq.{drop-cons}
-use Rattle.eos.specs.Vector.{eq_v}
+use Rattle.std.specs.List.{filter}
 use Rattle.eos.specs.Multiset.{bit, count, Within}
-use Rattle.eos.specs.Causes.{numbered}
 use Rattle.eos.proofs.Basics.{true_is, some_not}
-use Rattle.eos.proofs.VectorLaws.{eq_v_eq, vectors}
 use Rattle.eos.proofs.MultisetLaws.{bit_self, length-less}
-use Rattle.marking.specs.Rows.{Row, rows_in}
-use Rattle.marking.proofs.RowLaws.{length-rows, row_at}
-use Rattle.step.specs.Verdict.{lacking_rows}
+use Rattle.marking.specs.Tokens.{like}
+use Rattle.marking.specs.declared.NetToken.{NetToken}
+use Rattle.marking.proofs.TokenOrder.{held_alike}
+use Rattle.step.specs.Verdict.{lacking_tokens}
+use Rattle.step.proofs.FirstFailing.{none_some}
 
--- ---- rows counted one after the other
-
-pub rows_next : (i : ℕ) (l : List ℕ) (r : Row) → count eq_v r (rows_in (i + 1) l) ≡ count eq_v r (rows_in i l) + bit (eq_v r (take 33 (drop (i * 33) l)))
-rows_next i l r = rw (add-one i) (go i l)
+-- those that are like one, counted as the code counts them
+pub count_filtered : (t : NetToken) (l : List NetToken) → length (filter (like t) l) ≡ count like t l
+count_filtered t [] = refl
+count_filtered t (u ∷ l) = go (like t u) (count_filtered t l)
   where
-    go : (i : ℕ) (l : List ℕ) → count eq_v r (rows_in (suc i) l) ≡ count eq_v r (rows_in i l) + bit (eq_v r (take 33 (drop (i * 33) l)))
-    go zero l = omega arith
-    go (suc i) l =
-        let e : take 33 (drop (i * 33) (drop 33 l)) ≡ take 33 (drop (suc i * 33) l) = sym (row_at (suc i) (drop 33 l) i (omega arith)) ∙ row_at (suc (suc i)) l (suc i) (omega arith) in
-        omega (arith, go i (drop 33 l), ap (λ (x : Row). bit (eq_v r x)) e)
+    go : (b : Bool) → length (filter (like t) l) ≡ count like t l → length (cond b (u ∷ filter (like t) l) (filter (like t) l)) ≡ bit b + count like t l
+    go true e = omega (arith, e)
+    go false e = omega (arith, e)
 
--- ---- the rows before i, the last first
-abbrev pub before : ℕ → List Row → List Row → List Row
+-- ---- the net-tokens before i, the last first
+abbrev pub before : ℕ → List NetToken → List NetToken → List NetToken
 before i seen [] = seen
-before zero seen (r ∷ l) = seen
-before (suc i) seen (r ∷ l) = before i (r ∷ seen) l
+before zero seen (t ∷ l) = seen
+before (suc i) seen (t ∷ l) = before i (t ∷ seen) l
 
-before_next : (l : List Row) (i : ℕ) (seen : List Row) → i < length l → before (suc i) seen l ≡ get_or l i [] ∷ before i seen l
-before_next [] i seen h = absurd (omega arith)
-before_next (r ∷ []) zero seen h = refl
-before_next (r ∷ s ∷ l) zero seen h = refl
-before_next (r ∷ l) (suc i) seen h = before_next l i (r ∷ seen) (omega arith)
+before_next : (d : NetToken) (l : List NetToken) (i : ℕ) (seen : List NetToken) → i < length l → before (suc i) seen l ≡ get_or l i d ∷ before i seen l
+before_next d [] i seen h = absurd (omega arith)
+before_next d (t ∷ []) zero seen h = refl
+before_next d (t ∷ u ∷ l) zero seen h = refl
+before_next d (t ∷ l) (suc i) seen h = before_next d l i (t ∷ seen) (omega arith)
 
-before-count : (x : Row) (n i : ℕ) (l : List ℕ) (seen : List Row) → i ≤ n → count eq_v x (before i seen (rows_in n l)) ≡ count eq_v x seen + count eq_v x (rows_in i l)
-before-count x zero zero l seen h = omega arith
-before-count x zero (suc i) l seen h = absurd (omega arith)
-before-count x (suc n) zero l seen h = omega arith
-before-count x (suc n) (suc i) l seen h = omega (arith, before-count x n i (drop 33 l) (take 33 l ∷ seen) (omega arith))
+before-count : (x : NetToken) (i : ℕ) (l seen : List NetToken) → count like x (before i seen l) ≡ count like x seen + count like x (take i l)
+before-count x zero [] seen = omega arith
+before-count x (suc i) [] seen = omega arith
+before-count x zero (t ∷ l) seen = omega arith
+before-count x (suc i) (t ∷ l) seen = omega (arith, before-count x i l (t ∷ seen))
 
--- ---- the loop over the rows taken
+-- ---- the loop over the net-tokens taken
 
--- what is left to be asked at row i
-abbrev pub rest : List Row → ℕ → List ℕ → ℕ → Option ℕ
-rest rows n l i = lacking_rows rows i (before i [] (rows_in n l)) (drop i (rows_in n l))
+-- what is left to be asked at net-token i
+abbrev pub rest : List NetToken → List NetToken → ℕ → Option ℕ
+rest held ts i = lacking_tokens held i (before i [] ts) (drop i ts)
 
--- row r, which stands k + 1 times among those seen with it
-one_lacking : (rows : List Row) (i k : ℕ) (r : Row) (seen l : List Row) → count eq_v r (r ∷ seen) ≡ suc k
-    → lacking_rows rows i seen (r ∷ l) ≡ cond (ltb k (count eq_v r rows)) (lacking_rows rows (suc i) (r ∷ seen) l) (some i)
-one_lacking rows i k r seen l e = ap (λ (c : ℕ). cond (leb c (count eq_v r rows)) (lacking_rows rows (suc i) (r ∷ seen) l) (some i)) e
+-- net-token t, which stands k + 1 times among those seen with it
+one_lacking : (held : List NetToken) (i k : ℕ) (t : NetToken) (seen l : List NetToken) → count like t (t ∷ seen) ≡ suc k
+    → lacking_tokens held i seen (t ∷ l) ≡ cond (ltb k (count like t held)) (lacking_tokens held (suc i) (t ∷ seen) l) (some i)
+one_lacking held i k t seen l e = ap (λ (c : ℕ). cond (leb c (count like t held)) (lacking_tokens held (suc i) (t ∷ seen) l) (some i)) e
 
-module _ (rows : List Row) (n : ℕ) (l : List ℕ) (i : ℕ) where
-  count_so_far : i < n → count eq_v (take 33 (drop (i * 33) l)) (take 33 (drop (i * 33) l) ∷ before i [] (rows_in n l))
-      ≡ suc (count eq_v (take 33 (drop (i * 33) l)) (rows_in i l))
-  count_so_far h =
-      let r = take 33 (drop (i * 33) l) in
-      omega (arith, bit_self eq_v vectors r, before-count r n i l [] (omega arith))
+module _ (held ts : List NetToken) (i : ℕ) where
+  module _ (d : NetToken) (h : i < length ts) where
+    count_so_far : count like (get_or ts i d) (get_or ts i d ∷ before i [] ts) ≡ suc (count like (get_or ts i d) (take i ts))
+    count_so_far =
+        let t = get_or ts i d in
+        omega (arith, bit_self like held_alike t, before-count t i ts [])
 
-  -- the marking has row i as often as it stands up to there
-  abbrev pub has_row : Bool
-  has_row = ltb (count eq_v (take 33 (drop (i * 33) l)) (rows_in i l)) (count eq_v (take 33 (drop (i * 33) l)) rows)
+    -- the marking has net-token i as often as it stands up to there
+    abbrev pub has_token : Bool
+    has_token = ltb (count like (get_or ts i d) (take i ts)) (count like (get_or ts i d) held)
 
-  rest_turn : (t : Bool) → i < n → t ≡ has_row → rest rows n l i ≡ cond t (rest rows n l (i + 1)) (some i)
-  rest_turn t h e =
-      let rs : List Row = rows_in n l in
-      let r : Row = take 33 (drop (i * 33) l) in
-      let d : drop i rs ≡ r ∷ drop (suc i) rs = rw (row_at n l i h) at (drop-cons rs i [] (omega (arith, length-rows n l))) in
-      let b : before (suc i) [] rs ≡ r ∷ before i [] rs = rw (row_at n l i h) at (before_next rs i [] (omega (arith, length-rows n l))) in
-      let one = one_lacking rows i _ (take 33 (drop (i * 33) l)) (before i [] rs) (drop (suc i) rs) (count_so_far h) in
-      rw (add-one i, b, d, e) one
+    rest_turn : (b : Bool) → b ≡ has_token → rest held ts i ≡ cond b (rest held ts (i + 1)) (some i)
+    rest_turn b e =
+        let t : NetToken = get_or ts i d in
+        let a : drop i ts ≡ t ∷ drop (suc i) ts = drop-cons ts i d h in
+        let f : before (suc i) [] ts ≡ t ∷ before i [] ts = before_next d ts i [] h in
+        rw (add-one i, f, a, e) (one_lacking held i _ t (before i [] ts) (drop (suc i) ts) count_so_far)
 
-  pub rest_on : {t : Bool} → i < n → t ≡ has_row → t ≡ true → rest rows n l i ≡ rest rows n l (i + 1)
-  rest_on {t} h e d = rest_turn t h e ∙ rw d
+    pub rest_on : {b : Bool} → b ≡ has_token → b ≡ true → rest held ts i ≡ rest held ts (i + 1)
+    rest_on {b} e f = rest_turn b e ∙ rw f
 
-  pub rest_here : {t : Bool} → i < n → t ≡ has_row → t ≡ false → rest rows n l i ≡ some i
-  rest_here {t} h e d = rest_turn t h e ∙ rw d
+    pub rest_here : {b : Bool} → b ≡ has_token → b ≡ false → rest held ts i ≡ some i
+    rest_here {b} e f = rest_turn b e ∙ rw f
 
-  pub rest_end : n ≤ i → rest rows n l i ≡ none
-  rest_end h = rw (drop_of_length-le (rows_in n l) {i = i} (omega (arith, length-rows n l)))
+  pub rest_end : length ts ≤ i → rest held ts i ≡ none
+  rest_end h = rw (drop_of_length-le ts {i = i} h)
 
-pub rest-start : (rows : List Row) (n : ℕ) (l : List ℕ) → lacking_rows rows 0 [] (rows_in n l) ≡ rest rows n l 0
-rest-start rows zero l = refl
-rest-start rows (suc n) l = refl
+pub rest-start : (held ts : List NetToken) → lacking_tokens held 0 [] ts ≡ rest held ts 0
+rest-start held [] = refl
+rest-start held (t ∷ ts) = refl
 
--- ---- where none is lacking, the rows are in the marking
-pub lacking-within : (rows : List Row) (i : ℕ) (seen l : List Row) → Within eq_v seen rows → lacking_rows rows i seen l ≡ none
-    → (x : Row) → count eq_v x seen + count eq_v x l ≤ count eq_v x rows
-lacking-within rows i seen [] h e x = omega (arith, h x)
-lacking-within rows i seen (r ∷ l) h e x = go (leb (count eq_v r (r ∷ seen)) (count eq_v r rows)) refl e (lacking-within rows (suc i) (r ∷ seen) l)
+-- what is lacking is one of those asked
+pub lacking_below : (held : List NetToken) (n : ℕ) (seen l : List NetToken) (i : ℕ) → lacking_tokens held n seen l ≡ some i → i < n + length l
+lacking_below held n seen [] i e = none_some e
+lacking_below held n seen (t ∷ l) i e = go (leb (count like t (t ∷ seen)) (count like t held)) e (lacking_below held (suc n) (t ∷ seen) l i)
   where
-    more : count eq_v r (r ∷ seen) ≤ count eq_v r rows → Within eq_v (r ∷ seen) rows
-    more k y = split (eq_v y r) refl
+    go : (b : Bool) → cond b (lacking_tokens held (suc n) (t ∷ seen) l) (some n) ≡ some i
+        → (lacking_tokens held (suc n) (t ∷ seen) l ≡ some i → i < suc n + length l) → i < n + suc (length l)
+    go true e h = omega (arith, h e)
+    go false e h = let k : n ≡ i = cc in omega arith
+
+-- ---- where none is lacking, the net-tokens are in the marking
+pub lacking-within : (held : List NetToken) (i : ℕ) (seen l : List NetToken) → Within like seen held → lacking_tokens held i seen l ≡ none
+    → (x : NetToken) → count like x seen + count like x l ≤ count like x held
+lacking-within held i seen [] h e x = omega (arith, h x)
+lacking-within held i seen (t ∷ l) h e x = go (leb (count like t (t ∷ seen)) (count like t held)) refl e (lacking-within held (suc i) (t ∷ seen) l)
+  where
+    more : count like t (t ∷ seen) ≤ count like t held → Within like (t ∷ seen) held
+    more k y = split (like y t) refl
       where
-        split : (b : Bool) → eq_v y r ≡ b → bit b + count eq_v y seen ≤ count eq_v y rows
-        split true q = rw (eq_v_eq y r (true_is q)) (omega (arith, k, bit_self eq_v vectors r))
+        split : (b : Bool) → like y t ≡ b → bit b + count like y seen ≤ count like y held
+        split true q = rw (held_alike.same y t (true_is q)) (omega (arith, k, bit_self like held_alike t))
         split false q = omega (arith, h y)
 
-    go : (b : Bool) → leb (count eq_v r (r ∷ seen)) (count eq_v r rows) ≡ b → cond b (lacking_rows rows (suc i) (r ∷ seen) l) (some i) ≡ none
-        → (Within eq_v (r ∷ seen) rows → lacking_rows rows (suc i) (r ∷ seen) l ≡ none → (x : Row) → count eq_v x (r ∷ seen) + count eq_v x l ≤ count eq_v x rows)
-        → count eq_v x seen + count eq_v x (r ∷ l) ≤ count eq_v x rows
-    go true q e f = omega (arith, f (more (leb→le (count eq_v r (r ∷ seen)) (count eq_v r rows) (true_is q))) e x)
+    go : (b : Bool) → leb (count like t (t ∷ seen)) (count like t held) ≡ b → cond b (lacking_tokens held (suc i) (t ∷ seen) l) (some i) ≡ none
+        → (Within like (t ∷ seen) held → lacking_tokens held (suc i) (t ∷ seen) l ≡ none → (x : NetToken) → count like x (t ∷ seen) + count like x l ≤ count like x held)
+        → count like x seen + count like x (t ∷ l) ≤ count like x held
+    go true q e f = omega (arith, f (more (leb→le (count like t (t ∷ seen)) (count like t held) (true_is q))) e x)
     go false q e f = some_not e
 
-none_lacking : (o : Option ℕ) → numbered o ≡ 0 → o ≡ none
-none_lacking none e = refl
-none_lacking (some i) e = absurd (omega arith)
-
--- a marking that lacks none of the rows taken has at least as many
-pub lacking_fewer : (rows l : List Row) → numbered (lacking_rows rows 0 [] l) ≡ 0 → length l ≤ length rows
-lacking_fewer rows l e =
-    omega (arith, length-less eq_v vectors l rows (λ x. omega (arith, lacking-within rows 0 [] l (λ y. omega arith) (none_lacking _ e) x)))
+-- a marking that lacks none of the net-tokens taken has at least as many
+pub lacking_fewer : (held l : List NetToken) → lacking_tokens held 0 [] l ≡ none → length l ≤ length held
+lacking_fewer held l e =
+    omega (arith, length-less like held_alike l held (λ x. omega (arith, lacking-within held 0 [] l (λ y. omega arith) e x)))

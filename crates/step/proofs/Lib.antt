@@ -2,7 +2,7 @@ pub mod ArcSums
 pub mod RuleHeld
 pub mod RuleMade
 pub mod VectorArrays
-pub mod RowProjections
+pub mod TokenSums
 pub mod InsideLaws
 pub mod FirstFailing
 pub mod LackLaws
@@ -10,11 +10,10 @@ pub mod VerdictLaws
 pub mod PaddedTests
 pub mod SidesHeld
 pub mod ProjectionLaws
-pub mod LikeRows
+pub mod LikeTokens
 pub mod CausesAre
 pub mod FiresLaws
 pub mod SoundLaws
-pub mod RowsBehind
 pub mod TokenLoop
 pub mod StepReading
 pub mod StepExactly

@@ -1,4 +1,4 @@
--- The projections of net-tokens' rows are those of the net-tokens, padded.
+-- The projections of held net-tokens are those of the net-tokens, padded.
 use Prim.Native.Nat.{ℕ, suc, ◌-◌, ◌≤◌, ◌<◌}
 use mathlib.Core.Path.{◌≡◌, refl, sym, ap, ◌∙◌}
 use mathlib.Core.Bool.{Bool, true, false, cond}
@@ -17,9 +17,9 @@ use Rattle.text.specs.Answers.{padded}
 use Rattle.text.proofs.PaddedLaws.{at-padded, length-padded}
 use Rattle.model.specs.Rules.{nth, right_model}
 use Rattle.model.proofs.RuleLaws.{right_is, few-places}
-use Rattle.marking.specs.Held.{token_row}
-use Rattle.step.specs.Verdict.{outer_rows, inside_in, inner_rows}
-use Rattle.step.proofs.RowProjections.{outer_none, outer_more, inner_none, inner_more}
+use Rattle.marking.specs.Held.{hold_token}
+use Rattle.step.specs.Verdict.{outer_tokens, inside_in, inner_tokens}
+use Rattle.step.proofs.TokenSums.{outer_none, outer_more, inner_none, inner_more}
 use Rattle.step.proofs.PaddedTests.{padded_of}
 use Rattle.step.proofs.SidesHeld.{net-small}
 
@@ -39,13 +39,13 @@ module _ (m : Model) (right : right_model m ≡ true) where
   few = few-places m (right_is m right)
 
   -- ---- the outer projection
-  outer-nth : (l : Marking) (i : ℕ) → nth (outer_rows (map token_row l)) i ≡ nth (outer m l) i
+  outer-nth : (l : Marking) (i : ℕ) → nth (outer_tokens (map hold_token l)) i ≡ nth (outer m l) i
   unfolding outer
   outer-nth [] i = rw outer_none (nth_zero 32 i ∙ sym (nth_zero (places m) i))
   outer-nth (t ∷ l) i =
       let e : suc t.place - 1 ≡ t.place = omega arith in
-      rw (outer_more (token_row t) (map token_row l), e)
-      (omega (arith, get_d-⊕ (unit t.place) (outer_rows (map token_row l)) i, get_d-⊕ (unit t.place) (outer m l) i, outer-nth l i))
+      rw (outer_more (hold_token t) (map hold_token l), e)
+      (omega (arith, get_d-⊕ (unit t.place) (outer_tokens (map hold_token l)) i, get_d-⊕ (unit t.place) (outer m l) i, outer-nth l i))
 
   pub outer-long : (l : Marking) → T (M.every (proper m) l) → length (outer m l) ≡ places m
   unfolding outer
@@ -55,17 +55,17 @@ module _ (m : Model) (right : right_model m ≡ true) where
       let r = outer-long l (and_r (proper m t) (M.every (proper m) l) h) in
       long_right (unit t.place) (outer m l) (omega (arith, length-unit t.place, f.place)) ∙ r
 
-  outer_wide : (l : Marking) → T (M.every (proper m) l) → length (outer_rows (map token_row l)) ≡ 32
+  outer_wide : (l : Marking) → T (M.every (proper m) l) → length (outer_tokens (map hold_token l)) ≡ 32
   outer_wide [] h = rw outer_none (length-zeros 32)
   outer_wide (t ∷ l) h =
       let f = fit m t (and_l (proper m t) (M.every (proper m) l) h) in
       let r = outer_wide l (and_r (proper m t) (M.every (proper m) l) h) in
       let e : suc t.place - 1 ≡ t.place = omega arith in
-      rw (outer_more (token_row t) (map token_row l), e)
-      (long_right (unit t.place) (outer_rows (map token_row l)) (omega (arith, length-unit t.place, f.place, few)) ∙ r)
+      rw (outer_more (hold_token t) (map hold_token l), e)
+      (long_right (unit t.place) (outer_tokens (map hold_token l)) (omega (arith, length-unit t.place, f.place, few)) ∙ r)
 
-  pub outer_rows_lem : (l : Marking) → T (M.every (proper m) l) → outer_rows (map token_row l) ≡ padded (outer m l)
-  outer_rows_lem l h = padded_of (outer_rows (map token_row l)) (outer m l) (outer_wide l h) (omega (arith, outer-long l h, few)) (outer-nth l)
+  pub outer_held : (l : Marking) → T (M.every (proper m) l) → outer_tokens (map hold_token l) ≡ padded (outer m l)
+  outer_held l h = padded_of (outer_tokens (map hold_token l)) (outer m l) (outer_wide l h) (omega (arith, outer-long l h, few)) (outer-nth l)
 
   -- ---- the inner projection of net n
   module _ (n : ℕ) (k : n < length m.nets) where
@@ -77,7 +77,7 @@ module _ (m : Model) (right : right_model m ≡ true) where
         let e : suc t.place - 1 ≡ t.place = omega arith in
         rw e (at-padded m.types few t.place)
 
-    inside-nth : (t : NetToken) → Fit m t → (i : ℕ) → nth (inside_in (padded m.types) n (token_row t)) i ≡ nth (inside_of m n t) i
+    inside-nth : (t : NetToken) → Fit m t → (i : ℕ) → nth (inside_in (padded m.types) n (hold_token t)) i ≡ nth (inside_of m n t) i
     inside-nth t f i = rw (type_same t) (go (eqb (type_of m t.place) (suc n)) refl)
       where
         go : (b : Bool) → eqb (type_of m t.place) (suc n) ≡ b → nth (cond b (padded t.inside) []) i ≡ nth (cond b t.inside []) i
@@ -86,16 +86,16 @@ module _ (m : Model) (right : right_model m ≡ true) where
             at-padded t.inside (omega (arith, own_long t f d, net-small m right n k)) i
         go false e = refl
 
-    inner-nth : (l : Marking) → T (M.every (proper m) l) → (i : ℕ) → nth (inner_rows (padded m.types) n (map token_row l)) i ≡ nth (inner m n l) i
+    inner-nth : (l : Marking) → T (M.every (proper m) l) → (i : ℕ) → nth (inner_tokens (padded m.types) n (map hold_token l)) i ≡ nth (inner m n l) i
     unfolding inner
     inner-nth [] h i = rw (inner_none (padded m.types) n) (nth_zero 32 i ∙ sym (nth_zero (net m n).size i))
     inner-nth (t ∷ l) h i =
         let f = fit m t (and_l (proper m t) (M.every (proper m) l) h) in
         let r = inner-nth l (and_r (proper m t) (M.every (proper m) l) h) i in
-        rw (inner_more (padded m.types) n (token_row t) (map token_row l))
+        rw (inner_more (padded m.types) n (hold_token t) (map hold_token l))
         (omega (
           arith,
-          get_d-⊕ (inside_in (padded m.types) n (token_row t)) (inner_rows (padded m.types) n (map token_row l)) i,
+          get_d-⊕ (inside_in (padded m.types) n (hold_token t)) (inner_tokens (padded m.types) n (map hold_token l)) i,
           get_d-⊕ (inside_of m n t) (inner m n l) i,
           inside-nth t f i,
           r,
@@ -113,17 +113,17 @@ module _ (m : Model) (right : right_model m ≡ true) where
         go f true e = omega (arith, own_long t f (eqb→eq (type_of m t.place) (suc n) (true_is e)))
         go f false e = omega arith
 
-    inner_wide : (l : Marking) → length (inner_rows (padded m.types) n (map token_row l)) ≡ 32
+    inner_wide : (l : Marking) → length (inner_tokens (padded m.types) n (map hold_token l)) ≡ 32
     inner_wide [] = rw (inner_none (padded m.types) n) (length-zeros 32)
     inner_wide (t ∷ l) =
-        rw (inner_more (padded m.types) n (token_row t) (map token_row l))
-        (long_right (inside_in (padded m.types) n (token_row t)) (inner_rows (padded m.types) n (map token_row l))
+        rw (inner_more (padded m.types) n (hold_token t) (map hold_token l))
+        (long_right (inside_in (padded m.types) n (hold_token t)) (inner_tokens (padded m.types) n (map hold_token l))
         (rw (inner_wide l) (go (eqb (get_or (padded m.types) (suc t.place - 1) 0) (suc n)))) ∙ inner_wide l)
       where
         go : (b : Bool) → length (cond b (padded t.inside) []) ≤ 32
         go true = omega (arith, length-padded t.inside)
         go false = omega arith
 
-    pub inner-rows : (l : Marking) → T (M.every (proper m) l) → inner_rows (padded m.types) n (map token_row l) ≡ padded (inner m n l)
-    inner-rows l h =
-        padded_of (inner_rows (padded m.types) n (map token_row l)) (inner m n l) (inner_wide l) (omega (arith, inner-long l h, net-small m right n k)) (inner-nth l h)
+    pub inner-held : (l : Marking) → T (M.every (proper m) l) → inner_tokens (padded m.types) n (map hold_token l) ≡ padded (inner m n l)
+    inner-held l h =
+        padded_of (inner_tokens (padded m.types) n (map hold_token l)) (inner m n l) (inner_wide l) (omega (arith, inner-long l h, net-small m right n k)) (inner-nth l h)

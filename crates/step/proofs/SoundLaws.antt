@@ -1,4 +1,4 @@
--- What the verdict is asked of holds of every right model's rule, and of the rows of right net-tokens.
+-- What the verdict is asked of holds of every right model's rule, and of right net-tokens as they are held.
 use Prim.Native.Nat.{ℕ, suc, ◌+◌, ◌-◌, ◌*◌, ◌/◌, ◌%◌, ◌^◌, ◌≤◌, ◌<◌}
 use mathlib.Core.Path.{◌≡◌, refl, ap, ◌∙◌}
 use mathlib.Core.Bool.{true}
@@ -7,7 +7,7 @@ use native.Mathlib.Omega.{arith}
 use native.Mathlib.Nat.{mul-le-mul}
 use borrow.Author.Tests.{lt-ltb, eq-eqb}
 use lib.Dec.{T, ltb}
-use lib.ListN.{length, get_or, get_or-eq_default}
+use lib.ListN.{length, length-map, get_or, get_or-eq_default}
 use Rattle.eos.specs.Vector.{times, zeros}
 use Rattle.eos.specs.Multiset as M
 use Rattle.eos.specs.Model.{NetToken, Marking, Transition, Model, places, net, event, size_of, type_of, proper}
@@ -20,18 +20,18 @@ use Rattle.text.specs.Lines.{every}
 use Rattle.text.specs.Answers.{padded}
 use Rattle.text.proofs.PaddedLaws.{at-padded}
 use Rattle.text.proofs.TestLaws.{within-is}
-use Rattle.marking.specs.Rows.{rows_in}
 use Rattle.model.specs.Rules.{nth, byte, right_sides, right_model, frame_of}
 use Rattle.model.specs.Held.{row, tabled, listed}
 use Rattle.model.proofs.PaddedRows.{small_at, nth-zeros, padded_none}
 use Rattle.model.proofs.RuleLaws.{list_is, sides_are, net-is, right_is, few-nets, few-places, right_type, right_net_lem, right_event_lem, sync_at}
 use Rattle.model.proofs.SlotLaws.{by_index, length-listed, listed_at, listed_past}
 use Rattle.model.proofs.TableLaws.{row_at, length-tabled, tabled-row}
-use Rattle.marking.specs.Held.{sizes_of, token_row}
+use Rattle.marking.specs.Tokens.{OnPlaces}
+use Rattle.marking.specs.Held.{sizes_of, hold_token}
 use Rattle.marking.specs.Reading.{Limits, right_net_token}
 use Rattle.marking.proofs.HoldMarking as hold
 use Rattle.step.specs.Rule.{hold_sides, hold_rule}
-use Rattle.step.specs.VerdictParts.{Sound, OnPlaces, Placed}
+use Rattle.step.specs.VerdictParts.{Sound, Placed}
 use Rattle.step.proofs.SidesHeld.{inner_side_long, net-small, Side, pre_side, post_side}
 use Rattle.step.proofs.ProjectionLaws.{fit}
 
@@ -124,18 +124,16 @@ sound_rule m right e known = record {
   post = side_small post post_side post-bytes m right e known;
 }
 
--- ---- what is required of rows
+-- ---- what is required of net-tokens
 
-on_places : (m : Model) → right_model m ≡ true → (l : Marking) → T (M.every (proper m) l) → OnPlaces (map token_row l)
+on_places : (m : Model) → right_model m ≡ true → (l : Marking) → T (M.every (proper m) l) → OnPlaces (map hold_token l)
 on_places m right [] h = tt
 on_places m right (t ∷ l) h =
     let f = fit m t (and_l (proper m t) (M.every (proper m) l) h) in
     (omega arith, omega (arith, f.place, few-places m (right_is m right)), on_places m right l (and_r (proper m t) (M.every (proper m) l) h))
 
--- net-tokens whose rows stand in the first rows of an array
-pub placed-rows : (m : Model) → right_model m ≡ true → (ts : Marking) → T (M.every (proper m) ts) → (n : ℕ) (l : List ℕ)
-    → n ≤ 256 → length l ≡ 8448 → rows_in n l ≡ map token_row ts → Placed n l
-placed-rows m right ts h n l few long is = record { few = few; long = long; places = rw is (on_places m right ts h) }
+pub placed-held : (m : Model) → right_model m ≡ true → (ts : Marking) → T (M.every (proper m) ts) → length ts ≤ 256 → Placed (map hold_token ts)
+placed-held m right ts h few = record { few = omega (arith, length-map ts hold_token); places = on_places m right ts h }
 
 -- net-tokens that are read for a model are the model's
 pub proper_read : (lim : Limits) (m : Model) (ts : Marking) → every (right_net_token lim (sizes_of m)) ts ≡ true → T (M.every (proper m) ts)

@@ -18,6 +18,7 @@ use Rattle.marking.specs.Reading.{Limits, read_block, right_block}
 use Rattle.marking.proofs.BlockExactly.{block_exactly}
 use Rattle.step.specs.Reading.{read_taking, read_step, right_step}
 use Rattle.step.specs.Printed.{step_text}
+use Rattle.text.specs.declared.Cause.TheVariants.{Syntax}
 
 module _ (lim : Limits) (z : Sizes) (events : ℕ) (s : Text) where
   -- an event's number, from 1, found again from its index
@@ -52,7 +53,7 @@ module _ (lim : Limits) (z : Sizes) (events : ℕ) (s : Text) where
       (exactly_by
       (first_makes (number_exactly (bytes "fire=") (in_range 1 events) s)
       (λ v. first_makes (block_exactly lim z s (bytes "take="))
-      (λ taken. last_makes (block_exactly lim z s (bytes "give=")) (λ given. true) 0
+      (λ taken. last_makes (block_exactly lim z s (bytes "give=")) (λ given. true) Syntax
       (λ given. record { event = v - 1; taken = taken; given = given }) (λ t. t.given) (λ given h. refl))
       (λ t. t.taken) (λ taken t h r. ap (λ (t : Step). t.taken) r.2))
       (λ t. suc t.event) (λ v t h r. event_again v t.event h (ap (λ (t : Step). t.event) r.1.2)))

@@ -1,114 +1,99 @@
--- Laws of reading a step: the lines in a row, each of which may be refused.
+-- The lines of a step read one after the other: its event, what it takes, and what it gives.
 use Prim.Native.Nat.{ℕ, ◌-◌, ◌≤◌}
-use mathlib.Core.Path.{◌≡◌, ap, ◌∙◌}
-use mathlib.Core.List.{List, map}
-use lib.ListN.{length}
+use mathlib.Core.Path.{◌≡◌, refl}
+use native.Mathlib.Omega.{arith}
+use Rattle.std.specs.Prelude.{Result}
+use Rattle.std.specs.declared.result.Result.TheVariants.{Ok, Err}
 use Rattle.text.specs.Bytes.{Text, bytes}
-use Rattle.text.specs.Lines.{Outcome, got, bad, then, in_range, read_number}
+use Rattle.text.specs.Lines.{Outcome, got, then, in_range, read_number}
+use Rattle.text.specs.Answers.{kept}
 use Rattle.text.specs.declared.Fault.{Fault}
-use Rattle.text.specs.Answers.{ended_of, kept_or}
-use Rattle.text.specs.declared.Ended.TheVariants.{Past, Stopped}
-use Rattle.text.proofs.Loops.{got_of, bad_of}
 use Rattle.text.proofs.TestLaws.{within-is}
 use Rattle.text.proofs.LinesExactly.{number_exactly}
+use Rattle.text_reader.specs.Place.{Reads}
+use Rattle.text_reader.specs.declared.Reader.{Reader}
+use Rattle.text_reader.proofs.ReadsLaws.{itself, plainly, read_of, first_refused, followed, passes}
+use Rattle.eos.specs.Model as eos
 use Rattle.eos.specs.Firing.{Step}
-use Rattle.marking.specs.Rows.{Row, rows_in}
-use Rattle.marking.specs.Held.{Sizes, token_row}
+use Rattle.marking.specs.Held.{Sizes}
 use Rattle.marking.specs.Reading.{Limits, read_block}
 use Rattle.step.specs.Reading.{Taking, read_taking, read_step}
-use Rattle.step.specs.Answers.{no_taking, no_step, TakeRows, take_rows, step_rows}
-use Rattle.step.specs.declared.TakeLines.{TakeLines}
-use Rattle.step.specs.declared.StepLines.{StepLines}
-use Rattle.step.specs.declared.TokenLines.{TokenLines}
-use Rattle.step.proofs.TokenLoop.{ReadLines}
+use Rattle.step.specs.Answers.{Rows, hold_rows, TakeRows, hold_taking, StepRows, hold_step}
 
--- an event is numbered from 1
-pub event_from-one : (key s : Text) (events at v next : ℕ) → read_number key (in_range 1 events) s at ≡ got v next → 1 ≤ v
-event_from-one key s events at v next e = (within-is 1 events v ((number_exactly key (in_range 1 events) s).back at v next e).fine-is).0
+module _ (lim : Limits) (z : Sizes) (events : ℕ) (old : Reader) where
+  -- ---- up to what is taken
 
--- a refusal has no event and no net-token
-pub taking-refused : (o : Outcome Taking) (d : Fault) (lines : TakeLines) (taken : List ℕ)
-    → lines ≡ no_taking (Stopped d) → o ≡ bad d → record { lines = lines; taken = rows_in lines.take taken } ≡ take_rows o
-unfolding take_rows ended_of kept_or
-taking-refused o d lines taken e f = rw (e, f)
+  abbrev fire : Outcome ℕ
+  fire = read_number (bytes "fire=") (in_range 1 events) old.src.now old.at
 
-pub rows-refused : (o : Outcome Step) (d : Fault) (lines : StepLines) (taken given : List ℕ)
-    → lines ≡ no_step (Stopped d) → o ≡ bad d
-    → record { lines = lines; taken = rows_in lines.take taken; given = rows_in lines.give given } ≡ step_rows o
-unfolding step_rows ended_of kept_or
-rows-refused o d lines taken given e f = rw (e, f)
+  abbrev make_taking : ℕ → eos.Marking → ℕ → Outcome Taking
+  make_taking e taken x₂ = got (record { event = e - 1; taken = taken }) x₂
 
--- ---- up to what is taken
+  abbrev behind_fire : Text → ℕ → ℕ → Outcome Taking
+  behind_fire s e x₁ = then (read_block (bytes "take=") lim z s x₁) (make_taking e)
 
-module _ (lim : Limits) (z : Sizes) (events : ℕ) (s : Text) (at : ℕ) where
-  -- the event's line is refused
-  pub step_unfired : (d : Fault) → read_number (bytes "fire=") (in_range 1 events) s at ≡ bad d → read_taking lim z events s at ≡ bad d
-  unfolding read_taking then
-  step_unfired d e = rw e
+  abbrev taking : Outcome Taking
+  taking = read_taking lim z events old.src.now old.at
 
-  module _ (event x₁ : ℕ) (fired : read_number (bytes "fire=") (in_range 1 events) s at ≡ got event x₁) where
-    -- a line of the taken is refused
-    pub step_untaken : (d : Fault) → read_block (bytes "take=") lim z s x₁ ≡ bad d → read_taking lim z events s at ≡ bad d
-    unfolding read_taking then
-    step_untaken d e = rw (fired, e)
+  pub fire_refused : {new : Reader} (e : Fault) → Reads fire old new (Err e) → Reads (kept hold_taking taking) old new (Err e)
+  unfolding read_taking
+  fire_refused e k = first_refused itself hold_taking fire behind_fire e (plainly k)
 
-    -- they are read
-    pub taking_read : (take : TokenLines) (taken : List ℕ) (x₂ : ℕ) → ReadLines take (rows_in take.count taken) (read_block (bytes "take=") lim z s x₁) x₂
-        → record { lines = record { ended = take.ended; event = event - 1; take = take.count }; taken = rows_in take.count taken }
-        ≡ take_rows (read_taking lim z events s at)
-    unfolding read_taking then take_rows ended_of kept_or
-    taking_read take taken x₂ t = rw (fired, t.is, t.past, t.rows_are, t.number)
+  module _ {a : Reader} (event : ℕ) (first : Reads fire old a (Ok event)) where
+    -- an event is numbered from 1
+    pub event_from-one : 1 ≤ event
+    event_from-one =
+        let q = read_of itself fire event (plainly first) in
+        omega (arith, q.held, (within-is 1 events q.value ((number_exactly (bytes "fire=") (in_range 1 events) old.src.now).back old.at q.value a.at q.is).fine-is).0)
 
--- ---- the answer taken apart, and what is given
+    abbrev take_lines : Outcome eos.Marking
+    take_lines = read_block (bytes "take=") lim z a.src.now a.at
 
--- the lines up to what is taken were read
-pub record ReadTaking (lines : TakeLines) (rows : List Row) (o : Outcome Taking) (next : ℕ) : Type 0 where
-  pub taking : Taking
-  pub is : o ≡ got taking next
-  pub event-is : lines.event ≡ taking.event
-  pub number : lines.take ≡ length taking.taken
-  pub rows_are : rows ≡ map token_row taking.taken
+    at_fire : {new : Reader} (r : Result TakeRows Fault) → Reads (kept hold_taking (behind_fire a.src.now event a.at)) a new r → Reads (kept hold_taking taking) old new r
+    unfolding read_taking
+    at_fire r k = followed itself hold_taking fire behind_fire event r (plainly first) (λ v is same. rw (← same) k)
 
-module _ (lines : TakeLines) (rows : List Row) (o : Outcome Taking) (e : record { lines = lines; taken = rows } ≡ take_rows o) where
-  taking-ended : lines.ended ≡ ended_of o
-  unfolding take_rows
-  taking-ended = ap (λ (r : TakeRows). r.lines.ended) e
+    pub take_refused : {new : Reader} (e : Fault) → Reads (kept hold_rows take_lines) a new (Err e) → Reads (kept hold_taking taking) old new (Err e)
+    take_refused e k = at_fire (Err e) (first_refused hold_rows hold_taking take_lines (λ _. make_taking event) e k)
 
-  pub taking-bad : (d : Fault) → lines.ended ≡ Stopped d → o ≡ bad d
-  taking-bad d k = bad_of o lines.ended d taking-ended k
+    pub taking_read : {new : Reader} (taken : Rows) → Reads (kept hold_rows take_lines) a new (Ok taken)
+        → Reads (kept hold_taking taking) old new (Ok (record { event = event - 1; taken = taken }))
+    taking_read {new} taken k =
+        at_fire _
+        (followed hold_rows hold_taking take_lines (λ _. make_taking event) taken _ k
+        (λ ts is held. rw held (passes hold_taking (make_taking event ts new.at) (record { event = event - 1; taken = ts }) refl refl)))
 
-  pub taking-got : (next : ℕ) → lines.ended ≡ Past next → ReadTaking lines rows o next
-  unfolding take_rows ended_of kept_or
-  taking-got next k =
-      let g = got_of o lines.ended next taking-ended k in
-      let f : record { lines = lines; taken = rows } ≡ take_rows (got g.value next) = e ∙ ap take_rows g.is in
-      record {
-        taking = g.value;
-        is = g.is;
-        event-is = ap (λ (r : TakeRows). r.lines.event) f;
-        number = ap (λ (r : TakeRows). r.lines.take) f;
-        rows_are = ap (λ (r : TakeRows). r.taken) f;
-      }
+  -- ---- a whole step
 
-module _ (lim : Limits) (z : Sizes) (events : ℕ) (s : Text) (at : ℕ) where
-  -- a line up to what is taken is refused
-  pub step-unread : (d : Fault) → read_taking lim z events s at ≡ bad d → read_step lim z events s at ≡ bad d
-  unfolding read_step then
-  step-unread d e = rw e
+  abbrev make_step : Taking → eos.Marking → ℕ → Outcome Step
+  make_step t given x₂ = got (record { event = t.event; taken = t.taken; given = given }) x₂
 
-  module _ (take : TakeLines) (taken : List ℕ) (x₁ : ℕ) (t : ReadTaking take (rows_in take.take taken) (read_taking lim z events s at) x₁) where
-    -- a line of the given is refused
-    pub step_ungiven : (d : Fault) → read_block (bytes "give=") lim z s x₁ ≡ bad d → read_step lim z events s at ≡ bad d
-    unfolding read_step then
-    step_ungiven d e = rw (t.is, e)
+  abbrev behind_taking : Text → Taking → ℕ → Outcome Step
+  behind_taking s t x₁ = then (read_block (bytes "give=") lim z s x₁) (make_step t)
 
-    -- all lines are read
-    pub step_read : (give : TokenLines) (given : List ℕ) (x₂ : ℕ) → ReadLines give (rows_in give.count given) (read_block (bytes "give=") lim z s x₁) x₂
-        → record {
-          lines = record { ended = give.ended; event = take.event; take = take.take; give = give.count };
-          taken = rows_in take.take taken;
-          given = rows_in give.count given;
-        }
-        ≡ step_rows (read_step lim z events s at)
-    unfolding read_step then step_rows ended_of kept_or
-    step_read give given x₂ g = rw (t.is, g.is, g.past, t.rows_are, g.rows_are, t.event-is, t.number, g.number)
+  abbrev whole : Outcome Step
+  whole = read_step lim z events old.src.now old.at
+
+  pub untaken : {new : Reader} (e : Fault) → Reads (kept hold_taking taking) old new (Err e) → Reads (kept hold_step whole) old new (Err e)
+  unfolding read_step
+  untaken e k = first_refused hold_taking hold_step taking behind_taking e k
+
+  module _ {mid : Reader} (t : TakeRows) (first : Reads (kept hold_taking taking) old mid (Ok t)) where
+    abbrev give_lines : Outcome eos.Marking
+    give_lines = read_block (bytes "give=") lim z mid.src.now mid.at
+
+    at_taking : {new : Reader} (r : Result StepRows Fault)
+        → ((v : Taking) → t ≡ hold_taking v → Reads (kept hold_step (then give_lines (make_step v))) mid new r) → Reads (kept hold_step whole) old new r
+    unfolding read_step
+    at_taking r next = followed hold_taking hold_step taking behind_taking t r first (λ v is held. next v held)
+
+    pub ungiven : {new : Reader} (e : Fault) → Reads (kept hold_rows give_lines) mid new (Err e) → Reads (kept hold_step whole) old new (Err e)
+    ungiven e k = at_taking (Err e) (λ v held. first_refused hold_rows hold_step give_lines (λ _. make_step v) e k)
+
+    pub step_read : {new : Reader} (given : Rows) → Reads (kept hold_rows give_lines) mid new (Ok given)
+        → Reads (kept hold_step whole) old new (Ok (record { event = t.event; taken = t.taken; given = given }))
+    step_read {new} given k =
+        at_taking _
+        (λ v held.
+        followed hold_rows hold_step give_lines (λ _. make_step v) given _ k
+        (λ ts is held'. rw (held, held') (passes hold_step (make_step v ts new.at) (record { event = v.event; taken = v.taken; given = ts }) refl refl)))

@@ -1,132 +1,59 @@
--- Laws of the loop that reads net-tokens and lays the row of each behind the others.
-use Prim.Native.Nat.{ℕ, suc, ◌+◌, ◌-◌, ◌*◌, ◌≤◌, ◌<◌}
-use mathlib.Core.Path.{◌≡◌, refl, ap, sym, ◌∙◌}
-use mathlib.Core.List.{List, [], ◌∷◌, ◌++◌, map, map-append, append-nil}
+-- Net-tokens laid one behind the other into room for them are the first of it.
+use Prim.Native.Nat.{ℕ, suc, ◌≤◌}
+use mathlib.Core.Path.{◌≡◌, refl, sym, ap, ap₂, ◌∙◌}
+use mathlib.Core.List.{List, [], ◌∷◌, map}
 use native.Mathlib.Omega.{arith}
-use native.Mathlib.Nat.{sub-zero}
-use lib.ListN.{length, length-append}
-use lib.Seq.{paste, append_snoc}
-use Rattle.text.specs.Bytes.{Text}
-use Rattle.text.specs.Lines.{Outcome, got, bad, then, many, in_range, read_number}
-use Rattle.text.specs.Repeat.{fill, filled}
-use Rattle.text.specs.Answers.{ended_of, kept_or}
+use native.Mathlib.Nat.{zero-add}
+use lib.ListN.{length, set, take, drop, length-map}
+use lib.Seq.{sets, sets-eq, take-append_seam}
+use Rattle.std.specs.declared.result.Result.TheVariants.{Ok, Err}
 use Rattle.text.specs.declared.Fault.{Fault}
-use Rattle.text.specs.declared.Ended.{Ended}
-use Rattle.text.specs.declared.Ended.TheVariants.{Past, Stopped}
-use Rattle.text.proofs.Loops.{got_of, bad_of, loop_turn, loop_bad, loop_done}
-use Rattle.text.proofs.PaddedLaws.{length-padded}
+use Rattle.text.specs.Lines.{Outcome, many}
+use Rattle.text.specs.Repeat.{fill}
+use Rattle.text.specs.Answers.{kept}
+use Rattle.text_reader.specs.Place.{Reads}
+use Rattle.text_reader.specs.declared.Reader.{Reader}
+use Rattle.text_reader.proofs.ReadsLaws.{read_of, refused_of, passes, fails}
+use Rattle.text_reader.proofs.LoopLaws.{filling}
+use Rattle.model_text.proofs.LineAnswers.{many-long}
 use Rattle.eos.specs.Model as eos
-use Rattle.model.specs.Limits.{line_limit, count_limit}
-use Rattle.marking.specs.Rows.{Row, rows_in}
-use Rattle.marking.specs.Held.{Sizes, token_row}
-use Rattle.marking.specs.Reading.{Limits, limits, read_net_token, read_block}
-use Rattle.marking.proofs.BlockLaws.{Read, counted}
-use Rattle.step.specs.Answers.{TokenRows, token_rows}
-use Rattle.step.specs.declared.TokenLines.{TokenLines}
-use Rattle.step.proofs.RowsBehind.{rows_put}
+use Rattle.marking.specs.declared.NetToken.{NetToken}
+use Rattle.marking.specs.Held.{hold_token}
+use Rattle.step.specs.Answers.{Rows, hold_rows, rows_of}
 
--- what a refusal leaves
-abbrev pub no_rows : Ended → TokenRows
-no_rows e = record { lines = record { ended = e; count = 0 }; rows = [] }
+abbrev pub lay : ℕ → NetToken → List NetToken → List NetToken
+lay i t room = set room i t
 
--- a net-token put behind the others
-abbrev pub put : ℕ → eos.NetToken → eos.Marking → eos.Marking
-put i t ts = ts ++ (t ∷ [])
-
-fill-behind : (i : ℕ) (l ts : eos.Marking) → fill put i l ts ≡ ts ++ l
+laid_is : (i : ℕ) (ts : eos.Marking) (room : List NetToken) → fill (λ k t. lay k (hold_token t)) i ts room ≡ sets room i (map hold_token ts)
 unfolding fill
-fill-behind i [] ts = sym (append-nil ts)
-fill-behind i (t ∷ l) ts = fill-behind (suc i) l (ts ++ (t ∷ [])) ∙ append_snoc ts t l
+laid_is i [] room = refl
+laid_is i (t ∷ ts) room = laid_is (suc i) ts (set room i (hold_token t))
 
--- put one behind the other, they are what was read
-filled_is : (o : Outcome eos.Marking) → filled put 0 [] o ≡ o
-unfolding filled
-filled_is (got l next) = rw (fill-behind 0 l [])
-filled_is (bad e) = refl
+first_laid : {A : Type 0} (vs room : List A) → length vs ≤ length room → take (length vs) (sets room 0 vs) ≡ vs
+first_laid vs room h = ap (take (length vs)) (sets-eq vs room 0 (omega (arith, h)) ∙ rw (zero-add (length vs)) refl) ∙ take-append_seam vs (drop (length vs) room)
 
-module _ (lim : Limits) (z : Sizes) (s : Text) where
-  abbrev reads : ℕ → Outcome eos.NetToken
-  reads = read_net_token lim z s
+pub first_held : (start : List NetToken) (f : ℕ → Outcome eos.NetToken) (n at : ℕ) (old new : Reader) (room : List NetToken) → n ≤ length start
+    → Reads (kept (filling hold_token lay start) (many f n at)) old new (Ok room) → Reads (kept (map hold_token) (many f n at)) old new (Ok (take n room))
+first_held start f n at old new room few k =
+    let q = read_of (filling hold_token lay start) (many f n at) room k in
+    let long : length q.value ≡ n = many-long f n at q.value new.at q.is in
+    let m : length (map hold_token q.value) ≡ n = length-map q.value hold_token ∙ long in
+    let same : take n room ≡ map hold_token q.value =
+    ap (take n) (q.held ∙ laid_is 0 q.value start) ∙ ap (λ (i : ℕ). take i (sets start 0 (map hold_token q.value))) (sym m)
+    ∙ first_laid (map hold_token q.value) start (omega (arith, m, few)) in
+    rw same (passes (map hold_token) (many f n at) q.value q.is q.moved)
 
-  -- i net-tokens stand in the rows, and the reading goes on at `at`
-  pub record Going (n from : ℕ) (i at : ℕ) (rows : List ℕ) : Type 0 where
-    pub tokens : eos.Marking
-    pub long : length tokens ≡ i
-    pub rows_are : rows_in i rows ≡ map token_row tokens
-    pub left : many reads n from ≡ filled put i tokens (many reads (n - i) at)
+abbrev rows_are : ℕ → List NetToken → Rows
+rows_are n ts = record { number = n; tokens = ts }
 
-  module _ (n from : ℕ) where
-    pub going_start : (rows : List ℕ) → Going n from 0 from rows
-    going_start rows = record { tokens = []; long = refl; rows_are = refl; left = rw (sub-zero n) (sym (filled_is (many reads n from))) }
+-- with their number
+pub counted_rows : (f : ℕ → Outcome eos.NetToken) (n at : ℕ) (old new : Reader) (room : List NetToken)
+    → Reads (kept (map hold_token) (many f n at)) old new (Ok (take n room)) → Reads (kept hold_rows (many f n at)) old new (Ok (rows_of n room))
+counted_rows f n at old new room k =
+    let q = read_of (map hold_token) (many f n at) (take n room) k in
+    let same : rows_of n room ≡ hold_rows q.value = ap₂ rows_are (sym (many-long f n at q.value new.at q.is)) q.held in
+    rw same (passes hold_rows (many f n at) q.value q.is q.moved)
 
-    module _ (i at : ℕ) (rows : List ℕ) (g : Going n from i at rows) where
-      -- one more net-token is read and its row laid
-      pub going_turn : (next place : ℕ) (counts row after : List ℕ) → i < n → i * 33 + 33 ≤ length rows → Read lim z s at next place counts
-          → row ≡ place ∷ counts → after ≡ paste rows (i * 33) row 33 → Going n from (i + 1) next after
-      going_turn next place counts row after h k r e f =
-          let t = r.token in
-          let w : row ≡ token_row t = e ∙ r.row_is in
-          let m : length row ≡ 33 = ap length w ∙ ap suc (length-padded t.inside) in
-          record {
-            tokens = g.tokens ++ (t ∷ []);
-            long = omega (arith, length-append g.tokens (t ∷ []), g.long);
-            rows_are = ap (rows_in (i + 1)) f ∙ rows_put rows row i k m ∙ rw (g.rows_are, w) (sym (map-append token_row g.tokens (t ∷ [])));
-            left = g.left ∙ loop_turn put reads i n at g.tokens h t next r.is;
-          }
-
-      -- a line that is refused ends the reading
-      pub going_bad : (d : Fault) → i < n → reads at ≡ bad d → no_rows (Stopped d) ≡ token_rows (many reads n from)
-      unfolding token_rows ended_of kept_or
-      going_bad d h e = rw (g.left ∙ loop_bad put reads i n at g.tokens h d e)
-
-      -- after n lines the rows are theirs
-      pub going_done : i ≤ n → n ≤ i → record { lines = record { ended = Past at; count = n }; rows = rows_in n rows } ≡ token_rows (many reads n from)
-      unfolding token_rows ended_of kept_or
-      going_done h k =
-          let m : n ≡ i = omega arith in
-          rw (g.left ∙ loop_done put reads i n at g.tokens k, m, g.rows_are, g.long)
-
--- ---- their number, and their lines
-
-module _ (key : Text) (z : Sizes) (s : Text) (at : ℕ) where
-  -- their number is refused
-  pub tokens-refused : (d : Fault) → read_number key (in_range 0 line_limit) s at ≡ bad d → no_rows (Stopped d) ≡ token_rows (read_block key (limits line_limit count_limit) z s at)
-  unfolding read_block then token_rows ended_of kept_or
-  tokens-refused d e = rw (sym (counted key line_limit z s at (bad d) (sym e)))
-
-  -- their number is read, and they follow
-  pub tokens-counted : (n next : ℕ) → read_number key (in_range 0 line_limit) s at ≡ got n next
-      → many (read_net_token (limits line_limit count_limit) z s) n next ≡ read_block key (limits line_limit count_limit) z s at
-  unfolding read_block then
-  tokens-counted n next e = rw (sym (counted key line_limit z s at (got n next) (sym e)))
-
--- ---- their answer taken apart
-
--- net-tokens that were read: their number, and their rows
-pub record ReadLines (lines : TokenLines) (rows : List Row) (o : Outcome eos.Marking) (next : ℕ) : Type 0 where
-  pub tokens : eos.Marking
-  pub is : o ≡ got tokens next
-  pub past : lines.ended ≡ Past next
-  pub number : lines.count ≡ length tokens
-  pub rows_are : rows ≡ map token_row tokens
-
-module _ (lines : TokenLines) (rows : List Row) (o : Outcome eos.Marking) (e : record { lines = lines; rows = rows } ≡ token_rows o) where
-  ended_is : lines.ended ≡ ended_of o
-  unfolding token_rows
-  ended_is = ap (λ (r : TokenRows). r.lines.ended) e
-
-  pub lines-bad : (d : Fault) → lines.ended ≡ Stopped d → o ≡ bad d
-  lines-bad d k = bad_of o lines.ended d ended_is k
-
-  pub lines-got : (next : ℕ) → lines.ended ≡ Past next → ReadLines lines rows o next
-  unfolding token_rows ended_of kept_or
-  lines-got next k =
-      let g = got_of o lines.ended next ended_is k in
-      let f : record { lines = lines; rows = rows } ≡ token_rows (got g.value next) = e ∙ ap token_rows g.is in
-      record {
-        tokens = g.value;
-        is = g.is;
-        past = k;
-        number = ap (λ (r : TokenRows). r.lines.count) f;
-        rows_are = ap (λ (r : TokenRows). r.rows) f;
-      }
+-- a refusal is one whatever is held
+pub still_refused : {A B C : Type 0} (f : A → B) (g : A → C) (o : Outcome A) (e : Fault) {old new : Reader} → Reads (kept f o) old new (Err e) → Reads (kept g o) old new (Err e)
+still_refused f g o e k = let r = refused_of f o e k in fails g o e r.is r.same

@@ -4,8 +4,8 @@ use mathlib.Core.Path.{◌≡◌, refl, sym, ap, ap₂, ◌∙◌}
 use mathlib.Core.List.{List, [], ◌∷◌, ◌++◌, append_assoc}
 use native.Mathlib.Omega.{arith}
 use native.Mathlib.Numerals.{add-one}
-use lib.ListN.{length, take, drop, set, length-append, length-drop, get_or-append, get_or-eq_default}
-use lib.Seq.{ext_get_or, get_or-append-add, get_or-drop, take-suc, length-take-le}
+use lib.ListN.{length, take, set, length-append, get_or-append, get_or-eq_default}
+use lib.Seq.{ext_get_or, get_or-append-add, take-suc, length-take-le}
 use Rattle.eos.specs.Vector.{◌⊕◌, ◌⊖◌, zeros, unit}
 use Rattle.eos.proofs.VectorLaws.{get_d-⊕}
 use Rattle.eos.proofs.VectorSums.{length-zeros, long-left, nth_zero}
@@ -64,26 +64,24 @@ put_next_lem [] v x h = absurd (omega arith)
 put_next_lem (a ∷ s) [] x h = ap (λ (k : List ℕ). (a + x) ∷ k) (sym (sum_nil s))
 put_next_lem (a ∷ s) (b ∷ v) x h = ap (λ (k : List ℕ). (a + b) ∷ k) (put_next_lem s v x (omega arith))
 
--- a row of 32 numbers added from `at` on, number by number
-module _ (s l : List ℕ) (at from k : ℕ) (room : at + 32 ≤ length s) (long : from + 32 ≤ length l) (h : k < 32) where
-  part_long : length (zeros at ++ take k (drop from l)) ≡ at + k
-  part_long =
-      omega (arith, length-append (zeros at) (take k (drop from l)), length-zeros at, length-take-le k (drop from l) (omega (arith, length-drop from l)))
+-- 32 numbers added from `at` on, number by number
+module _ (s l : List ℕ) (at k : ℕ) (room : at + 32 ≤ length s) (long : length l ≡ 32) (h : k < 32) where
+  part_long : length (zeros at ++ take k l) ≡ at + k
+  part_long = omega (arith, length-append (zeros at) (take k l), length-zeros at, length-take-le k l (omega arith))
 
   -- the next number still is what it was
-  pub add_at : nth (s ⊕ (zeros at ++ take k (drop from l))) (at + k) ≡ nth s (at + k)
+  pub add_at : nth (s ⊕ (zeros at ++ take k l)) (at + k) ≡ nth s (at + k)
   add_at =
-      let v : List ℕ = zeros at ++ take k (drop from l) in
+      let v : List ℕ = zeros at ++ take k l in
       omega (arith, get_d-⊕ s v (at + k), get_or-eq_default v 0 {n = at + k} (omega (arith, part_long)))
 
-  pub add_turn : set (s ⊕ (zeros at ++ take k (drop from l))) (at + k) (nth (s ⊕ (zeros at ++ take k (drop from l))) (at + k) + nth l (from + k))
-      ≡ s ⊕ (zeros at ++ take (k + 1) (drop from l))
+  pub add_turn : set (s ⊕ (zeros at ++ take k l)) (at + k) (nth (s ⊕ (zeros at ++ take k l)) (at + k) + nth l k) ≡ s ⊕ (zeros at ++ take (k + 1) l)
   add_turn =
-      let v : List ℕ = zeros at ++ take k (drop from l) in
-      let x : ℕ = nth (drop from l) k in
-      let e : take (suc k) (drop from l) ≡ take k (drop from l) ++ (x ∷ []) = take-suc (drop from l) k 0 (omega (arith, length-drop from l)) in
+      let v : List ℕ = zeros at ++ take k l in
+      let x : ℕ = nth l k in
+      let e : take (suc k) l ≡ take k l ++ (x ∷ []) = take-suc l k 0 (omega arith) in
       let n : length v ≡ at + k = part_long in
-      rw (add-one k, e, ← append_assoc (zeros at) (take k (drop from l)) (x ∷ []), ← get_or-drop from l k 0, ← n)
+      rw (add-one k, e, ← append_assoc (zeros at) (take k l) (x ∷ []), ← n)
       (put_next_lem s v x (omega arith))
 
 -- ---- a row added to a table, at row m

@@ -1,5 +1,5 @@
 -- Laws of the verdict: the tests before one are passed, and it says why.
-use Prim.Native.Nat.{ℕ, zero, suc, ◌+◌, ◌-◌, ◌≤◌, ◌<◌}
+use Prim.Native.Nat.{ℕ, suc, ◌+◌, ◌-◌, ◌≤◌, ◌<◌}
 use mathlib.Core.Path.{◌≡◌, refl, sym, ap, ◌∙◌}
 use mathlib.Core.Bool.{Bool, true, false}
 use mathlib.Core.List.{List, [], ◌∷◌, ◌++◌}
@@ -7,25 +7,45 @@ use mathlib.Core.Option.{Option, none, some}
 use native.Mathlib.Omega.{arith}
 use borrow.Author.Tests.{le-leb, lt-leb}
 use lib.ListN.{length}
+use Rattle.std.specs.Prelude.{Result, Ok, Err, None, Some}
+use Rattle.std.specs.Result.{IsErrAnd}
 use Rattle.eos.specs.Vector.{le_v, eq_v}
-use Rattle.eos.specs.Causes.{Cause, taking, giving, short, unequal, missing, crowded, first, unless, at, failing, numbered}
-use Rattle.marking.specs.Rows.{Row}
+use Rattle.eos.specs.Causes.{Cause, taking, giving, short, unequal, missing, crowded, first, unless, at, failing}
+use Rattle.marking.specs.declared.NetToken.{NetToken}
 use Rattle.model.specs.Held.{row_in}
 use Rattle.step.specs.declared.Sides.{Sides}
 use Rattle.step.specs.declared.Rule.{Rule}
-use Rattle.step.specs.declared.Verdict.{Verdict}
-use Rattle.step.specs.declared.Verdict.TheVariants.{Fires, Turned}
-use Rattle.step.specs.Verdict.{outer_rows, inner_taken_in, inner_given_in, lacking_rows, outer_causes, inner_causes, marking_causes, causes_in, cause_pair, verdict_of}
+use Rattle.step.specs.declared.Cause.TheVariants.{Places, Short, Unequal, Missing, Crowded}
+use Rattle.step.specs.declared.Refusal.{Refusal}
+use Rattle.step.specs.Verdict.{outer_tokens, inner_taken_in, inner_given_in, lacking_tokens, outer_causes, inner_causes, marking_causes, causes_in, verdict_of, told}
 use Rattle.step.specs.VerdictParts.{Inner, even_in}
 use Rattle.step.proofs.FirstFailing.{failing_same}
 use Rattle.step.proofs.LackLaws.{lacking_fewer}
 
-pub never : {A : Type 0} (n b : ℕ) → Turned n b ≡ Fires → A
-never n b e = let z : ◌≡◌ {A = ℕ} 0 1 = cc in absurd (omega arith)
+-- what a verdict says
+abbrev pub Verdict : Type 0
+Verdict = Result (Unit {0}) Refusal
 
 -- the verdict of a list of tests, on a step that takes t lines
 abbrev answer : ℕ → List (Option Cause) → Verdict
 answer t l = verdict_of t (first l)
+
+-- what `?` hands on is a refusal as it was
+pub handed_on : (v : Verdict) (r : Refusal) → IsErrAnd v (λ x. x ≡ r) → v ≡ Err r
+handed_on (Ok u) r h = absurd h
+handed_on (Err x) r h = ap (λ (y : Refusal). Err y) h
+
+-- a verdict that a step is turned down is not that it fires
+pub never : {A : Type 0} (r : Refusal) → ◌≡◌ {A = Verdict} (Err r) (Ok tt) → A
+never r e = let z : ◌≡◌ {A = ℕ} 0 1 = cc in absurd (omega arith)
+
+pub told_none : (o : Option ℕ) → None ≡ told o → o ≡ none
+told_none none e = refl
+told_none (some i) e = let z : ◌≡◌ {A = ℕ} 0 1 = cc in absurd (omega arith)
+
+pub told_some : (o : Option ℕ) (i : ℕ) → Some i ≡ told o → o ≡ some i
+told_some none i e = let z : ◌≡◌ {A = ℕ} 0 1 = cc in absurd (omega arith)
+told_some (some j) i e = let k : i ≡ j = cc in rw k
 
 -- ---- one test
 
@@ -38,66 +58,59 @@ module _ (t : ℕ) (c : Cause) (l : List (Option Cause)) where
   unfolding first unless
   stop b e = rw e
 
-module _ (t : ℕ) (c : ℕ → Cause) (l : List (Option Cause)) where
-  skip_at : (o : Option ℕ) → numbered o ≡ 0 → answer t (at c o ∷ l) ≡ answer t l
+module _ (t : ℕ) (c : ℕ → Cause) (l : List (Option Cause)) (o : Option ℕ) where
+  skip_at : o ≡ none → answer t (at c o ∷ l) ≡ answer t l
   unfolding first at
-  skip_at none e = refl
-  skip_at (some i) e = absurd (omega arith)
+  skip_at e = rw e
 
-  stop_at : (o : Option ℕ) (v : ℕ) → v ≡ numbered o → (v ≡ 0 → ⊥) → answer t (at c o ∷ l) ≡ verdict_of t (some (c (v - 1)))
+  stop_at : (i : ℕ) → o ≡ some i → answer t (at c o ∷ l) ≡ verdict_of t (some (c i))
   unfolding first at
-  stop_at none v e h = absurd (h e)
-  stop_at (some i) v e h =
-      let k : i ≡ v - 1 = omega arith in
-      ap (λ (n : ℕ). verdict_of t (some (c n))) k
+  stop_at i e = rw e
 
-nothing : (t : ℕ) → answer t [] ≡ Fires
+nothing : (t : ℕ) → answer t [] ≡ Ok tt
 unfolding first verdict_of
 nothing t = refl
-
-some_number : (v : ℕ) → (v ≡ 0 → ⊥) → 1 ≤ v
-some_number zero h = absurd (h refl)
-some_number (suc v) h = omega arith
 
 -- ---- a list and one behind it
 
 module _ (t : ℕ) (b : List (Option Cause)) where
   -- the one behind is asked where the first is passed
-  goes_on : (a : List (Option Cause)) → answer t a ≡ Fires → answer t (a ++ b) ≡ answer t b
+  goes_on : (a : List (Option Cause)) → answer t a ≡ Ok tt → answer t (a ++ b) ≡ answer t b
   unfolding first verdict_of
   goes_on [] e = refl
   goes_on (none ∷ a) e = goes_on a e
-  goes_on (some c ∷ a) e = never (cause_pair t c).number (cause_pair t c).beside e
+  goes_on (some c ∷ a) e = never _ e
 
   -- and not where it turns the step down
-  turns : (a : List (Option Cause)) {n k : ℕ} → answer t a ≡ Turned n k → answer t (a ++ b) ≡ Turned n k
+  turns : (a : List (Option Cause)) {r : Refusal} → answer t a ≡ Err r → answer t (a ++ b) ≡ Err r
   unfolding first verdict_of
-  turns [] {n} {k} e = never n k (sym e)
+  turns [] {r} e = never r (sym e)
   turns (none ∷ a) e = turns a e
   turns (some c ∷ a) e = e
 
 -- ---- the tests on the places
-module _ (t : ℕ) (pre post : Sides) (taken given : List Row) where
+module _ (t : ℕ) (pre post : Sides) (taken given : List NetToken) where
   abbrev pub on_places : Verdict
   on_places = answer t (outer_causes pre post taken given)
 
-  pub stop_take : eq_v (outer_rows taken) pre.outer ≡ false → on_places ≡ Turned 8 2
+  pub stop_take : eq_v (outer_tokens taken) pre.outer ≡ false → on_places ≡ Err (record { cause = Places; beside = 2 })
   unfolding outer_causes verdict_of
-  stop_take e = stop t taking _ (eq_v (outer_rows taken) pre.outer) e
+  stop_take e = stop t taking _ (eq_v (outer_tokens taken) pre.outer) e
 
-  module _ (a : eq_v (outer_rows taken) pre.outer ≡ true) where
-    pub stop_give : eq_v (outer_rows given) post.outer ≡ false → on_places ≡ Turned 8 (t + 3)
+  module _ (a : eq_v (outer_tokens taken) pre.outer ≡ true) where
+    pub stop_give : eq_v (outer_tokens given) post.outer ≡ false → on_places ≡ Err (record { cause = Places; beside = t + 3 })
     unfolding outer_causes verdict_of
     stop_give e =
         let k : 3 + t ≡ t + 3 = omega arith in
-        skip t taking _ (eq_v (outer_rows taken) pre.outer) a ∙ stop t giving [] (eq_v (outer_rows given) post.outer) e ∙ ap (Turned 8) k
+        skip t taking _ (eq_v (outer_tokens taken) pre.outer) a ∙ stop t giving [] (eq_v (outer_tokens given) post.outer) e
+        ∙ ap (λ (n : ℕ). Err (record { cause = Places; beside = n })) k
 
-    pub pass_places : eq_v (outer_rows given) post.outer ≡ true → on_places ≡ Fires
+    pub pass_places : eq_v (outer_tokens given) post.outer ≡ true → on_places ≡ Ok tt
     unfolding outer_causes
-    pass_places e = skip t taking _ (eq_v (outer_rows taken) pre.outer) a ∙ skip t giving [] (eq_v (outer_rows given) post.outer) e ∙ nothing t
+    pass_places e = skip t taking _ (eq_v (outer_tokens taken) pre.outer) a ∙ skip t giving [] (eq_v (outer_tokens given) post.outer) e ∙ nothing t
 
 -- ---- the tests on the nets
-module _ (t : ℕ) (q : Rule) (taken given : List Row) where
+module _ (t : ℕ) (q : Rule) (taken given : List NetToken) where
   abbrev pub on_nets : Verdict
   on_nets = answer t (inner_causes q taken given)
 
@@ -107,30 +120,31 @@ module _ (t : ℕ) (q : Rule) (taken given : List Row) where
   abbrev gives : Option ℕ
   gives = failing q.nets 0 (inner_given_in q taken given)
 
-  pub stop_short : (v : ℕ) → v ≡ numbered takes → (v ≡ 0 → ⊥) → on_nets ≡ Turned 9 v
+  pub stop_short : (n : ℕ) → Some n ≡ told takes → on_nets ≡ Err (record { cause = Short; beside = n + 1 })
   unfolding inner_causes verdict_of
-  stop_short v e h =
-      let k : suc (v - 1) ≡ v = omega (arith, some_number v h) in
-      stop_at t short _ takes v e h ∙ ap (Turned 9) k
+  stop_short n e =
+      let k : suc n ≡ n + 1 = omega arith in
+      stop_at t short _ takes n (told_some takes n e) ∙ ap (λ (i : ℕ). Err (record { cause = Short; beside = i })) k
 
-  module _ (a : numbered takes ≡ 0) where
-    pub stop_unequal : (v : ℕ) → v ≡ numbered gives → (v ≡ 0 → ⊥) → on_nets ≡ Turned 10 v
+  module _ (a : None ≡ told takes) where
+    pub stop_unequal : (n : ℕ) → Some n ≡ told gives → on_nets ≡ Err (record { cause = Unequal; beside = n + 1 })
     unfolding inner_causes verdict_of
-    stop_unequal v e h =
-        let k : suc (v - 1) ≡ v = omega (arith, some_number v h) in
-        skip_at t short _ takes a ∙ stop_at t unequal [] gives v e h ∙ ap (Turned 10) k
+    stop_unequal n e =
+        let k : suc n ≡ n + 1 = omega arith in
+        skip_at t short _ takes (told_none takes a) ∙ stop_at t unequal [] gives n (told_some gives n e)
+        ∙ ap (λ (i : ℕ). Err (record { cause = Unequal; beside = i })) k
 
-    pub pass_nets : numbered gives ≡ 0 → on_nets ≡ Fires
+    pub pass_nets : None ≡ told gives → on_nets ≡ Ok tt
     unfolding inner_causes
-    pass_nets e = skip_at t short _ takes a ∙ skip_at t unequal [] gives e ∙ nothing t
+    pass_nets e = skip_at t short _ takes (told_none takes a) ∙ skip_at t unequal [] gives (told_none gives e) ∙ nothing t
 
 -- over tables of the inner projections
-module _ (q : Rule) (taken : List Row) (held : List ℕ) (few : q.nets ≤ 8) (h : Inner q.types taken held) where
+module _ (q : Rule) (taken : List NetToken) (held : List ℕ) (few : q.nets ≤ 8) (h : Inner q.types taken held) where
   pub taken_same : failing q.nets 0 (λ n. le_v (row_in 32 q.pre.inner n) (row_in 32 held n)) ≡ failing q.nets 0 (inner_taken_in q taken)
   unfolding inner_taken_in
   taken_same = failing_same q.nets 0 _ (inner_taken_in q taken) (λ i k. rw (h.rows i (omega arith)))
 
-  pub given_same : (given : List Row) (made : List ℕ) → Inner q.types given made
+  pub given_same : (given : List NetToken) (made : List ℕ) → Inner q.types given made
       → failing q.nets 0 (even_in made held q.pre.inner q.post.inner) ≡ failing q.nets 0 (inner_given_in q taken given)
   unfolding inner_given_in
   given_same given made m =
@@ -138,60 +152,56 @@ module _ (q : Rule) (taken : List Row) (held : List ℕ) (few : q.nets ≤ 8) (h
       (λ i k. rw (h.rows i (omega arith), m.rows i (omega arith)))
 
 -- ---- the tests on the marking
-module _ (room t : ℕ) (taken : List Row) (give : ℕ) (rows : List Row) where
+module _ (room t : ℕ) (taken : List NetToken) (give : ℕ) (held : List NetToken) where
   abbrev pub on_marking : Verdict
-  on_marking = answer t (marking_causes room taken give rows)
+  on_marking = answer t (marking_causes room taken give held)
 
   abbrev lacks : Option ℕ
-  lacks = lacking_rows rows 0 [] taken
+  lacks = lacking_tokens held 0 [] taken
 
-  pub stop_missing : (v : ℕ) → v ≡ numbered lacks → (v ≡ 0 → ⊥) → on_marking ≡ Turned 11 (v + 2)
+  pub stop_missing : (i : ℕ) → Some i ≡ told lacks → on_marking ≡ Err (record { cause = Missing; beside = i + 3 })
   unfolding marking_causes verdict_of
-  stop_missing v e h =
-      let k : 3 + (v - 1) ≡ v + 2 = omega (arith, some_number v h) in
-      stop_at t missing _ lacks v e h ∙ ap (Turned 11) k
+  stop_missing i e =
+      let k : 3 + i ≡ i + 3 = omega arith in
+      stop_at t missing _ lacks i (told_some lacks i e) ∙ ap (λ (n : ℕ). Err (record { cause = Missing; beside = n })) k
 
-  module _ (a : numbered lacks ≡ 0) where
-    pub stop_crowded : room + length taken < length rows + give → on_marking ≡ Turned 12 (t + 3)
+  module _ (a : None ≡ told lacks) where
+    pub stop_crowded : room + length taken < length held + give → on_marking ≡ Err (record { cause = Crowded; beside = t + 3 })
     unfolding marking_causes verdict_of
     stop_crowded h =
         let k : 3 + t ≡ t + 3 = omega arith in
-        skip_at t missing _ lacks a ∙ stop t crowded [] _ (lt-leb (length rows - length taken + give) room (omega arith)) ∙ ap (Turned 12) k
+        skip_at t missing _ lacks (told_none lacks a) ∙ stop t crowded [] _ (lt-leb (length held - length taken + give) room (omega arith))
+        ∙ ap (λ (n : ℕ). Err (record { cause = Crowded; beside = n })) k
 
-    pub pass_marking : length rows + give ≤ room + length taken → on_marking ≡ Fires
+    pub pass_marking : length held + give ≤ room + length taken → on_marking ≡ Ok tt
     unfolding marking_causes
     pass_marking h =
-        skip_at t missing _ lacks a
-        ∙ skip t crowded [] _ (le-leb (length rows - length taken + give) room (omega (arith, lacking_fewer rows taken a)))
+        skip_at t missing _ lacks (told_none lacks a)
+        ∙ skip t crowded [] _ (le-leb (length held - length taken + give) room (omega (arith, lacking_fewer held taken (told_none lacks a))))
         ∙ nothing t
 
 -- ---- the parts in turn
-module _ (room t : ℕ) (q : Rule) (taken given rows : List Row) where
+module _ (room t : ℕ) (q : Rule) (taken given held : List NetToken) where
   abbrev in_turn : Verdict
-  in_turn = answer t (causes_in room q taken given rows)
+  in_turn = answer t (causes_in room q taken given held)
 
   abbrev behind_places : List (Option Cause)
-  behind_places = inner_causes q taken given ++ marking_causes room taken (length given) rows
+  behind_places = inner_causes q taken given ++ marking_causes room taken (length given) held
 
-  module _ (u : Verdict) (is : u ≡ on_places t q.pre q.post taken given) where
-    -- turned down on the places
-    pub by_places : {n k : ℕ} → u ≡ Turned n k → u ≡ in_turn
+  -- turned down on the places
+  pub by_places : (r : Refusal) → Err r ≡ on_places t q.pre q.post taken given → Err r ≡ in_turn
+  unfolding causes_in
+  by_places r e = sym (turns t behind_places (outer_causes q.pre q.post taken given) (sym e))
+
+  module _ (e : Ok tt ≡ on_places t q.pre q.post taken given) where
+    places-passed : answer t behind_places ≡ in_turn
     unfolding causes_in
-    by_places e = e ∙ sym (turns t behind_places (outer_causes q.pre q.post taken given) (sym is ∙ e))
+    places-passed = sym (goes_on t behind_places (outer_causes q.pre q.post taken given) (sym e))
 
-    module _ (e : u ≡ Fires) where
-      places-passed : answer t behind_places ≡ in_turn
-      unfolding causes_in
-      places-passed = sym (goes_on t behind_places (outer_causes q.pre q.post taken given) (sym is ∙ e))
+    -- on the nets
+    pub by_nets : (r : Refusal) → Err r ≡ on_nets t q taken given → Err r ≡ in_turn
+    by_nets r f = sym (turns t (marking_causes room taken (length given) held) (inner_causes q taken given) (sym f)) ∙ places-passed
 
-      module _ (v : Verdict) (says : v ≡ on_nets t q taken given) where
-        -- on the nets
-        pub by_nets : {n k : ℕ} → v ≡ Turned n k → v ≡ in_turn
-        by_nets f = f ∙ sym (turns t (marking_causes room taken (length given) rows) (inner_causes q taken given) (sym says ∙ f)) ∙ places-passed
-
-        -- and else it is for the marking to say
-        pub by_marking : v ≡ Fires → (give : ℕ) → length given ≡ give → (w : Verdict) → w ≡ on_marking room t taken give rows → w ≡ in_turn
-        by_marking f give l w h =
-            h ∙ ap (λ (g : ℕ). on_marking room t taken g rows) (sym l)
-            ∙ sym (goes_on t (marking_causes room taken (length given) rows) (inner_causes q taken given) (sym says ∙ f))
-            ∙ places-passed
+    -- and else it is for the marking to say
+    pub by_marking : Ok tt ≡ on_nets t q taken given → (v : Verdict) → v ≡ on_marking room t taken (length given) held → v ≡ in_turn
+    by_marking f v h = h ∙ sym (goes_on t (marking_causes room taken (length given) held) (inner_causes q taken given) (sym f)) ∙ places-passed

@@ -1,59 +1,53 @@
--- What the reader of a step's lines answers for what a definition gives: how the reading ended, and the rows of the net-tokens in the order of
--- their lines.
-use Rattle.std.specs.Prelude.{List, [], map, length}
-use Rattle.text.specs.Lines.{Outcome}
-use Rattle.text.specs.Answers.{ended_of, kept_or}
-use Rattle.text.specs.declared.Ended.{Ended}
+-- How what is read of a step's lines is held: its event, and the net-tokens in the order of their lines. They stand in lent room, the first
+-- of which are theirs; what stands behind them is left open.
+use Rattle.std.specs.Prelude.{ℕ, List, map, length, take, Result}
+use Rattle.std.specs.declared.result.Result.TheVariants.{Ok, Err}
+use Rattle.text.specs.declared.Fault.{Fault}
 use Rattle.eos.specs.Model as eos
 use Rattle.eos.specs.Firing.{Step}
-use Rattle.marking.specs.Rows.{Row}
-use Rattle.marking.specs.Held.{token_row}
-use Rattle.step.specs.declared.TokenLines.{TokenLines}
+use Rattle.marking.specs.declared.NetToken.{NetToken}
+use Rattle.marking.specs.Held.{hold_token}
 use Rattle.step.specs.Reading.{Taking}
 use Rattle.step.specs.declared.TakeLines.{TakeLines}
 use Rattle.step.specs.declared.StepLines.{StepLines}
 
--- no step, and how its reading ended
-abbrev pub no_step : Ended → StepLines
-no_step e = record { ended = e; event = 0; take = 0; give = 0 }
+-- net-tokens and their number
+pub record Rows : Type 0 where
+  pub number : ℕ
+  pub tokens : List NetToken
 
--- nothing taken, and how the reading ended
-abbrev pub no_taking : Ended → TakeLines
-no_taking e = record { ended = e; event = 0; take = 0 }
+abbrev pub hold_rows : eos.Marking → Rows
+hold_rows ts = record { number = length ts; tokens = map hold_token ts }
 
--- what the lines of net-tokens say, as the code keeps it
-pub record TokenRows : Type 0 where
-  pub lines : TokenLines
-  pub rows : List Row
+-- those that stand first in the room
+abbrev pub rows_of : ℕ → List NetToken → Rows
+rows_of n room = record { number = n; tokens = take n room }
 
-unfoldable pub token_rows : Outcome eos.Marking → TokenRows
-token_rows o = record { lines = record { ended = ended_of o; count = kept_or 0 length o }; rows = kept_or [] (map token_row) o }
+abbrev pub first_of : List NetToken → Result ℕ Fault → Result Rows Fault
+first_of room (Ok n) = Ok (rows_of n room)
+first_of room (Err e) = Err e
 
--- what a step's lines say up to those that it takes, as the code keeps it
+-- what a step's lines say up to those that it takes
 pub record TakeRows : Type 0 where
-  pub lines : TakeLines
-  pub taken : List Row
+  pub event : ℕ
+  pub taken : Rows
 
-unfoldable pub take_rows : Outcome Taking → TakeRows
-take_rows o = record {
-  lines = record { ended = ended_of o; event = kept_or 0 (λ t. t.event) o; take = kept_or 0 (λ t. length t.taken) o };
-  taken = kept_or [] (λ t. map token_row t.taken) o;
-}
+abbrev pub hold_taking : Taking → TakeRows
+hold_taking t = record { event = t.event; taken = hold_rows t.taken }
 
--- what a step's lines say, as the code keeps it
+abbrev pub taking_in : List NetToken → Result TakeLines Fault → Result TakeRows Fault
+taking_in taken (Ok t) = Ok (record { event = t.event; taken = rows_of t.take taken })
+taking_in taken (Err e) = Err e
+
+-- what a step's lines say
 pub record StepRows : Type 0 where
-  pub lines : StepLines
-  pub taken : List Row
-  pub given : List Row
+  pub event : ℕ
+  pub taken : Rows
+  pub given : Rows
 
-unfoldable pub step_rows : Outcome Step → StepRows
-step_rows o = record {
-  lines = record {
-    ended = ended_of o;
-    event = kept_or 0 (λ t. t.event) o;
-    take = kept_or 0 (λ t. length t.taken) o;
-    give = kept_or 0 (λ t. length t.given) o;
-  };
-  taken = kept_or [] (λ t. map token_row t.taken) o;
-  given = kept_or [] (λ t. map token_row t.given) o;
-}
+abbrev pub hold_step : Step → StepRows
+hold_step t = record { event = t.event; taken = hold_rows t.taken; given = hold_rows t.given }
+
+abbrev pub step_in : List NetToken → List NetToken → Result StepLines Fault → Result StepRows Fault
+step_in taken given (Ok t) = Ok (record { event = t.event; taken = rows_of t.take taken; given = rows_of t.give given })
+step_in taken given (Err e) = Err e

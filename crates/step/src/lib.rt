@@ -1,12 +1,11 @@
-// A step: its lines, what its event asks and gives, why it is turned down (01's causes 8 to 12 over the rows of its net-tokens and of the
-// marking), and the marking after it. Definitions and laws.
+// A step: its lines, what its event asks and gives, why it is turned down (01's causes 8 to 12 over its net-tokens and the marking's), and the marking after it. Definitions and laws.
 #![tactic(auto)]
 
 ghost use Rattle.std.specs.Prelude.{◌≡◌};
 ghost use Rattle.step.specs.Rule.{no_sides, no_rule};
+ghost use Rattle.step.specs.Verdict.{number_of};
 
 use model::Model;
-use text::Ended;
 
 // One side of an event: how many net-tokens it has on each place, and how many tokens on each place of each object net; the number of
 // place i of net n stands at n * 32 + i. Unused room is 0.
@@ -50,32 +49,49 @@ impl Rule {
     }
 }
 
-// A step fires, or is turned down: by its cause's number, and the number that stands beside it.
-#[derive(Clone, Copy)]
-pub enum Verdict {
-    Fires,
-    Turned { cause: u8, beside: usize },
+// Why a step is turned down: for the places of its net-tokens, for too few tokens of an object net, for others than the event leaves, for a
+// net-token that the marking lacks, or for want of room.
+#[derive(Clone, Copy, PartialEq, Eq)]
+pub enum Cause {
+    Places,
+    Short,
+    Unequal,
+    Missing,
+    Crowded,
 }
 
-// How the reading of net-tokens ended, and how many were read; a refusal has none.
-#[derive(Clone, Copy)]
-pub struct TokenLines {
-    pub ended: Ended,
-    pub count: usize,
+impl Cause {
+    // Its number in 01's table.
+    pub fn number(self) -> u8
+        ensures { result ≡ number_of self }
+    {
+        match self {
+            Cause::Places => 8,
+            Cause::Short => 9,
+            Cause::Unequal => 10,
+            Cause::Missing => 11,
+            Cause::Crowded => 12,
+        }
+    }
 }
 
-// How the reading of a step up to what it takes ended, its event, from 0, and how many net-tokens it takes; a refusal has none.
+// A step is turned down: its cause, and the number that stands beside it.
+#[derive(Clone, Copy)]
+pub struct Refusal {
+    pub cause: Cause,
+    pub beside: usize,
+}
+
+// What the lines of a step say up to those that it takes: its event, from 0, and how many net-tokens it takes.
 #[derive(Clone, Copy)]
 pub struct TakeLines {
-    pub ended: Ended,
     pub event: usize,
     pub take: usize,
 }
 
-// How the reading of a step ended, its event, from 0, and how many net-tokens it takes and gives; a refusal has none.
+// What the lines of a step say: its event, from 0, and how many net-tokens it takes and gives.
 #[derive(Clone, Copy)]
 pub struct StepLines {
-    pub ended: Ended,
     pub event: usize,
     pub take: usize,
     pub give: usize,

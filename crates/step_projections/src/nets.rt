@@ -1,88 +1,78 @@
-// The first net of which a step takes too little, and the first of which it does not give what the event leaves.
-ghost use Rattle.std.specs.Prelude.{◌≡◌, ℕ, ◌+◌, ◌-◌, ◌*◌, ◌^◌, ◌≤◌, ◌<◌, length, get_or};
+// The first net of which a step takes too little, and the first of which it does not give what the event leaves. A net is a row of 32
+// numbers of a table; it is compared without a branch, so that several numbers are compared at once.
+ghost use Rattle.std.specs.Prelude.{◌≡◌, ℕ, ◌^◌, ◌≤◌, ◌<◌, get_or};
 ghost use Rattle.eos.specs.Vector.{le_v};
-ghost use Rattle.eos.specs.Causes.{failing, numbered};
-ghost use Rattle.model.specs.Limits.{inner_room};
+ghost use Rattle.eos.specs.Causes.{failing};
 ghost use Rattle.model.specs.Held.{row_in};
+ghost use Rattle.step.specs.Verdict.{told};
 ghost use Rattle.step.specs.VerdictParts.{even_in};
 
+use model::Model;
+
 // Whether net n is asked no more than is held of it.
-fn enough<'a>(n: usize, asked: &'a [u64], held: &'a [u64]) -> bool
-    requires { (n < 8) × (length asked.now ≡ inner_room) × (length held.now ≡ inner_room) }
+fn enough(n: usize, asked: &[u64; Model::INSIDE], held: &[u64; Model::INSIDE]) -> bool
+    requires { n < 8 }
     ensures { result ≡ le_v (row_in 32 asked.now n) (row_in 32 held.now n) }
 {
-    let at = n * 32;
     let mut all = true;
-    let mut k = 0;
-    while k < 32 {
-        let j = at + k;
-        all = all & (asked[j] <= held[j]);
-        k += 1;
+    for k in 0..32 {
+        let j = n * 32 + k;
+        all &= asked[j] <= held[j];
     }
     all
 }
 
-// The first net of which more is asked than is held, from 1; 0 where there is none.
-pub fn short_net<'a>(nets: usize, asked: &'a [u64], held: &'a [u64]) -> usize
-    requires { (nets ≤ 8) × (length asked.now ≡ inner_room) × (length held.now ≡ inner_room) }
-    ensures { result ≡ numbered (failing nets 0 (λ n. le_v (row_in 32 asked.now n) (row_in 32 held.now n))) }
+// The first net of which more is asked than is held.
+pub fn short_net(
+    nets: usize,
+    asked: &[u64; Model::INSIDE],
+    held: &[u64; Model::INSIDE],
+) -> Option<usize>
+    requires { nets ≤ 8 }
+    ensures { result ≡ told (failing nets 0 (λ n. le_v (row_in 32 asked.now n) (row_in 32 held.now n))) }
 {
-    let mut net = 0;
-    while net < nets {
+    for net in 0..nets {
         if !enough(net, asked, held) {
-            return net + 1;
+            return Some(net);
         }
-        net += 1;
     }
-    0
-}
-
-// What is left of `held` without `taken`, never below 0, and `given` to it.
-fn after(held: u64, taken: u64, given: u64) -> u64
-    requires { (held < 2 ^ 32) × (given < 2 ^ 32) }
-    ensures { result ≡ held - taken + given }
-{
-    if held < taken {
-        return given;
-    }
-    held - taken + given
+    None
 }
 
 // Whether what is made of net n is what is held of it, without pre and with post.
-fn even<'a>(n: usize, made: &'a [u64], held: &'a [u64], pre: &'a [u64], post: &'a [u64]) -> bool
-    requires { (n < 8) × (length made.now ≡ inner_room) × (length held.now ≡ inner_room) × (length pre.now ≡ inner_room) × (length post.now ≡ inner_room)
-        × ((k : ℕ) → get_or held.now k 0 < 2 ^ 32) × ((k : ℕ) → get_or post.now k 0 < 2 ^ 32) }
+fn even(
+    n: usize,
+    made: &[u64; Model::INSIDE],
+    held: &[u64; Model::INSIDE],
+    pre: &[u64; Model::INSIDE],
+    post: &[u64; Model::INSIDE],
+) -> bool
+    requires { (n < 8) × ((k : ℕ) → get_or held.now k 0 < 2 ^ 32) × ((k : ℕ) → get_or post.now k 0 < 2 ^ 32) }
     ensures { result ≡ even_in made.now held.now pre.now post.now n }
 {
-    let at = n * 32;
     let mut all = true;
-    let mut k = 0;
-    while k < 32 {
-        let j = at + k;
-        all = all & (made[j] == after(held[j], pre[j], post[j]));
-        k += 1;
+    for k in 0..32 {
+        let j = n * 32 + k;
+        all &= made[j] == held[j].saturating_sub(pre[j]) + post[j];
     }
     all
 }
 
-// The first net that is not balanced, from 1; 0 where there is none.
-pub fn unbalanced_net<'a>(
+// The first net that is not balanced.
+pub fn unbalanced_net(
     nets: usize,
-    made: &'a [u64],
-    held: &'a [u64],
-    pre: &'a [u64],
-    post: &'a [u64],
-) -> usize
-    requires { (nets ≤ 8) × (length made.now ≡ inner_room) × (length held.now ≡ inner_room) × (length pre.now ≡ inner_room) × (length post.now ≡ inner_room)
-        × ((k : ℕ) → get_or held.now k 0 < 2 ^ 32) × ((k : ℕ) → get_or post.now k 0 < 2 ^ 32) }
-    ensures { result ≡ numbered (failing nets 0 (even_in made.now held.now pre.now post.now)) }
+    made: &[u64; Model::INSIDE],
+    held: &[u64; Model::INSIDE],
+    pre: &[u64; Model::INSIDE],
+    post: &[u64; Model::INSIDE],
+) -> Option<usize>
+    requires { (nets ≤ 8) × ((k : ℕ) → get_or held.now k 0 < 2 ^ 32) × ((k : ℕ) → get_or post.now k 0 < 2 ^ 32) }
+    ensures { result ≡ told (failing nets 0 (even_in made.now held.now pre.now post.now)) }
 {
-    let mut n = 0;
-    while n < nets {
-        if !even(n, made, held, pre, post) {
-            return n + 1;
+    for net in 0..nets {
+        if !even(net, made, held, pre, post) {
+            return Some(net);
         }
-        n += 1;
     }
-    0
+    None
 }

@@ -1,79 +1,26 @@
--- Laws of reading what a step gives, behind what it takes.
+-- Block by block is the whole step: what is taken, and what is given behind it.
 use Prim.Native.Nat.{ℕ}
-use mathlib.Core.Path.{◌≡◌, refl, ap}
-use mathlib.Core.List.{List, [], map}
-use lib.ListN.{length}
-use Rattle.text.specs.Bytes.{Text, bytes}
-use Rattle.text.specs.Lines.{Outcome, got, bad}
+use Rattle.std.specs.Prelude.{Result}
+use Rattle.std.specs.declared.result.Result.TheVariants.{Ok, Err}
+use Rattle.text.specs.Bytes.{bytes}
+use Rattle.text.specs.Answers.{kept}
 use Rattle.text.specs.declared.Fault.{Fault}
-use Rattle.text.specs.declared.Ended.{Ended}
-use Rattle.text.specs.declared.Ended.TheVariants.{Past, Stopped}
-use Rattle.text.specs.Answers.{ended_of, kept_or}
-use Rattle.text_reader.specs.Place.{reached}
-use Rattle.eos.specs.Model as eos
-use Rattle.marking.specs.Rows.{rows_in}
-use Rattle.marking.specs.Held.{Sizes, token_row}
+use Rattle.text_reader.specs.Place.{Reads}
+use Rattle.text_reader.specs.declared.Reader.{Reader}
+use Rattle.marking.specs.Held.{Sizes}
 use Rattle.marking.specs.Reading.{Limits, read_block}
 use Rattle.step.specs.Reading.{read_taking, read_step}
-use Rattle.step.specs.Answers.{no_step, take_rows, step_rows}
-use Rattle.step.specs.declared.TakeLines.{TakeLines}
-use Rattle.step.specs.declared.StepLines.{StepLines}
-use Rattle.step.specs.declared.TokenLines.{TokenLines}
-use Rattle.step.proofs.TokenLoop.{ReadLines}
-use Rattle.step.proofs.StepReading.{rows-refused, taking-bad, taking-got, step-unread, step_ungiven, step_read}
-use Rattle.step_read.specs.Giving.{GiveRows, give_rows}
+use Rattle.step.specs.Answers.{Rows, hold_rows, TakeRows, hold_taking, StepRows, hold_step}
+use Rattle.step.proofs.StepReading.{ungiven, step_read}
 
-module _ (take : TakeLines) (o : Outcome eos.Marking) where
-  -- what was taken is refused
-  pub give_untaken : (d : Fault) (lines : StepLines) (given : List ℕ) → take.ended ≡ Stopped d → lines ≡ no_step (Stopped d)
-      → record { lines = lines; given = rows_in lines.give given } ≡ give_rows take o
-  unfolding give_rows
-  give_untaken d lines given e f = rw (e, f)
+-- what was read of a step up to what it takes, and what is given or refused behind it
+abbrev pub giving : TakeRows → Result Rows Fault → Result StepRows Fault
+giving t (Ok given) = Ok (record { event = t.event; taken = t.taken; given = given })
+giving t (Err e) = Err e
 
-  module _ (x : ℕ) (e : take.ended ≡ Past x) where
-    -- a line of the given is refused
-    pub give_refused : (d : Fault) (lines : StepLines) (given : List ℕ) → lines ≡ no_step (Stopped d) → o ≡ bad d
-        → record { lines = lines; given = rows_in lines.give given } ≡ give_rows take o
-    unfolding give_rows ended_of kept_or
-    give_refused d lines given f g = rw (e, f, g)
-
-    -- they are read
-    pub give_read : (give : TokenLines) (given : List ℕ) (next : ℕ) → ReadLines give (rows_in give.count given) o next
-        → record { lines = record { ended = give.ended; event = take.event; take = take.take; give = give.count }; given = rows_in give.count given } ≡ give_rows take o
-    unfolding give_rows ended_of kept_or
-    give_read give given next g = rw (e, g.is, g.past, g.rows_are, g.number)
-
--- ---- a step, of what is taken and of what is given, which is read where the taken ended
-
-module _ (lim : Limits) (z : Sizes) (events : ℕ) (s : Text) (at : ℕ) (take : TakeLines) (taken : List ℕ) (t : record { lines = take; taken = rows_in take.take taken } ≡ take_rows (read_taking lim z events s at))
-    (lines : StepLines) (given : List ℕ) where
-  abbrev Joined : Type 0
-  Joined = record { lines = lines; taken = rows_in lines.take taken; given = rows_in lines.give given } ≡ step_rows (read_step lim z events s at)
-
-  abbrev block : ℕ → Outcome eos.Marking
-  block = read_block (bytes "give=") lim z s
-
-  abbrev read : GiveRows
-  read = record { lines = lines; given = rows_in lines.give given }
-
-  -- behind a take that was read: a line of the given is refused, or they are read
-  by_block : (x : ℕ) → take.ended ≡ Past x → (o : Outcome eos.Marking) → block x ≡ o → read ≡ give_rows take o → Joined
-  unfolding give_rows ended_of kept_or
-  by_block x e (bad d) b g =
-      let f : read ≡ record { lines = no_step (Stopped d); given = [] } = rw e at g in
-      rows-refused _ d lines taken given (ap (λ (r : GiveRows). r.lines) f) (step_ungiven lim z events s at take taken x (taking-got take _ _ t x e) d b)
-  by_block x e (got gs next) b g =
-      let f : read ≡ record { lines = record { ended = Past next; event = take.event; take = take.take; give = length gs }; given = map token_row gs } = rw e at g in
-      let l = ap (λ (r : GiveRows). r.lines) f in
-      rw l (step_read lim z events s at take taken x (taking-got take _ _ t x e) (record { ended = Past next; count = length gs }) given next
-      (record { tokens = gs; is = b; past = refl; number = refl; rows_are = rw l at (ap (λ (r : GiveRows). r.given) f) }))
-
-  by_end_lem : (e : Ended) → take.ended ≡ e → read ≡ give_rows take (block (reached e)) → Joined
-  unfolding give_rows
-  by_end_lem (Past x) e g = by_block x e (block x) refl g
-  by_end_lem (Stopped d) e g =
-      let f : read ≡ record { lines = no_step (Stopped d); given = [] } = rw e at g in
-      rows-refused _ d lines taken given (ap (λ (r : GiveRows). r.lines) f) (step-unread lim z events s at d (taking-bad take _ _ t d e))
-
-  pub step-joined : read ≡ give_rows take (block (reached take.ended)) → Joined
-  step-joined g = by_end_lem take.ended refl g
+pub step-joined : (lim : Limits) (z : Sizes) (events : ℕ) (old mid new : Reader) (t : TakeRows) (given : Result Rows Fault)
+    → Reads (kept hold_taking (read_taking lim z events old.src.now old.at)) old mid (Ok t)
+    → Reads (kept hold_rows (read_block (bytes "give=") lim z mid.src.now mid.at)) mid new given
+    → Reads (kept hold_step (read_step lim z events old.src.now old.at)) old new (giving t given)
+step-joined lim z events old mid new t (Ok given) first second = step_read lim z events old t first given second
+step-joined lim z events old mid new t (Err e) first second = ungiven lim z events old t first e second

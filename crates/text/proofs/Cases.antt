@@ -10,6 +10,7 @@ use Rattle.text.specs.Lists.{stop_of, prepended, items, list_end, any_items, any
 use Rattle.text.specs.Lines.{Outcome, got, bad, fault, then, need, many, judged, in_range, modest, behind, read_number, read_list, read_weights, read_head}
 use Rattle.text.specs.Token.{Token, counts_at, token_at, read_token}
 use Rattle.text.specs.Printed.{decimal_of, decimal, signed_text, items_text, end_text, texts, number_text, list_text, weights_text, token_text}
+use Rattle.text.specs.declared.Cause.TheVariants.{Syntax, Range}
 
 abbrev token : ℕ → List ℕ → Token
 token p cs = record { place = p; counts = cs }
@@ -67,24 +68,24 @@ nets s = read_number (bytes "nets=") (in_range 0 8) s 0
 
 -- a line of one number: its end, its key, its digits and its range
 pub number_edges : (nets (bytes "nets=8\n") ≡ got 8 7)
-    × (nets (bytes "nets=9\n") ≡ bad (fault 3 0))
-    × (nets (bytes "nets=123456789012345678901234567890\n") ≡ bad (fault 3 0))
-    × (nets (bytes "nets=1") ≡ bad (fault 2 0))
-    × (nets (bytes "nets=9") ≡ bad (fault 2 0))
-    × (nets (bytes "") ≡ bad (fault 2 0))
-    × (nets (bytes "nets=\n") ≡ bad (fault 2 0))
-    × (nets (bytes "nets=1\r\n") ≡ bad (fault 2 0))
-    × (nets (bytes "nets=1 \n") ≡ bad (fault 2 0))
-    × (nets (bytes "nets=-1\n") ≡ bad (fault 2 0))
-    × (nets (bytes "nets=+1\n") ≡ bad (fault 2 0))
-    × (nets (bytes "nets=00\n") ≡ bad (fault 2 0))
-    × (nets (bytes "Nets=1\n") ≡ bad (fault 2 0))
-    × (read_number (bytes "places=") (in_range 1 32) (bytes "nets=1\nplaces=0\n") 7 ≡ bad (fault 3 7))
-    × (read_head (bytes "inv=1\n") (bytes "inv=2\n") 0 ≡ bad (fault 2 0))
-    × (read_head (bytes "inv=1\n") (bytes "inv=123456789012345678901234567890\n") 0 ≡ bad (fault 2 0))
-    × (read_head (bytes "inv=1\n") (bytes "inv=01\n") 0 ≡ bad (fault 2 0))
-    × (read_head (bytes "inv=1\n") (bytes "inv=11\n") 0 ≡ bad (fault 2 0))
-    × (read_head (bytes "inv=1\n") (bytes "inv=1") 0 ≡ bad (fault 2 0))
+    × (nets (bytes "nets=9\n") ≡ bad (fault Range 0))
+    × (nets (bytes "nets=123456789012345678901234567890\n") ≡ bad (fault Range 0))
+    × (nets (bytes "nets=1") ≡ bad (fault Syntax 0))
+    × (nets (bytes "nets=9") ≡ bad (fault Syntax 0))
+    × (nets (bytes "") ≡ bad (fault Syntax 0))
+    × (nets (bytes "nets=\n") ≡ bad (fault Syntax 0))
+    × (nets (bytes "nets=1\r\n") ≡ bad (fault Syntax 0))
+    × (nets (bytes "nets=1 \n") ≡ bad (fault Syntax 0))
+    × (nets (bytes "nets=-1\n") ≡ bad (fault Syntax 0))
+    × (nets (bytes "nets=+1\n") ≡ bad (fault Syntax 0))
+    × (nets (bytes "nets=00\n") ≡ bad (fault Syntax 0))
+    × (nets (bytes "Nets=1\n") ≡ bad (fault Syntax 0))
+    × (read_number (bytes "places=") (in_range 1 32) (bytes "nets=1\nplaces=0\n") 7 ≡ bad (fault Range 7))
+    × (read_head (bytes "inv=1\n") (bytes "inv=2\n") 0 ≡ bad (fault Syntax 0))
+    × (read_head (bytes "inv=1\n") (bytes "inv=123456789012345678901234567890\n") 0 ≡ bad (fault Syntax 0))
+    × (read_head (bytes "inv=1\n") (bytes "inv=01\n") 0 ≡ bad (fault Syntax 0))
+    × (read_head (bytes "inv=1\n") (bytes "inv=11\n") 0 ≡ bad (fault Syntax 0))
+    × (read_head (bytes "inv=1\n") (bytes "inv=1") 0 ≡ bad (fault Syntax 0))
 unfolding read_head read_number then need judged behind starts item ended number number_of digits
 number_edges = (refl, refl, refl, refl, refl, refl, refl, refl, refl, refl, refl, refl, refl, refl, refl, refl, refl, refl, refl)
 
@@ -96,15 +97,15 @@ sync n s = read_list (bytes "sync=") n (in_range 0 255) s 0
 
 -- a line of several numbers: its length and syntax are judged before any range
 pub list_edges : (pre (bytes "pre=1,2\n") ≡ got (1 ∷ 2 ∷ []) 8)
-    × (pre (bytes "pre=1,300\n") ≡ bad (fault 3 0))
-    × (pre (bytes "pre=1,2,300\n") ≡ bad (fault 2 0))
-    × (pre (bytes "pre=300\n") ≡ bad (fault 2 0))
-    × (pre (bytes "pre=300,01\n") ≡ bad (fault 2 0))
-    × (pre (bytes "pre=1,\n") ≡ bad (fault 2 0))
-    × (pre (bytes "pre=\n") ≡ bad (fault 2 0))
-    × (sync 1 (bytes "sync=01\n") ≡ bad (fault 2 0))
+    × (pre (bytes "pre=1,300\n") ≡ bad (fault Range 0))
+    × (pre (bytes "pre=1,2,300\n") ≡ bad (fault Syntax 0))
+    × (pre (bytes "pre=300\n") ≡ bad (fault Syntax 0))
+    × (pre (bytes "pre=300,01\n") ≡ bad (fault Syntax 0))
+    × (pre (bytes "pre=1,\n") ≡ bad (fault Syntax 0))
+    × (pre (bytes "pre=\n") ≡ bad (fault Syntax 0))
+    × (sync 1 (bytes "sync=01\n") ≡ bad (fault Syntax 0))
     × (sync 0 (bytes "sync=\n") ≡ got [] 6)
-    × (sync 0 (bytes "sync=0\n") ≡ bad (fault 2 0))
+    × (sync 0 (bytes "sync=0\n") ≡ bad (fault Syntax 0))
 unfolding read_list need judged behind starts list_end items item ended prepended stop_of number number_of digits
 list_edges = (refl, refl, refl, refl, refl, refl, refl, refl, refl, refl)
 
@@ -115,27 +116,27 @@ outer s = read_weights (bytes "outer=") 1 (modest 1000) s 0
 pub weight_edges : (outer (bytes "outer=-5\n") ≡ got (negsuc 4 ∷ []) 9)
     × (outer (bytes "outer=0\n") ≡ got (pos 0 ∷ []) 8)
     × (outer (bytes "outer=-1000\n") ≡ got (negsuc 999 ∷ []) 12)
-    × (outer (bytes "outer=-1001\n") ≡ bad (fault 3 0))
-    × (outer (bytes "outer=1001\n") ≡ bad (fault 3 0))
-    × (outer (bytes "outer=-0\n") ≡ bad (fault 2 0))
-    × (outer (bytes "outer=-01\n") ≡ bad (fault 2 0))
-    × (outer (bytes "outer=--1\n") ≡ bad (fault 2 0))
-    × (outer (bytes "outer=-\n") ≡ bad (fault 2 0))
+    × (outer (bytes "outer=-1001\n") ≡ bad (fault Range 0))
+    × (outer (bytes "outer=1001\n") ≡ bad (fault Range 0))
+    × (outer (bytes "outer=-0\n") ≡ bad (fault Syntax 0))
+    × (outer (bytes "outer=-01\n") ≡ bad (fault Syntax 0))
+    × (outer (bytes "outer=--1\n") ≡ bad (fault Syntax 0))
+    × (outer (bytes "outer=-\n") ≡ bad (fault Syntax 0))
 unfolding read_weights need judged behind starts list_end items item ended prepended stop_of signed plainly negated number number_of digits
 weight_edges = (refl, refl, refl, refl, refl, refl, refl, refl, refl)
 
 -- a token: out of range, its place is 3 whatever the length of the list, whose syntax is judged
 pub token_edges : (token_of (bytes "token=2:65535,0\n") 0 ≡ got (token 2 (65535 ∷ 0 ∷ [])) 16)
-    × (token_of (bytes "token=2:65536,0\n") 0 ≡ bad (fault 3 0))
-    × (token_of (bytes "token=2:1\n") 0 ≡ bad (fault 2 0))
-    × (token_of (bytes "token=2:1,0,0\n") 0 ≡ bad (fault 2 0))
-    × (token_of (bytes "token=2,1,0\n") 0 ≡ bad (fault 2 0))
-    × (token_of (bytes "token=3:9\n") 0 ≡ bad (fault 3 0))
-    × (token_of (bytes "token=3:9,9,70000\n") 0 ≡ bad (fault 3 0))
-    × (token_of (bytes "token=3:9,\n") 0 ≡ bad (fault 2 0))
-    × (token_of (bytes "token=3:9") 0 ≡ bad (fault 2 0))
-    × (token_of (bytes "token=3:01\n") 0 ≡ bad (fault 2 0))
-    × (token_of (bytes "token=0:\n") 0 ≡ bad (fault 3 0))
+    × (token_of (bytes "token=2:65536,0\n") 0 ≡ bad (fault Range 0))
+    × (token_of (bytes "token=2:1\n") 0 ≡ bad (fault Syntax 0))
+    × (token_of (bytes "token=2:1,0,0\n") 0 ≡ bad (fault Syntax 0))
+    × (token_of (bytes "token=2,1,0\n") 0 ≡ bad (fault Syntax 0))
+    × (token_of (bytes "token=3:9\n") 0 ≡ bad (fault Range 0))
+    × (token_of (bytes "token=3:9,9,70000\n") 0 ≡ bad (fault Range 0))
+    × (token_of (bytes "token=3:9,\n") 0 ≡ bad (fault Syntax 0))
+    × (token_of (bytes "token=3:9") 0 ≡ bad (fault Syntax 0))
+    × (token_of (bytes "token=3:01\n") 0 ≡ bad (fault Syntax 0))
+    × (token_of (bytes "token=0:\n") 0 ≡ bad (fault Range 0))
     × (read_token (bytes "token=") 3 (λ p. 0) (in_range 0 65535) (bytes "token=3:\n") 0 ≡ got (token 3 []) 9)
 unfolding read_token token_at counts_at then need judged behind starts list_end items item ended prepended stop_of any_list any_items number number_of digits
 token_edges = (refl, refl, refl, refl, refl, refl, refl, refl, refl, refl, refl, refl)

@@ -8,6 +8,7 @@ use Rattle.text.specs.Bytes.{Text}
 use Rattle.text.specs.Lines.{Outcome, got, then, need}
 use Rattle.text.proofs.Standing.{Stands, Reaches, stands_left, stands_right, ends_join, reach_join}
 use Rattle.text.proofs.Exactly.{Exactly, got-is, need-got, then-got}
+use Rattle.text.specs.declared.Cause.{Cause}
 
 -- as Exactly, for a Fine that is a proposition: it can say of which earlier values a whole was made
 pub record Makes {C : Type 0} (s : Text) (f : ℕ → Outcome C) (text : C → Text) (Fine : C → Type 0) : Type 0 where
@@ -32,7 +33,7 @@ made_exactly one = record {
 }
 
 module _ {A C : Type 0} {s : Text} {f : ℕ → Outcome A} {text : A → Text} {fine : A → Bool} (one : Exactly s f text fine) where
-  module _ (test : A → Bool) (why : ℕ) (make : A → C) (part : C → A) (again : (a : A) → fine a ≡ true → part (make a) ≡ a) where
+  module _ (test : A → Bool) (cause : Cause) (make : A → C) (part : C → A) (again : (a : A) → fine a ≡ true → part (make a) ≡ a) where
     abbrev Last : C → Type 0
     Last c = (fine (part c) ≡ true) × (test (part c) ≡ true) × (make (part c) ≡ c)
 
@@ -40,19 +41,19 @@ module _ {A C : Type 0} {s : Text} {f : ℕ → Outcome A} {text : A → Text} {
     of_last a c e h t = let k : a ≡ part c = sym (again a h) ∙ ap part e in (rw (← k) h, rw (← k) t, rw (← k) e)
 
     -- the last reading, a test of what it gives, and the whole that is made of it; `part` finds again what it was made of
-    pub last_makes : Makes s (λ at. then (f at) λ a next. need (test a) why at (got (make a) next)) (λ c. text (part c)) Last
+    pub last_makes : Makes s (λ at. then (f at) λ a next. need (test a) cause at (got (make a) next)) (λ c. text (part c)) Last
     unfolding then need
     last_makes = record {
       reach = λ at c next e.
           let p = then-got (f at) _ c next e in
-          let q = need-got (test p.value) why at (got (make p.value) p.next) c next p.rest in
+          let q = need-got (test p.value) cause at (got (make p.value) p.next) c next p.rest in
           let k = got-is q.1 in
           let b = one.back at p.value p.next p.first in
           let v : p.value ≡ part c = sym (again p.value b.fine-is) ∙ ap part k.0 in
           subst₂ (λ a n. Reaches s at (text a) n) v k.1 b.reaches;
       told = λ at c next e.
           let p = then-got (f at) _ c next e in
-          let q = need-got (test p.value) why at (got (make p.value) p.next) c next p.rest in
+          let q = need-got (test p.value) cause at (got (make p.value) p.next) c next p.rest in
           of_last p.value c (got-is q.1).0 (one.back at p.value p.next p.first).fine-is q.0;
       forth = λ at c st h. rw (one.forth at (part c) st h.0, h.1, h.2);
     }

@@ -15,6 +15,8 @@ use Rattle.text.specs.Lines.{Outcome, got, bad, then, need, many, judged, every}
 use Rattle.text.specs.Printed.{texts}
 use Rattle.text.specs.declared.Fault.{Fault}
 use Rattle.text.proofs.Standing.{Stands, Reaches, stands_left, stands_right, ends_join, nothing_reaches, reach_join}
+use Rattle.text.specs.declared.Cause.{Cause}
+use Rattle.text.specs.declared.Cause.TheVariants.{Range}
 
 -- a text stands there, and what it says is fine
 pub record Accepts (s : Text) (at : ℕ) (text : Text) (next : ℕ) (fine : Bool) : Type 0 where
@@ -51,17 +53,17 @@ module _ {A : Type 0} where
   got-is e = ((cc), (cc))
 
   -- a test that is passed
-  pub need-got : (t : Bool) (why at : ℕ) (o : Outcome A) (a : A) (next : ℕ) → need t why at o ≡ got a next → (t ≡ true) × (o ≡ got a next)
+  pub need-got : (t : Bool) (cause : Cause) (at : ℕ) (o : Outcome A) (a : A) (next : ℕ) → need t cause at o ≡ got a next → (t ≡ true) × (o ≡ got a next)
   unfolding need
-  need-got true why at o a next e = (refl, e)
-  need-got false why at o a next e = absurd (bad≢got e)
+  need-got true cause at o a next e = (refl, e)
+  need-got false cause at o a next e = absurd (bad≢got e)
 
   -- what is judged well was found
   pub judged-got : (range : A → Bool) (at : ℕ) (r : Read A) (a : A) (next : ℕ) → judged range at r ≡ got a next → (r ≡ found a next) × (range a ≡ true)
   unfolding judged
   judged-got range at missing a next e = absurd (bad≢got e)
   judged-got range at (found b u) a next e =
-      let p = need-got (range b) 3 at (got b u) a next e in
+      let p = need-got (range b) Range at (got b u) a next e in
       let k = got-is p.1 in
       (rw (k.0, k.1), rw k.0 at p.0)
 
@@ -104,12 +106,12 @@ module _ {A : Type 0} (s : Text) (f : ℕ → Read A) (text : A → Text) (fine 
 
 module _ {A : Type 0} (s : Text) (f : ℕ → Outcome A) (text : A → Text) (fine : A → Bool) (one : Exactly s f text fine) where
   -- what is read, put to a test
-  pub needed_exactly : (test : A → Bool) (why : ℕ) → Exactly s (λ at. then (f at) λ a next. need (test a) why at (got a next)) text (λ a. fine a && test a)
+  pub needed_exactly : (test : A → Bool) (cause : Cause) → Exactly s (λ at. then (f at) λ a next. need (test a) cause at (got a next)) text (λ a. fine a && test a)
   unfolding then need
-  needed_exactly test why = record {
+  needed_exactly test cause = record {
     back = λ at a next e.
-        let p = then-got (f at) (λ a next. need (test a) why at (got a next)) a next e in
-        let q = need-got (test p.value) why at (got p.value p.next) a next p.rest in
+        let p = then-got (f at) (λ a next. need (test a) cause at (got a next)) a next e in
+        let q = need-got (test p.value) cause at (got p.value p.next) a next p.rest in
         let k = got-is q.1 in
         let b = one.back at a next (p.first ∙ q.1) in
         record { reaches = b.reaches; fine-is = rw b.fine-is (rw k.0 at q.0) };

@@ -6,16 +6,18 @@ use lib.IntN.{ℤ}
 use Rattle.text.specs.Bytes.{Text, lf, colon, starts}
 use Rattle.text.specs.Number.{Read, missing, found, number, signed, item}
 use Rattle.text.specs.Lists.{list_end, any_list}
-use Rattle.text.specs.Lines.{Outcome, got, bad, then, need, many, judged, every, in_range, behind, read_number, read_list, read_weights, read_head}
+use Rattle.text.specs.Lines.{Outcome, got, bad, then, need, many, judged, every, in_range, behind, read_number, read_list, read_weights, read_head, cause_number}
 use Rattle.text.specs.Repeat.{many_at}
 use Rattle.text.specs.Token.{counts_at, token_at, read_token}
+use Rattle.text.specs.declared.Cause.{Cause}
+use Rattle.text.specs.declared.Cause.TheVariants.{Syntax, Range}
 
 -- over a property of causes
 module _ (P : ℕ → Type 0) where
   -- the cause of a fault has it; a value has no cause
   abbrev pub Faults : {A : Type 0} → Outcome A → Type 0
   Faults (got a next) = Unit {0}
-  Faults (bad e) = P e.why
+  Faults (bad e) = P (cause_number e.cause)
 
   -- one reading after another
   pub then_faults : {A B : Type 0} (o : Outcome A) (f : A → ℕ → Outcome B) → Faults o → ((a : A) (next : ℕ) → Faults (f a next)) → Faults (then o f)
@@ -25,10 +27,10 @@ module _ (P : ℕ → Type 0) where
 
   module _ {A : Type 0} where
     -- a test
-    pub need_faults : (t : Bool) (why at : ℕ) (o : Outcome A) → P why → Faults o → Faults (need t why at o)
+    pub need_faults : (t : Bool) (cause : Cause) (at : ℕ) (o : Outcome A) → P (cause_number cause) → Faults o → Faults (need t cause at o)
     unfolding need
-    need_faults true why at o p h = h
-    need_faults false why at o p h = p
+    need_faults true cause at o p h = h
+    need_faults false cause at o p h = p
 
     -- several things
     pub many_faults : (f : ℕ → Outcome A) → ((at : ℕ) → Faults (f at)) → (n at : ℕ) → Faults (many f n at)
@@ -46,14 +48,14 @@ module _ (P : ℕ → Type 0) where
   module _ (two : P 2) where
     pub head_faults : (line s : Text) (at : ℕ) → Faults (read_head line s at)
     unfolding read_head
-    head_faults line s at = need_faults (starts line (drop at s)) 2 at _ two tt
+    head_faults line s at = need_faults (starts line (drop at s)) Syntax at _ two tt
 
     -- a line of numbers with 2 or 3
     module _ (three : P 3) where
       pub judged_faults : {A : Type 0} (range : A → Bool) (at : ℕ) (r : Read A) → Faults (judged range at r)
       unfolding judged
       judged_faults range at missing = two
-      judged_faults range at (found a next) = need_faults (range a) 3 at _ three tt
+      judged_faults range at (found a next) = need_faults (range a) Range at _ three tt
 
       pub number_faults : (key : Text) (range : ℕ → Bool) (s : Text) (at : ℕ) → Faults (read_number key range s at)
       unfolding read_number
@@ -71,7 +73,7 @@ module _ (P : ℕ → Type 0) where
       counts_faults : (b : Bool) (n : ℕ) (range : ℕ → Bool) (s : Text) (at p x : ℕ) → Faults (counts_at b n range s at p x)
       unfolding counts_at
       counts_faults true n range s at p x = then_faults (judged (every range) at (list_end number n s x)) _ (judged_faults (every range) at (list_end number n s x)) (λ cs next. tt)
-      counts_faults false n range s at p x = need_faults (any_list s x) 2 at _ two three
+      counts_faults false n range s at p x = need_faults (any_list s x) Syntax at _ two three
 
       token_at_lem : (places : ℕ) (size : ℕ → ℕ) (range : ℕ → Bool) (s : Text) (at : ℕ) (r : Read ℕ) → Faults (token_at places size range s at r)
       unfolding token_at

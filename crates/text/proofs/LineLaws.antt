@@ -11,11 +11,14 @@ use Rattle.text.specs.Bytes.{Text, lf, starts}
 use Rattle.text.proofs.Basics.{by_test, and_true}
 use Rattle.text.specs.Number.{Read, missing, found, number, item}
 use Rattle.text.specs.Lines.{Outcome, got, bad, fault, need, judged, every, in_range, behind, read_number, read_head}
-use Rattle.text.specs.Answers.{line_of, ended_of}
-use Rattle.text.specs.declared.Ended.TheVariants.{Past, Stopped}
-use Rattle.text.specs.declared.Line.{Line}
-use Rattle.text.specs.declared.Line.TheVariants.{Value, Refused}
+use Rattle.std.specs.Prelude.{Result}
+use Rattle.std.specs.declared.result.Result.TheVariants.{Ok, Err}
+use Rattle.text.specs.Answers.{parsed}
+use Rattle.text.specs.declared.Fault.{Fault}
+use Rattle.text.specs.declared.Parsed.{Parsed}
 use Rattle.text.proofs.NumberLaws.{Exact, Capped}
+use Rattle.text.specs.declared.Cause.{Cause}
+use Rattle.text.specs.declared.Cause.TheVariants.{Syntax, Range}
 
 -- ---- a range
 
@@ -62,22 +65,21 @@ module _ {A : Type 0} (key : Text) (f : ℕ → Read A) (s : Text) (at : ℕ) wh
   unfolding behind
   behind-key e = rw (e, behind)
 
--- a key that stands there fits into what is left of the text
 -- ---- a test
 
-module _ {A : Type 0} (t : Bool) (why at : ℕ) (o : Outcome A) where
-  pub need_met : t ≡ true → need t why at o ≡ o
+module _ {A : Type 0} (t : Bool) (cause : Cause) (at : ℕ) (o : Outcome A) where
+  pub need_met : t ≡ true → need t cause at o ≡ o
   unfolding need
   need_met e = rw e
 
-  pub need_unmet : t ≡ false → need t why at o ≡ bad (fault why at)
+  pub need_unmet : t ≡ false → need t cause at o ≡ bad (fault cause at)
   unfolding need
   need_unmet e = rw e
 
 -- ---- what was read, judged
 
 module _ {A : Type 0} (top : ℕ) where
-  pub judged-missing : (range : A → Bool) (x : Read A) → x ≡ missing → judged range top x ≡ bad (fault 2 top)
+  pub judged-missing : (range : A → Bool) (x : Read A) → x ≡ missing → judged range top x ≡ bad (fault Syntax top)
   unfolding judged
   judged-missing range x e = rw e
 
@@ -88,25 +90,25 @@ module _ {A : Type 0} (top : ℕ) where
 -- ---- the line of one number
 
 module _ (key s : Text) (at lo hi : ℕ) where
-  abbrev pub number_answer : Line
-  number_answer = line_of (read_number key (in_range lo hi) s at)
+  abbrev pub number_answer : Result (Parsed ℕ) Fault
+  number_answer = parsed (read_number key (in_range lo hi) s at)
 
-  pub line_other : starts key (drop at s) ≡ false → number_answer ≡ Refused (fault 2 at)
-  unfolding read_number judged line_of
+  pub line_other : starts key (drop at s) ≡ false → number_answer ≡ Err (fault Syntax at)
+  unfolding read_number judged parsed
   line_other e = rw (behind_other key (item number lf s) s at e)
 
   module _ (key-is : starts key (drop at s) ≡ true) where
-    pub line-missing : item number lf s (at + length key) ≡ missing → number_answer ≡ Refused (fault 2 at)
-    unfolding read_number judged line_of
+    pub line-missing : item number lf s (at + length key) ≡ missing → number_answer ≡ Err (fault Syntax at)
+    unfolding read_number judged parsed
     line-missing e = rw (behind-key key (item number lf s) s at key-is, e)
 
     module _ (lo-fits : lo < 65536) (hi-fits : hi < 65536) (v u : ℕ) (h : Exact (item number lf s (at + length key)) (Capped v) u) where
-      pub line_out : in_range lo hi v ≡ false → number_answer ≡ Refused (fault 3 at)
-      unfolding read_number judged line_of need
+      pub line_out : in_range lo hi v ≡ false → number_answer ≡ Err (fault Range at)
+      unfolding read_number judged parsed need
       line_out e = rw (behind-key key (item number lf s) s at key-is, h.is, capped-within lo hi v h.value lo-fits hi-fits h.told, e)
 
-      pub line-value : in_range lo hi v ≡ true → number_answer ≡ Value v u
-      unfolding read_number judged line_of need
+      pub line-value : in_range lo hi v ≡ true → number_answer ≡ Ok (record { value = v; end = u })
+      unfolding read_number judged parsed need
       line-value e =
           let same : h.value ≡ v = omega (arith, h.told, within-most lo hi v e) in
           rw (behind-key key (item number lf s) s at key-is, h.is, capped-within lo hi v h.value lo-fits hi-fits h.told, e, same)
@@ -114,10 +116,10 @@ module _ (key s : Text) (at lo hi : ℕ) where
 -- ---- the first line
 
 module _ (line s : Text) (at : ℕ) where
-  pub head_stands : starts line (drop at s) ≡ true → Past (at + length line) ≡ ended_of (read_head line s at)
-  unfolding read_head need ended_of
+  pub head_stands : starts line (drop at s) ≡ true → Ok (record { value = tt; end = at + length line }) ≡ parsed (read_head line s at)
+  unfolding read_head need parsed
   head_stands h = rw h
 
-  pub head_other : starts line (drop at s) ≡ false → Stopped (fault 2 at) ≡ ended_of (read_head line s at)
-  unfolding read_head need ended_of
+  pub head_other : starts line (drop at s) ≡ false → Err (fault Syntax at) ≡ parsed (read_head line s at)
+  unfolding read_head need parsed
   head_other h = rw h

@@ -20,6 +20,7 @@ use Rattle.text.proofs.ReadLaws.{missing≢found, found-is}
 use Rattle.text.proofs.Standing.{Stands, Reaches, stands_left, stands_right, ends_join, reach_join, nothing_reaches, byte_stands, first_byte, front_stands}
 use Rattle.text.proofs.Spelled.{Spelled, number_spelled, signed_spelled}
 use Rattle.text.proofs.Exactly.{Accepts, accepts_as, Finds, Exactly, got-is, need-got, judged_exactly}
+use Rattle.text.specs.declared.Cause.TheVariants.{Syntax}
 
 -- ---- a value and the byte that ends it
 module _ {A : Type 0} (stop : ℕ) (s : Text) where
@@ -227,7 +228,7 @@ pub head_exactly : (line s : Text) → Exactly s (read_head line s) (λ _. line)
 unfolding read_head need
 head_exactly line s = record {
   back = λ at a next e.
-      let p = need-got (starts line (drop at s)) 2 at (got tt (at + length line)) a next e in
+      let p = need-got (starts line (drop at s)) Syntax at (got tt (at + length line)) a next e in
       record {
         reaches = record { stands = front_stands s at line _ (starts_front line (drop at s) p.0); next_is = sym (got-is p.1).1 };
         fine-is = refl;

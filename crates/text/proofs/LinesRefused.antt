@@ -24,12 +24,13 @@ use Rattle.text.proofs.LinesExactly.{number_exactly, number_finds, row_finds, he
 use Rattle.text.proofs.TokenExactly.{token_exactly}
 use Rattle.text.proofs.Refused.{judged_two, judged_three, token_three}
 use Rattle.text.proofs.Refusals.{Refuses, Formless, Failing, LineFaults, ThenFaults, one_cause, bad-is, by_outcome, need-bad, then-bad, line_refuses, then_refuses}
+use Rattle.text.specs.declared.Cause.TheVariants.{Syntax, Range}
 
 -- ---- the faults of each kind of line
 module _ (s : Text) where
   -- of the first line of a file
   abbrev pub HeadFaults : Text → ℕ → Fault → Type 0
-  HeadFaults line at e = (e ≡ fault 2 at) × (Stands s at line → ⊥)
+  HeadFaults line at e = (e ≡ fault Syntax at) × (Stands s at line → ⊥)
 
   -- of a line of key and a number; its form is that of any number
   abbrev pub NumberFaults : Text → (ℕ → Bool) → ℕ → Fault → Type 0
@@ -68,7 +69,7 @@ pub head_refuses : (line s : Text) → Refuses (read_head line s) (HeadFaults s 
 unfolding read_head need
 head_refuses line s = record {
   back = λ at e h.
-      let n = need-bad (starts line (drop at s)) 2 at tt (at + length line) e h in
+      let n = need-bad (starts line (drop at s)) Syntax at tt (at + length line) e h in
       (n.1, λ st. bad≢got (sym h ∙ (head_exactly line s).forth at tt st refl));
   forth = λ at e h.
       by_test (starts line (drop at s))
@@ -77,8 +78,8 @@ head_refuses line s = record {
 }
 
 -- so it is 2 exactly where the line does not stand there, byte for byte
-pub head_two : (line s : Text) (at : ℕ) → (read_head line s at ≡ bad (fault 2 at)) ↔ (Stands s at line → ⊥)
-head_two line s at = (λ h. ((head_refuses line s).back at (fault 2 at) h).1, λ h. (head_refuses line s).forth at (fault 2 at) (refl, h))
+pub head_two : (line s : Text) (at : ℕ) → (read_head line s at ≡ bad (fault Syntax at)) ↔ (Stands s at line → ⊥)
+head_two line s at = (λ h. ((head_refuses line s).back at (fault Syntax at) h).1, λ h. (head_refuses line s).forth at (fault Syntax at) (refl, h))
 
 -- and what comes behind it
 pub head_then : {B : Type 0} (line s : Text) {rest : ℕ → Outcome B} {Next : ℕ → Fault → Type 0}
@@ -88,10 +89,10 @@ head_then line s two = then_refuses (head_exactly line s) (head_refuses line s) 
 -- ---- lines of numbers and of weights
 
 module _ {A : Type 0} (range : A → Bool) (at : ℕ) where
-  judged_only : (r : Read A) (e : Fault) → judged range at r ≡ bad e → (e ≡ fault 2 at) ⊎ (e ≡ fault 3 at)
+  judged_only : (r : Read A) (e : Fault) → judged range at r ≡ bad e → (e ≡ fault Syntax at) ⊎ (e ≡ fault Range at)
   unfolding judged
   judged_only missing e h = inl (sym (bad-is h))
-  judged_only (found a next) e h = inr (need-bad (range a) 3 at a next e h).1
+  judged_only (found a next) e h = inr (need-bad (range a) Range at a next e h).1
 
 -- what is found and judged
 judged_refuses : {A : Type 0} (s : Text) (f : ℕ → Read A) (text : A → Text) (form : A → Bool) → Finds s f text form → (range : A → Bool)
@@ -138,22 +139,22 @@ beyond_is true l r = (⊎_elim (λ h. absurd (true≢false h)) (λ h. (h.1, h.2)
 beyond_is false l r = (λ h. (refl, refl), λ h. inl refl)
 
 module _ (key : Text) (places : ℕ) (size : ℕ → ℕ) (range : ℕ → Bool) (s : Text) where
-  counts_only : (at : ℕ) (b : Bool) (n p x : ℕ) (e : Fault) → counts_at b n range s at p x ≡ bad e → (e ≡ fault 2 at) ⊎ (e ≡ fault 3 at)
+  counts_only : (at : ℕ) (b : Bool) (n p x : ℕ) (e : Fault) → counts_at b n range s at p x ≡ bad e → (e ≡ fault Syntax at) ⊎ (e ≡ fault Range at)
   unfolding counts_at need
   counts_only at true n p x e h =
       ⊎_elim (λ k. judged_only (every range) at (list_end number n s x) e k) (λ k. absurd (bad≢got (sym k.3)))
       (then-bad (judged (every range) at (list_end number n s x)) _ e h)
   counts_only at false n p x e h =
       by_test (any_list s x)
-      (λ k. let q : ◌≡◌ {A = Outcome Token} (bad (fault 3 at)) (bad e) = rw k at h in inr (sym (bad-is q)))
-      (λ k. let q : ◌≡◌ {A = Outcome Token} (bad (fault 2 at)) (bad e) = rw k at h in inl (sym (bad-is q)))
+      (λ k. let q : ◌≡◌ {A = Outcome Token} (bad (fault Range at)) (bad e) = rw k at h in inr (sym (bad-is q)))
+      (λ k. let q : ◌≡◌ {A = Outcome Token} (bad (fault Syntax at)) (bad e) = rw k at h in inl (sym (bad-is q)))
 
-  token_only : (at : ℕ) (r : Read ℕ) (e : Fault) → token_at places size range s at r ≡ bad e → (e ≡ fault 2 at) ⊎ (e ≡ fault 3 at)
+  token_only : (at : ℕ) (r : Read ℕ) (e : Fault) → token_at places size range s at r ≡ bad e → (e ≡ fault Syntax at) ⊎ (e ≡ fault Range at)
   unfolding token_at
   token_only at missing e h = inl (sym (bad-is h))
   token_only at (found p x) e h = counts_only at (in_range 1 places p) (size p) p x e h
 
-  token_fails : (at : ℕ) → (read_token key places size range s at ≡ bad (fault 3 at)) ↔ Failing s (token_text key) (formed places size) (ranged places range) at
+  token_fails : (at : ℕ) → (read_token key places size range s at ≡ bad (fault Range at)) ↔ Failing s (token_text key) (formed places size) (ranged places range) at
   token_fails at =
       let three = token_three key places size range s at in
       let law : (t : Token) → _ = λ t. beyond_is (in_range 1 places t.place) (eqb (length t.counts) (size t.place)) (every range t.counts) in (
@@ -161,20 +162,20 @@ module _ (key : Text) (places : ℕ) (size : ℕ → ℕ) (range : ℕ → Bool)
         λ h. three.1 (h.0, h.1, (law h.0).1 (h.2, h.3)),
       )
 
-  only : (at : ℕ) (e : Fault) → read_token key places size range s at ≡ bad e → (e ≡ fault 2 at) ⊎ (e ≡ fault 3 at)
+  only : (at : ℕ) (e : Fault) → read_token key places size range s at ≡ bad e → (e ≡ fault Syntax at) ⊎ (e ≡ fault Range at)
   unfolding read_token
   only at e h = token_only at (behind key (item number colon s) s at) e h
 
   one : Exactly s (read_token key places size range s) (token_text key) (λ t. formed places size t && ranged places range t)
   one = subst (Exactly s (read_token key places size range s) (token_text key)) (fun_ext (right_is places size range)) (token_exactly key places size range s)
 
-  two_formless : (at : ℕ) → read_token key places size range s at ≡ bad (fault 2 at) → Formless s (token_text key) (formed places size) at
+  two_formless : (at : ℕ) → read_token key places size range s at ≡ bad (fault Syntax at) → Formless s (token_text key) (formed places size) at
   two_formless at h t st fo =
       by_test (ranged places range t)
       (λ r. bad≢got (sym h ∙ one.forth at t st (and_both (formed places size t) (ranged places range t) fo r)))
       (λ r. let z : 2 ≡ 3 = one_cause (bad-is (sym h ∙ (token_fails at).1 (t, st, fo, r))) in omega (arith, z))
 
-  formless_two : (at : ℕ) → Formless s (token_text key) (formed places size) at → read_token key places size range s at ≡ bad (fault 2 at)
+  formless_two : (at : ℕ) → Formless s (token_text key) (formed places size) at → read_token key places size range s at ≡ bad (fault Syntax at)
   formless_two at n =
       by_outcome (read_token key places size range s at)
       (λ t next q. let b = one.back at t next q in absurd (n t b.reaches.stands (and_true (formed places size t) (ranged places range t) b.fine-is).0))
@@ -185,7 +186,7 @@ module _ (key : Text) (places : ℕ) (size : ℕ → ℕ) (range : ℕ → Bool)
       (only at e q))
 
   -- the line of a token is 2 exactly where none stands there that has as many counts as its place asks for, or names a place that there is not
-  pub token_two : (at : ℕ) → (read_token key places size range s at ≡ bad (fault 2 at)) ↔ Formless s (token_text key) (formed places size) at
+  pub token_two : (at : ℕ) → (read_token key places size range s at ≡ bad (fault Syntax at)) ↔ Formless s (token_text key) (formed places size) at
   token_two at = (two_formless at, formless_two at)
 
   -- it has no other fault

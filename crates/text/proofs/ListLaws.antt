@@ -1,5 +1,5 @@
 -- Laws of lists in a line: of the loop that reads one, and of a list of numbers read as weights.
-use Prim.Native.Nat.{ℕ, zero, suc, ◌+◌, ◌-◌, ◌%◌, ◌≤◌, ◌<◌}
+use Prim.Native.Nat.{ℕ, zero, suc, ◌+◌, ◌-◌, min, ◌≤◌, ◌<◌}
 use mathlib.Core.Path.{◌≡◌, refl, ap, sym, ◌∙◌}
 use mathlib.Core.List.{List, [], ◌∷◌, map}
 use mathlib.Core.Bool.{Bool, true, false, ◌&&◌, ◌||◌, and_assoc}
@@ -15,14 +15,17 @@ use Rattle.text.specs.Bytes.{Text, lf, comma, starts}
 use Rattle.text.proofs.Basics.{by_test, and_true}
 use Rattle.text.specs.Number.{Read, missing, found, number, plainly, signed_if, ended, item}
 use Rattle.text.specs.Lists.{stop_of, prepended, items, list_end, any_items, any_list}
-use Rattle.text.specs.Lines.{bad, fault, need, judged, every, behind, modest}
-use Rattle.text.specs.Capped.{above, below}
-use Rattle.text.specs.Answers.{ended_of, kept_or, padded, row_of, weight_row_of}
-use Rattle.text.specs.declared.Ended.TheVariants.{Past}
-use Rattle.text.specs.declared.WeightRow.{WeightRow}
+use Rattle.text.specs.Lines.{fault, need, judged, every, behind, modest}
+use Rattle.text.specs.Answers.{kept, parsed, padded, row}
+use Rattle.text.specs.Values.{number_in}
+use Rattle.std.specs.Prelude.{Result, nat_abs}
+use Rattle.std.specs.declared.result.Result.TheVariants.{Ok, Err}
+use Rattle.text.specs.declared.Fault.{Fault}
+use Rattle.text.specs.declared.Parsed.{Parsed}
 use Rattle.text.proofs.ReadLaws.{by_read, past_other}
 use Rattle.text.proofs.NumberLaws.{Exact, CappedSigned, number_end, number_forward, ended_here, ended_other, ended_past, item_plain}
 use Rattle.text.proofs.LineLaws.{capped-most}
+use Rattle.text.specs.declared.Cause.TheVariants.{Syntax, Range}
 
 -- ---- what ends a value
 
@@ -35,66 +38,73 @@ pub stop_last : (n : ℕ) → n ≡ 0 → lf ≡ stop_of n
 unfolding stop_of
 stop_last n h = rw h
 
--- ---- a loop over a list of weights, which are put one after the other, each in two rows
+-- ---- a loop over a list of weights, which are put one after the other in a row, each as it is held
 
--- the range of a weight, by its two capped parts
-modest-is : (hi x y : ℕ) (w : ℤ) → hi < 65536 → CappedSigned x y w → modest hi w ≡ (leb x hi && leb y hi)
-modest-is hi x y (pos n) fits t =
-    let z : y ≤ hi = omega arith in
-    capped-most hi x n fits t.0 ∙ rw (le-leb y hi z, bool.and-true (leb x hi))
-modest-is hi x y (negsuc n) fits t =
-    let z : x ≤ hi = omega arith in
-    capped-most hi y (suc n) fits t.1 ∙ rw (le-leb x hi z)
+-- the range of a weight, by its capped value
+modest-is : (hi : ℕ) (v w : ℤ) → hi < 65536 → CappedSigned v w → modest hi w ≡ leb (nat_abs v) hi
+modest-is hi v (pos n) fits t = rw t (capped-most hi (min n 65536) n fits refl)
+modest-is hi v (negsuc n) fits t = rw t (capped-most hi (suc (min n 65535)) (suc n) fits (omega arith))
 
-modest_parts : (hi x y : ℕ) (w : ℤ) → hi < 65536 → CappedSigned x y w → modest hi w ≡ true → (x % 65536 ≡ above w) × (y % 65536 ≡ below w)
-modest_parts hi x y (pos n) fits t e = (omega (arith, leb-true n hi e), omega arith)
-modest_parts hi x y (negsuc n) fits t e = (omega arith, omega (arith, leb-true (suc n) hi e))
+-- a weight in the range is its capped value
+modest_same : (hi : ℕ) (v w : ℤ) → hi < 65536 → CappedSigned v w → modest hi w ≡ true → v ≡ w
+modest_same hi v (pos n) fits t e = let z : min n 65536 ≡ n = omega (arith, leb-true n hi e) in rw (t, z)
+modest_same hi v (negsuc n) fits t e = let z : min n 65535 ≡ n = omega (arith, leb-true (suc n) hi e) in rw (t, z)
 
--- the answer where every weight was put: both rows if all are in the range, else the fault
-unfoldable pub rows_if : ℕ → Bool → List ℕ → List ℕ → ℕ → WeightRow
-rows_if top true ups downs next = record { ended = Past next; above = ups; below = downs }
-rows_if top false ups downs next = weight_row_of (bad (fault 3 top))
+module _ {A : Type 0} (held : ℤ → A) (hi top : ℕ) where
+  -- the answer where every weight was put: the row if all are in the range, else the fault
+  unfoldable pub rows_if : Bool → List A → ℕ → Result (Parsed (List A)) Fault
+  rows_if true values next = Ok (record { value = values; end = next })
+  rows_if false values next = Err (fault Range top)
 
-module _ (hi top : ℕ) where
   -- the answer where i weights were put, all in the range or not, and r is what follows
-  unfoldable pub going : Bool → ℕ → List ℕ → List ℕ → Read (List ℤ) → WeightRow
-  going inside i ups downs missing = weight_row_of (bad (fault 2 top))
-  going inside i ups downs (found l next) = rows_if top (inside && every (modest hi) l) (sets ups i (map above l)) (sets downs i (map below l)) next
+  unfoldable pub going : Bool → ℕ → List A → Read (List ℤ) → Result (Parsed (List A)) Fault
+  going inside i values missing = Err (fault Syntax top)
+  going inside i values (found l next) = rows_if (inside && every (modest hi) l) (sets values i (map held l)) next
 
-  pub going_start : (r : Read (List ℤ)) → weight_row_of (judged (every (modest hi)) top r) ≡ going true 0 (replicate 32 0) (replicate 32 0) r
-  unfolding going rows_if weight_row_of judged need ended_of kept_or padded
+  pub going_start : (r : Read (List ℤ)) → parsed (kept (row held) (judged (every (modest hi)) top r)) ≡ going true 0 (replicate 32 (held (pos 0))) r
+  unfolding going rows_if parsed kept judged need row
   going_start missing = refl
   going_start (found l next) = by_test (every (modest hi) l) (λ h. rw h) (λ h. rw h)
 
+  -- a list that is not there, and one of no weights
+  pub list_missing : (r : Read (List ℤ)) → r ≡ missing → Err (fault Syntax top) ≡ parsed (kept (row held) (judged (every (modest hi)) top r))
+  unfolding parsed kept judged
+  list_missing r e = rw e
+
+  pub list_none : (r : Read (List ℤ)) (u : ℕ) → r ≡ found [] u
+      → Ok (record { value = replicate 32 (held (pos 0)); end = u }) ≡ parsed (kept (row held) (judged (every (modest hi)) top r))
+  unfolding parsed kept judged need row
+  list_none r u e = rw e
+
   -- one weight more; what is kept of one out of the range does not matter
-  going_before : (inside : Bool) (i : ℕ) (ups downs ups' downs' : List ℕ) (w : ℤ) (r : Read (List ℤ))
-      → (modest hi w ≡ true → (ups' ≡ set ups i (above w)) × (downs' ≡ set downs i (below w)))
-      → going inside i ups downs (prepended w r) ≡ going (inside && modest hi w) (i + 1) ups' downs' r
+  going_before : (inside : Bool) (i : ℕ) (values values' : List A) (w : ℤ) (r : Read (List ℤ))
+      → (modest hi w ≡ true → values' ≡ set values i (held w))
+      → going inside i values (prepended w r) ≡ going (inside && modest hi w) (i + 1) values' r
   unfolding going prepended rows_if
-  going_before inside i ups downs ups' downs' w missing e = refl
-  going_before inside i ups downs ups' downs' w (found l t) e =
+  going_before inside i values values' w missing e = refl
+  going_before inside i values values' w (found l t) e =
       by_test (inside && modest hi w)
-      (λ h. let k = e (and_true inside (modest hi w) h).1 in rw (add-one i, k.0, k.1, and_assoc inside (modest hi w) (every (modest hi) l)))
+      (λ h. let k = e (and_true inside (modest hi w) h).1 in rw (add-one i, k, and_assoc inside (modest hi w) (every (modest hi) l)))
       (λ h. rw (← and_assoc inside (modest hi w) (every (modest hi) l), h))
 
   -- the turn i of n, at `at`
-  module _ (value : Text → ℕ → Read ℤ) (s : Text) (n at : ℕ) (inside : Bool) (i : ℕ) (ups downs : List ℕ) where
-    pub turn_missing : i < n → item value (stop_of (n - i - 1)) s at ≡ missing → going inside i ups downs (items value (n - i) s at) ≡ weight_row_of (bad (fault 2 top))
+  module _ (value : Text → ℕ → Read ℤ) (s : Text) (n at : ℕ) (inside : Bool) (i : ℕ) (values : List A) where
+    pub turn_missing : i < n → item value (stop_of (n - i - 1)) s at ≡ missing → going inside i values (items value (n - i) s at) ≡ Err (fault Syntax top)
     unfolding items going
     turn_missing h e = let left : n - i ≡ suc (n - i - 1) = omega arith in rw (left, e, items)
 
-    pub turn_more : hi < 65536 → i < n → (x y u : ℕ) → Exact (item value (stop_of (n - i - 1)) s at) (CappedSigned x y) u
-        → (b : Bool) → b ≡ (inside && (leb x hi && leb y hi)) → (ups' downs' : List ℕ) → ups' ≡ set ups i (x % 65536) → downs' ≡ set downs i (y % 65536)
-        → going inside i ups downs (items value (n - i) s at) ≡ going b (i + 1) ups' downs' (items value (n - (i + 1)) s u)
+    pub turn_more : hi < 65536 → i < n → (v : ℤ) (u : ℕ) → Exact (item value (stop_of (n - i - 1)) s at) (CappedSigned v) u
+        → (b : Bool) → b ≡ (inside && leb (nat_abs v) hi) → (values' : List A) → values' ≡ set values i (held v)
+        → going inside i values (items value (n - i) s at) ≡ going b (i + 1) values' (items value (n - (i + 1)) s u)
     unfolding items
-    turn_more fits h x y u w b f ups' downs' k l =
+    turn_more fits h v u w b f values' k =
         let left : n - i ≡ suc (n - i - 1) = omega arith in
         let less : n - (i + 1) ≡ n - i - 1 = omega arith in
-        rw (left, less, w.is, f, ← modest-is hi x y w.value fits w.told, items)
-        (going_before inside i ups downs ups' downs' w.value (items value (n - i - 1) s u)
-        (λ e. let same = modest_parts hi x y w.value fits w.told e in (rw (← same.0) k, rw (← same.1) l)))
+        rw (left, less, w.is, f, ← modest-is hi v w.value fits w.told, items)
+        (going_before inside i values values' w.value (items value (n - i - 1) s u)
+        (λ e. rw (← modest_same hi v w.value fits w.told e) k))
 
-    pub turn_done : n ≤ i → (b : Bool) → inside ≡ b → going inside i ups downs (items value (n - i) s at) ≡ rows_if top b ups downs at
+    pub turn_done : n ≤ i → (b : Bool) → inside ≡ b → going inside i values (items value (n - i) s at) ≡ rows_if b values at
     unfolding items going
     turn_done h b e = let none : n - i ≡ 0 = omega arith in rw (none, e, bool.and-true b)
 
@@ -154,16 +164,24 @@ numbers_every : (hi : ℕ) (l : List ℕ) → every (modest hi) (map pos l) ≡ 
 numbers_every hi [] = refl
 numbers_every hi (v ∷ l) = ap (λ (b : Bool). leb v hi && b) (numbers_every hi l)
 
-numbers_above : (l : List ℕ) → map above (map pos l) ≡ l
-numbers_above [] = refl
-numbers_above (v ∷ l) = ap (◌∷◌ v) (numbers_above l)
+numbers_held : (most hi : ℕ) (l : List ℕ) → hi ≤ most → every (λ v. leb v hi) l ≡ true → map (number_in most) (map pos l) ≡ l
+numbers_held most hi [] h e = refl
+numbers_held most hi (v ∷ l) h e =
+    let p = and_true (leb v hi) (every (λ v. leb v hi) l) e in
+    rw (le-leb v most (omega (arith, leb-true v hi p.0)), numbers_held most hi l h p.1)
 
--- the parts above 0 are the numbers
-pub numbers_row : (hi top : ℕ) (r : Read (List ℕ)) (q : Read (List ℤ)) (w : WeightRow) → w ≡ weight_row_of (judged (every (modest hi)) top q) → q ≡ as_weights r
-    → record { ended = w.ended; values = w.above } ≡ row_of (judged (every (λ v. leb v hi)) top r)
-unfolding weight_row_of row_of judged need ended_of kept_or as_weights
-numbers_row hi top missing q w e f = rw (e, f)
-numbers_row hi top (found l end) q w e f = by_test (every (λ v. leb v hi) l) (λ h. rw (e, f, numbers_every hi l, h, numbers_above l)) (λ h. rw (e, f, numbers_every hi l, h))
+zero_held : (most : ℕ) → number_in most (pos 0) ≡ 0
+zero_held most = rw (le-leb 0 most (omega arith))
+
+-- numbers in the range are held as they are
+pub numbers_kept : (most hi top : ℕ) (r : Read (List ℕ)) (q : Read (List ℤ)) → hi ≤ most → q ≡ as_weights r
+    → kept (row (number_in most)) (judged (every (modest hi)) top q) ≡ kept padded (judged (every (λ v. leb v hi)) top r)
+unfolding kept judged need as_weights row padded
+numbers_kept most hi top missing q h f = rw f
+numbers_kept most hi top (found l end) q h f =
+    by_test (every (λ v. leb v hi) l)
+    (λ e. rw (f, numbers_every hi l, e, numbers_held most hi l h e, zero_held most))
+    (λ e. rw (f, numbers_every hi l, e))
 
 -- ---- a list of any length
 

@@ -1,51 +1,33 @@
 -- Laws for every loop over lines: one turn, a refusal, the end; and for answers taken apart by how they ended.
 use Prim.Native.Nat.{ℕ, suc, ◌+◌, ◌-◌, ◌≤◌, ◌<◌}
-use mathlib.Core.Path.{◌≡◌, refl, sym, ◌∙◌}
+use mathlib.Core.Path.{◌≡◌, refl}
 use mathlib.Core.List.{List, ◌∷◌}
 use native.Mathlib.Omega.{arith}
 use native.Mathlib.Numerals.{add-one}
 use Rattle.text.specs.Lines.{Outcome, got, bad, then, many}
 use Rattle.text.specs.Repeat.{many_at, fill, filled}
-use Rattle.text.specs.Answers.{line_of, ended_of}
+use Rattle.std.specs.declared.result.Result.TheVariants.{Ok, Err}
+use Rattle.text.specs.Answers.{kept, parsed}
 use Rattle.text.specs.declared.Fault.{Fault}
-use Rattle.text.specs.declared.Line.TheVariants.{Value, Refused}
-use Rattle.text.specs.declared.Ended.{Ended}
-use Rattle.text.specs.declared.Ended.TheVariants.{Past, Stopped}
+use Rattle.text.specs.declared.Parsed.{Parsed}
 
--- an outcome that was accepted up to a position
-pub record Got {A : Type 0} (o : Outcome A) (next : ℕ) : Type 0 where
+-- what was read up to a position, of which b is held
+pub record Got {A B : Type 0} (f : A → B) (o : Outcome A) (b : B) (next : ℕ) : Type 0 where
   pub value : A
   pub is : o ≡ got value next
+  pub held : b ≡ f value
 
-module _ {A : Type 0} (o : Outcome A) (e : Ended) where
-  pub got_of : (next : ℕ) → e ≡ ended_of o → e ≡ Past next → Got o next
-  got_of next p q = go o (sym p ∙ q)
-    where
-      go : (o : Outcome A) → ended_of o ≡ Past next → Got o next
-      go (got a t) r = let z : Past t ≡ Past next = unfold ended_of in r in record { value = a; is = (cc) }
-      go (bad d) r = let y : Stopped d ≡ Past next = unfold ended_of in r in let z : ◌≡◌ {A = ℕ} 0 1 = cc in absurd (omega arith)
+-- what an answer says of the outcome
+module _ {A B : Type 0} (f : A → B) where
+  pub parsed_got : (o : Outcome A) (p : Parsed B) → Ok p ≡ parsed (kept f o) → Got f o p.value p.end
+  unfolding parsed kept
+  parsed_got (got a t) p e = let z : p ≡ record { value = f a; end = t } = cc in record { value = a; is = rw z; held = rw z }
+  parsed_got (bad d) p e = let z : ◌≡◌ {A = ℕ} 0 1 = cc in absurd (omega arith)
 
-  pub bad_of : (d : Fault) → e ≡ ended_of o → e ≡ Stopped d → o ≡ bad d
-  bad_of d p q = go o (sym p ∙ q)
-    where
-      go : (o : Outcome A) → ended_of o ≡ Stopped d → o ≡ bad d
-      go (got a t) r = let y : Past t ≡ Stopped d = unfold ended_of in r in let z : ◌≡◌ {A = ℕ} 0 1 = cc in absurd (omega arith)
-      go (bad c) r = let z : Stopped c ≡ Stopped d = unfold ended_of in r in cc
-
--- a line that says nothing but that it stands
-pub head_got : (o : Outcome (Unit {0})) (next : ℕ) → Past next ≡ ended_of o → o ≡ got tt next
-head_got o next e = (got_of o (Past next) next e refl).is
-
--- the same of the line of one number
-pub line-got : (o : Outcome ℕ) (v next : ℕ) → Value v next ≡ line_of o → o ≡ got v next
-unfolding line_of
-line-got (got w t) v next e = cc
-line-got (bad d) v next e = let z : ◌≡◌ {A = ℕ} 0 1 = cc in absurd (omega arith)
-
-pub line-bad : (o : Outcome ℕ) (d : Fault) → Refused d ≡ line_of o → o ≡ bad d
-unfolding line_of
-line-bad (got w t) d e = let z : ◌≡◌ {A = ℕ} 0 1 = cc in absurd (omega arith)
-line-bad (bad c) d e = cc
+  pub parsed_bad : (o : Outcome A) (d : Fault) → Err d ≡ parsed (kept f o) → o ≡ bad d
+  unfolding parsed kept
+  parsed_bad (got a t) d e = let z : ◌≡◌ {A = ℕ} 0 1 = cc in absurd (omega arith)
+  parsed_bad (bad c) d e = cc
 
 -- what is put behind the thing just read
 put_next_lem : {A B : Type 0} (put : ℕ → A → B → B) (i : ℕ) (t : B) (o : Outcome (List A)) (a : A)

@@ -1,22 +1,23 @@
 -- Laws of the numbers in a text, with and without a sign, and of the byte that ends a value.
 use Prim.Native.Nat.{ℕ, zero, suc, ◌+◌, ◌-◌, ◌*◌, ◌≤◌, ◌<◌, min}
-use mathlib.Core.Path.{◌≡◌, refl, sym, ◌∙◌}
+use mathlib.Core.Path.{◌≡◌, refl, sym, ap, ◌∙◌}
 use mathlib.Core.List.{[], ◌∷◌}
 use mathlib.Core.Bool.{Bool, true, false, ◌&&◌, false≢true}
 use lib.Dec.{eqb, ltb}
-use lib.IntN.{ℤ}
+use lib.IntN.{ℤ, pos, negsuc}
 use borrow.Author.Tests.{ltb-true, ltb-false, eq-eqb, ne_eqb, eqb-true, eqb-false}
 use native.Mathlib.Omega.{arith}
 use native.Mathlib.Numerals.{add-one}
 use native.Mathlib.Nat.{min-eq_left}
-use lib.ListN.{length, drop, get_or, length-drop, drop_of_length-le}
+use lib.ListN.{length, drop, get_or, get_or-eq_default, length-drop, drop_of_length-le}
 use lib.Seq.{drop-cons}
-use Rattle.text.specs.declared.Decimal.TheVariants.{Found, Missing}
-use Rattle.text.specs.declared.Signed.TheVariants.{Weight, Unsaid}
+use Rattle.std.specs.declared.option.Option.TheVariants.{Some, None}
+use Rattle.std.specs.Prelude.{Option}
+use Rattle.text.specs.declared.Parsed.{Parsed}
 use Rattle.text.specs.Bytes.{Text, minus}
 use Rattle.text.proofs.Basics.{by_test}
 use Rattle.text.specs.Number.{Read, missing, found, is_digit, digits, number_of, number, plainly, negated, signed, signed_if, ended, item}
-use Rattle.text.specs.Capped.{capped, above, below, capped_signed}
+use Rattle.text.specs.Capped.{answered, cap, cap_signed, capped}
 use Rattle.text.proofs.ReadLaws.{missing≢found, found-is, past_other}
 use Rattle.text.proofs.NumberSteps.{digits_more, digits_stop, of_zero, of_digit, of_other}
 
@@ -44,10 +45,10 @@ module _ (s : Text) (v k : ℕ) where
   digits_at_end h = rw (drop_of_length-le s h)
 
 module _ (s : Text) (v k : ℕ) (small : v ≤ 65536) where
-  pub capped_stop : k < length s → is_digit (get_or s k 0) ≡ false → capped (digits v k (drop k s)) ≡ Found v k
+  pub capped_stop : k < length s → is_digit (get_or s k 0) ≡ false → capped (digits v k (drop k s)) ≡ Some (record { value = v; end = k })
   capped_stop h e = rw (digits_at_stop s v k h e, min-eq_left small)
 
-  pub capped_end : length s ≤ k → capped (digits v k (drop k s)) ≡ Found v k
+  pub capped_end : length s ≤ k → capped (digits v k (drop k s)) ≡ Some (record { value = v; end = k })
   capped_end h = rw (digits_at_end s v k h, min-eq_left small)
 
 -- one digit more, the value capped again
@@ -74,6 +75,14 @@ module _ (s : Text) (at : ℕ) where
     pub number_digits : (get_or s at 0 ≡ 48 → ⊥) → is_digit (get_or s at 0) ≡ true → number s at ≡ digits (get_or s at 0 - 48) (at + 1) (drop (at + 1) s)
     unfolding number number_of
     number_digits n e = rw (drop-cons s at 0 h) (of_digit at (get_or s at 0) (drop (suc at) s) n e ∙ rw (add-one at))
+
+  -- no number begins with another byte, nor past the end
+  pub number_other : is_digit (get_or s at 0) ≡ false → number s at ≡ missing
+  number_other e = by_test (ltb at (length s)) (λ p. number_none (ltb-true at (length s) p) e) (λ p. number_end (ltb-false at (length s) p))
+
+  pub digit_within : is_digit (get_or s at 0) ≡ true → at < length s
+  digit_within e =
+      by_test (ltb at (length s)) (λ p. ltb-true at (length s) p) (λ p. absurd (false≢true (rw (get_or-eq_default s 0 (ltb-false at (length s) p)) at e)))
 
 -- a number has at least one byte, and ends in the text
 digits_span : (s : Text) (v u w t : ℕ) → digits v u s ≡ found w t → (u ≤ t) × (t ≤ u + length s)
@@ -109,30 +118,31 @@ pub record Exact {A : Type 0} (x : Read A) (Told : A → Type 0) (u : ℕ) : Typ
   pub is : x ≡ found value u
   pub told : Told value
 
+abbrev pub answered_as : {B : Type 0} → ℕ → B → Option (Parsed B)
+answered_as u b = Some (record { value = b; end = u })
+
+-- what is answered where a value was found says so, by f of the value; where none is answered, there is none
+module _ {A B : Type 0} (f : A → B) where
+  pub exact_of : (x : Read A) (p : Parsed B) → Some p ≡ answered f x → Exact x (λ a. p.value ≡ f a) p.end
+  exact_of missing p e = let z : ◌≡◌ {A = ℕ} 0 1 = cc in absurd (omega arith)
+  exact_of (found a t) p e = let z : p ≡ record { value = f a; end = t } = cc in record { value = a; is = rw z; told = rw z }
+
+  pub missing_of : (x : Read A) → None ≡ answered f x → x ≡ missing
+  missing_of missing e = refl
+  missing_of (found a t) e = let z : ◌≡◌ {A = ℕ} 0 1 = cc in absurd (omega arith)
+
+  pub missing_if : (x : Read A) (r : Option (Parsed B)) → r ≡ answered f x → ((p : Parsed B) → r ≡ Some p → ⊥) → x ≡ missing
+  missing_if missing r e n = refl
+  missing_if (found a t) r e n = absurd (n _ e)
+
+  pub answer_is : (x : Read A) (b : B) (u : ℕ) → Exact x (λ a. b ≡ f a) u → Some (record { value = b; end = u }) ≡ answered f x
+  answer_is x b u h = rw (h.is, ← h.told)
+
 abbrev pub Capped : ℕ → ℕ → Type 0
-Capped v w = v ≡ min w 65536
+Capped v w = v ≡ cap w
 
-abbrev pub CappedSigned : ℕ → ℕ → ℤ → Type 0
-CappedSigned a b w = (a ≡ min (above w) 65536) × (b ≡ min (below w) 65536)
-
-pub exact_of : (x : Read ℕ) (v u : ℕ) → Found v u ≡ capped x → Exact x (Capped v) u
-exact_of missing v u e = let z : ◌≡◌ {A = ℕ} 0 1 = cc in absurd (omega arith)
-exact_of (found w t) v u e = record { value = w; is = (cc); told = (cc) }
-
-pub missing_of : (x : Read ℕ) → Missing ≡ capped x → x ≡ missing
-missing_of missing e = refl
-missing_of (found w t) e = cc
-
-pub answer_of_lem : (x : Read ℕ) (v u : ℕ) → Exact x (Capped v) u → Found v u ≡ capped x
-answer_of_lem x v u h = rw (h.is, ← h.told)
-
-pub exact_signed : (x : Read ℤ) (a b u : ℕ) → Weight a b u ≡ capped_signed x → Exact x (CappedSigned a b) u
-exact_signed missing a b u e = let z : ◌≡◌ {A = ℕ} 0 1 = cc in absurd (omega arith)
-exact_signed (found w t) a b u e = record { value = w; is = (cc); told = ((cc), (cc)) }
-
-pub missing-signed : (x : Read ℤ) → Unsaid ≡ capped_signed x → x ≡ missing
-missing-signed missing e = refl
-missing-signed (found w t) e = cc
+abbrev pub CappedSigned : ℤ → ℤ → Type 0
+CappedSigned v w = v ≡ cap_signed w
 
 -- ---- the sign put on a number
 
@@ -144,24 +154,24 @@ pub negated-missing : (x : Read ℕ) → x ≡ missing → negated x ≡ missing
 unfolding negated
 negated-missing x e = rw e
 
-negative : (x : Read ℕ) (v u w : ℕ) → x ≡ found (suc w) u → v ≡ min (suc w) 65536 → Weight 0 v u ≡ capped_signed (negated x)
+negative : (x : Read ℕ) (v u w : ℕ) → x ≡ found (suc w) u → v ≡ cap (suc w) → Exact (negated x) (CappedSigned (negsuc (v - 1))) u
 unfolding negated
-negative x v u w e t = rw (e, t)
+negative x v u w e t = let z : v - 1 ≡ min w 65535 = omega (arith, t) in record { value = negsuc w; is = rw e; told = ap negsuc z }
 
 module _ (x : Read ℕ) (v u : ℕ) (h : Exact x (Capped v) u) where
-  pub plain_answer : Weight v 0 u ≡ capped_signed (plainly x)
+  pub plain_exact : Exact (plainly x) (CappedSigned (pos v)) u
   unfolding plainly
-  plain_answer = rw (h.is, ← h.told)
+  plain_exact = record { value = pos h.value; is = rw h.is; told = ap pos h.told }
 
   pub negated_zero : v ≡ 0 → negated x ≡ missing
   unfolding negated
   negated_zero e = let z : h.value ≡ 0 = omega (arith, h.told) in rw (h.is, z)
 
-  pub negated-answer : (v ≡ 0 → ⊥) → Weight 0 v u ≡ capped_signed (negated x)
-  negated-answer n = go h.value h.is h.told
+  pub negated_exact : (v ≡ 0 → ⊥) → Exact (negated x) (CappedSigned (negsuc (v - 1))) u
+  negated_exact n = go h.value h.is h.told
     where
-      go : (w : ℕ) → x ≡ found w u → v ≡ min w 65536 → Weight 0 v u ≡ capped_signed (negated x)
-      go zero e t = absurd (n (omega arith))
+      go : (w : ℕ) → x ≡ found w u → v ≡ cap w → Exact (negated x) (CappedSigned (negsuc (v - 1))) u
+      go zero e t = absurd (n (omega (arith, t)))
       go (suc w) e t = negative x v u w e t
 
 -- ---- a value and the byte right after it

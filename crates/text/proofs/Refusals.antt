@@ -10,7 +10,7 @@ use native.Mathlib.Nat.{add-zero}
 use lib.Dec.{eqb}
 use lib.ListN.{length}
 use Rattle.text.specs.Bytes.{Text}
-use Rattle.text.specs.Lines.{Outcome, got, bad, fault, then, need, many, every}
+use Rattle.text.specs.Lines.{Outcome, got, bad, fault, then, need, many, every, cause_number}
 use Rattle.text.specs.Repeat.{many_at, every_at}
 use Rattle.text.specs.Printed.{texts}
 use Rattle.text.specs.declared.Fault.{Fault}
@@ -18,6 +18,8 @@ use Rattle.text.proofs.Basics.{and_true}
 use Rattle.text.proofs.TestLaws.{and_both}
 use Rattle.text.proofs.Standing.{Stands, stands_left, stands_right, stands_join, ends_join}
 use Rattle.text.proofs.Exactly.{Accepts, Exactly, bad≢got, many_exactly}
+use Rattle.text.specs.declared.Cause.{Cause}
+use Rattle.text.specs.declared.Cause.TheVariants.{Syntax, Range}
 
 -- f refuses with a fault exactly where Where says so
 pub record Refuses {A : Type 0} (f : ℕ → Outcome A) (Where : ℕ → Fault → Type 0) : Type 0 where
@@ -35,11 +37,11 @@ module _ {A : Type 0} (s : Text) (text : A → Text) where
 
   -- the faults of a line: 2 where no line of its form stands there, 3 where one does that is out of range
   abbrev pub LineFaults : (A → Bool) → (A → Bool) → ℕ → Fault → Type 0
-  LineFaults form range at e = ((e ≡ fault 2 at) × Formless form at) ⊎ ((e ≡ fault 3 at) × Failing form range at)
+  LineFaults form range at e = ((e ≡ fault Syntax at) × Formless form at) ⊎ ((e ≡ fault Range at) × Failing form range at)
 
-  -- those that come before, and `why` where what is fine breaks a rule
-  abbrev pub RuledFaults : (ℕ → Fault → Type 0) → (A → Bool) → (A → Bool) → ℕ → ℕ → Fault → Type 0
-  RuledFaults Before fine rule why at e = Before at e ⊎ ((e ≡ fault why at) × Failing fine rule at)
+  -- those that come before, and `cause` where what is fine breaks a rule
+  abbrev pub RuledFaults : (ℕ → Fault → Type 0) → (A → Bool) → (A → Bool) → Cause → ℕ → Fault → Type 0
+  RuledFaults Before fine rule cause at e = Before at e ⊎ ((e ≡ fault cause at) × Failing fine rule at)
 
   -- those of a reading, and behind what it accepts those of the next
   abbrev pub ThenFaults : (ℕ → Fault → Type 0) → (A → Bool) → (A → ℕ → Fault → Type 0) → ℕ → Fault → Type 0
@@ -56,16 +58,16 @@ ManyThen s text One fine n Next =
     ThenFaults s (texts text) (ManyFaults s text (λ i. One) (λ i. fine) 0 n) (λ l. eqb (length l) n && every fine l) Next
 
 -- a fault has one cause, and one place
-pub one_cause : {m n x y : ℕ} → fault m x ≡ fault n y → m ≡ n
-one_cause h = ap (λ (e : Fault). e.why) h
+pub one_cause : {m n : Cause} {x y : ℕ} → fault m x ≡ fault n y → cause_number m ≡ cause_number n
+one_cause h = ap (λ (e : Fault). cause_number e.cause) h
 
-pub one_place : {m n x y : ℕ} → fault m x ≡ fault n y → x ≡ y
+pub one_place : {m n : Cause} {x y : ℕ} → fault m x ≡ fault n y → x ≡ y
 one_place h = ap (λ (e : Fault). e.at) h
 
 -- a cause behind 3 is no cause of a line without a rule
-pub no_line_cause : {P Q : Type 0} {why x y : ℕ} → 3 < why → ((fault why x ≡ fault 2 y) × P) ⊎ ((fault why x ≡ fault 3 y) × Q) → ⊥
-no_line_cause {why} later =
-    ⊎_elim (λ k. let z : why ≡ 2 = one_cause k.0 in omega (arith, z, later)) (λ k. let z : why ≡ 3 = one_cause k.0 in omega (arith, z, later))
+pub no_line_cause : {P Q : Type 0} {cause : Cause} {x y : ℕ} → 3 < cause_number cause → ((fault cause x ≡ fault Syntax y) × P) ⊎ ((fault cause x ≡ fault Range y) × Q) → ⊥
+no_line_cause {cause} later =
+    ⊎_elim (λ k. let z : cause_number cause ≡ 2 = one_cause k.0 in omega (arith, z, later)) (λ k. let z : cause_number cause ≡ 3 = one_cause k.0 in omega (arith, z, later))
 
 module _ {A : Type 0} where
   pub bad-is : {d e : Fault} → ◌≡◌ {A = Outcome A} (bad d) (bad e) → d ≡ e
@@ -75,10 +77,10 @@ module _ {A : Type 0} where
   by_outcome (got a next) f g = f a next refl
   by_outcome (bad e) f g = g e refl
 
-  pub need-bad : (t : Bool) (why at : ℕ) (a : A) (next : ℕ) (e : Fault) → need t why at (got a next) ≡ bad e → (t ≡ false) × (e ≡ fault why at)
+  pub need-bad : (t : Bool) (cause : Cause) (at : ℕ) (a : A) (next : ℕ) (e : Fault) → need t cause at (got a next) ≡ bad e → (t ≡ false) × (e ≡ fault cause at)
   unfolding need
-  need-bad true why at a next e h = absurd (bad≢got (sym h))
-  need-bad false why at a next e h = (refl, sym (bad-is h))
+  need-bad true cause at a next e h = absurd (bad≢got (sym h))
+  need-bad false cause at a next e h = (refl, sym (bad-is h))
 
 module _ {A B : Type 0} where
   pub then-bad : (o : Outcome A) (f : A → ℕ → Outcome B) (e : Fault) → then o f ≡ bad e
@@ -90,8 +92,8 @@ module _ {A B : Type 0} where
 -- ---- a line
 
 module _ {A : Type 0} (s : Text) (f : ℕ → Outcome A) (text : A → Text) (form range : A → Bool)
-    (two : (at : ℕ) → (f at ≡ bad (fault 2 at)) ↔ Formless s text form at) (three : (at : ℕ) → (f at ≡ bad (fault 3 at)) ↔ Failing s text form range at)
-    (only : (at : ℕ) (e : Fault) → f at ≡ bad e → (e ≡ fault 2 at) ⊎ (e ≡ fault 3 at))
+    (two : (at : ℕ) → (f at ≡ bad (fault Syntax at)) ↔ Formless s text form at) (three : (at : ℕ) → (f at ≡ bad (fault Range at)) ↔ Failing s text form range at)
+    (only : (at : ℕ) (e : Fault) → f at ≡ bad e → (e ≡ fault Syntax at) ⊎ (e ≡ fault Range at))
   where
     -- a line that is exact in its 2 and in its 3, and has no other cause
     pub line_refuses : Refuses f (LineFaults s text form range)
@@ -118,18 +120,18 @@ module _ {A B : Type 0} {s : Text} {f : ℕ → Outcome A} {text : A → Text} {
     (one : Exactly s f text fine) (faults : Refuses f First)
   where
     -- a reading and a test of what it gives
-    pub ruled_refuses : (rule : A → Bool) (why : ℕ) (make : A → B)
-        → Refuses (λ at. then (f at) λ a next. need (rule a) why at (got (make a) next)) (RuledFaults s text First fine rule why)
+    pub ruled_refuses : (rule : A → Bool) (cause : Cause) (make : A → B)
+        → Refuses (λ at. then (f at) λ a next. need (rule a) cause at (got (make a) next)) (RuledFaults s text First fine rule cause)
     unfolding then need
-    ruled_refuses rule why make = record {
+    ruled_refuses rule cause make = record {
       back = λ at e h.
           ⊎_elim
           (λ k. inl (faults.back at e k))
           (λ k.
           let b = one.back at k.0 k.1 k.2 in
-          let n = need-bad (rule k.0) why at (make k.0) k.1 e k.3 in
+          let n = need-bad (rule k.0) cause at (make k.0) k.1 e k.3 in
           inr (n.1, (k.0, b.reaches.stands, b.fine-is, n.0)))
-          (then-bad (f at) (λ a next. need (rule a) why at (got (make a) next)) e h);
+          (then-bad (f at) (λ a next. need (rule a) cause at (got (make a) next)) e h);
       forth = λ at e h.
           ⊎_elim
           (λ k. rw (faults.forth at e k))
@@ -231,34 +233,34 @@ many-then {s} {f} {text} {fine} one faults n two = then_refuses (many_exactly s 
 
 -- ---- a cause by its number
 
-module _ {A B : Type 0} (s : Text) (f : ℕ → Outcome B) (text : A → Text) (form range fine rule : A → Bool) (why : ℕ) (later : 3 < why)
-    (faults : Refuses f (RuledFaults s text (LineFaults s text form range) fine rule why)) (at : ℕ)
+module _ {A B : Type 0} (s : Text) (f : ℕ → Outcome B) (text : A → Text) (form range fine rule : A → Bool) (cause : Cause) (later : 3 < cause_number cause)
+    (faults : Refuses f (RuledFaults s text (LineFaults s text form range) fine rule cause)) (at : ℕ)
   where
     -- where a line may break a rule too, it is 2 exactly where no line of its form stands there
-    pub ruled_two : (f at ≡ bad (fault 2 at)) ↔ Formless s text form at
+    pub ruled_two : (f at ≡ bad (fault Syntax at)) ↔ Formless s text form at
     ruled_two = (
       λ h.
           ⊎_elim
           (⊎_elim (λ k. k.1) (λ k. let z : 2 ≡ 3 = one_cause k.0 in absurd (omega (arith, z))))
-          (λ k. let z : 2 ≡ why = one_cause k.0 in absurd (omega (arith, z, later)))
-          (faults.back at (fault 2 at) h),
-      λ h. faults.forth at (fault 2 at) (inl (inl (refl, h))),
+          (λ k. let z : 2 ≡ cause_number cause = one_cause k.0 in absurd (omega (arith, z, later)))
+          (faults.back at (fault Syntax at) h),
+      λ h. faults.forth at (fault Syntax at) (inl (inl (refl, h))),
     )
 
     -- 3 exactly where one does that is out of range
-    pub ruled_three : (f at ≡ bad (fault 3 at)) ↔ Failing s text form range at
+    pub ruled_three : (f at ≡ bad (fault Range at)) ↔ Failing s text form range at
     ruled_three = (
       λ h.
           ⊎_elim
           (⊎_elim (λ k. let z : 3 ≡ 2 = one_cause k.0 in absurd (omega (arith, z))) (λ k. k.1))
-          (λ k. let z : 3 ≡ why = one_cause k.0 in absurd (omega (arith, z, later)))
-          (faults.back at (fault 3 at) h),
-      λ h. faults.forth at (fault 3 at) (inl (inr (refl, h))),
+          (λ k. let z : 3 ≡ cause_number cause = one_cause k.0 in absurd (omega (arith, z, later)))
+          (faults.back at (fault Range at) h),
+      λ h. faults.forth at (fault Range at) (inl (inr (refl, h))),
     )
 
     -- and the rule's number exactly where one that is fine breaks it
-    pub ruled_why : (f at ≡ bad (fault why at)) ↔ Failing s text fine rule at
+    pub ruled_why : (f at ≡ bad (fault cause at)) ↔ Failing s text fine rule at
     ruled_why = (
-      λ h. ⊎_elim (λ k. absurd (no_line_cause later k)) (λ k. k.1) (faults.back at (fault why at) h),
-      λ h. faults.forth at (fault why at) (inr (refl, h)),
+      λ h. ⊎_elim (λ k. absurd (no_line_cause later k)) (λ k. k.1) (faults.back at (fault cause at) h),
+      λ h. faults.forth at (fault cause at) (inr (refl, h)),
     )

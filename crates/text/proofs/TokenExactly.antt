@@ -16,6 +16,7 @@ use Rattle.text.proofs.Standing.{Stands, stands_left, stands_right, ends_join, r
 use Rattle.text.proofs.Spelled.{number_spelled}
 use Rattle.text.proofs.Exactly.{Accepts, accepts_as, Finds, Exactly, bad≢got, got-is, need-got, judged-got, judged-found, then-got}
 use Rattle.text.proofs.LinesExactly.{item_finds, list_finds, behind_finds}
+use Rattle.text.specs.declared.Cause.TheVariants.{Syntax, Range}
 
 -- the key, the place and the colon
 abbrev pub place_text : Text → ℕ → Text
@@ -48,7 +49,7 @@ module _ (key : Text) (places : ℕ) (size : ℕ → ℕ) (range : ℕ → Bool)
           reaches = rw (token_split key k) (reach_join s at (place_text key p) (end_text decimal cs) x c.next f.reaches l.reaches);
           fine-is = rw (w, l.fine-is, j.1);
         })
-    counts-back false p x w q e = absurd (bad≢got (need-got (any_list s x) 2 at (bad (fault 3 at)) t next e).1)
+    counts-back false p x w q e = absurd (bad≢got (need-got (any_list s x) Syntax at (bad (fault Range at)) t next e).1)
 
     token_back : (r : Read ℕ) → behind key (item number colon s) s at ≡ r → token_at places size range s at r ≡ got t next
         → Accepts s at (token_text key t) next (right_token places size range t)

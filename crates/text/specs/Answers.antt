@@ -1,52 +1,35 @@
 -- What the readers of lines answer for what a definition gives. A row has room for 32 values: it keeps the first 32, and unused
 -- room is 0.
-use Rattle.std.specs.Prelude.{ℕ, List, map, ℤ, replicate}
+use Rattle.std.specs.Prelude.{ℕ, List, map, ℤ, pos, replicate, Result}
 use Rattle.std.proofs.lemmas.List.Edits.{sets}
-use Rattle.text.specs.Capped.{above, below}
+use Rattle.std.specs.declared.result.Result.TheVariants.{Ok, Err}
 use Rattle.text.specs.Lines.{Outcome, got, bad}
 use Rattle.text.specs.Token.{Token}
-use Rattle.text.specs.declared.Ended.{Ended}
-use Rattle.text.specs.declared.Ended.TheVariants.{Past, Stopped}
-use Rattle.text.specs.declared.Line.{Line}
-use Rattle.text.specs.declared.Line.TheVariants.{Value, Refused}
-use Rattle.text.specs.declared.Row.{Row}
-use Rattle.text.specs.declared.WeightRow.{WeightRow}
-use Rattle.text.specs.declared.TokenRow.{TokenRow}
+use Rattle.text.specs.declared.Fault.{Fault}
+use Rattle.text.specs.declared.Parsed.{Parsed}
+use Rattle.text.specs.declared.TokenLine.{TokenLine}
 
-unfoldable pub line_of : Outcome ℕ → Line
-line_of (got v next) = Value v next
-line_of (bad e) = Refused e
+-- the same outcome, of the value as it is held
+unfoldable pub kept : {A B : Type 0} → (A → B) → Outcome A → Outcome B
+kept f (got a next) = got (f a) next
+kept f (bad e) = bad e
 
--- how the line of one number ended
-abbrev pub ended_in : Line → Ended
-ended_in (Value v next) = Past next
-ended_in (Refused e) = Stopped e
+-- the value and the position after it, or the fault
+unfoldable pub parsed : {A : Type 0} → Outcome A → Result (Parsed A) Fault
+parsed (got a next) = Ok (record { value = a; end = next })
+parsed (bad e) = Err e
 
-unfoldable pub ended_of : {A : Type 0} → Outcome A → Ended
-ended_of (got a next) = Past next
-ended_of (bad e) = Stopped e
-
--- what is kept of an outcome: f of the value, or r
-unfoldable pub kept_or : {A R : Type 0} → R → (A → R) → Outcome A → R
-kept_or r f (got a next) = f a
-kept_or r f (bad e) = r
+-- the value, or the fault
+unfoldable pub accepted : {A : Type 0} → Outcome A → Result A Fault
+accepted (got a next) = Ok a
+accepted (bad e) = Err e
 
 unfoldable pub padded : List ℕ → List ℕ
 padded l = sets (replicate 32 0) 0 l
 
-unfoldable pub row_of : Outcome (List ℕ) → Row
-row_of o = record { ended = ended_of o; values = kept_or (replicate 32 0) padded o }
+-- a list of numbers, each as it is held
+unfoldable pub row : {A : Type 0} → (ℤ → A) → List ℤ → List A
+row held l = sets (replicate 32 (held (pos 0))) 0 (map held l)
 
-unfoldable pub weight_row_of : Outcome (List ℤ) → WeightRow
-weight_row_of o = record {
-  ended = ended_of o;
-  above = kept_or (replicate 32 0) (λ ws. padded (map above ws)) o;
-  below = kept_or (replicate 32 0) (λ ws. padded (map below ws)) o;
-}
-
-unfoldable pub token_row_of : Outcome Token → TokenRow
-token_row_of o = record {
-  ended = ended_of o;
-  place = kept_or 0 (λ t. t.place) o;
-  counts = kept_or (replicate 32 0) (λ t. padded t.counts) o;
-}
+unfoldable pub token_line : Token → TokenLine
+token_line t = record { place = t.place; counts = padded t.counts }

@@ -1,25 +1,25 @@
 -- What the code answers for the number that a definition gives.
-use Rattle.std.specs.Prelude.{ℕ, suc, min, ℤ, pos, negsuc}
+use Rattle.std.specs.Prelude.{ℕ, min, ℤ, pos, negsuc, Option}
 use Rattle.text.specs.Number.{Read, missing, found}
-use Rattle.text.specs.declared.Decimal.{Decimal}
-use Rattle.text.specs.declared.Decimal.TheVariants.{Found, Missing}
-use Rattle.text.specs.declared.Signed.{Signed}
-use Rattle.text.specs.declared.Signed.TheVariants.{Weight, Unsaid}
+use Rattle.text.specs.declared.Parsed.{Parsed}
+use Rattle.std.specs.declared.option.Option.TheVariants.{Some, None}
+
+-- what was read, as it is answered: f of the value, and the position after it
+abbrev pub answered : {A B : Type 0} → (A → B) → Read A → Option (Parsed B)
+answered f missing = None
+answered f (found a end) = Some (record { value = f a; end = end })
 
 -- a number from 65,536 on is answered as 65,536: it is out of every range
-abbrev pub capped : Read ℕ → Decimal
-capped missing = Missing
-capped (found v end) = Found (min v 65536) end
+abbrev pub cap : ℕ → ℕ
+cap n = min n 65536
 
--- a weight is answered as its part above 0 and its part below 0, of which one is 0
-abbrev pub above : ℤ → ℕ
-above (pos n) = n
-above (negsuc n) = 0
+-- a weight from 65,536 on, either side of 0, as 65,536 on that side
+abbrev pub cap_signed : ℤ → ℤ
+cap_signed (pos n) = pos (min n 65536)
+cap_signed (negsuc n) = negsuc (min n 65535)
 
-abbrev pub below : ℤ → ℕ
-below (pos n) = 0
-below (negsuc n) = suc n
+abbrev pub capped : Read ℕ → Option (Parsed ℕ)
+capped r = answered cap r
 
-abbrev pub capped_signed : Read ℤ → Signed
-capped_signed missing = Unsaid
-capped_signed (found w end) = Weight (min (above w) 65536) (min (below w) 65536) end
+abbrev pub capped_signed : Read ℤ → Option (Parsed ℤ)
+capped_signed r = answered cap_signed r

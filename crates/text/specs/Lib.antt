@@ -7,4 +7,5 @@ pub mod Repeat
 pub mod Token
 pub mod Printed
 pub mod Answers
+pub mod Values
 pub mod Writing

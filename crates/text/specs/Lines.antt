@@ -3,6 +3,8 @@ use Rattle.std.specs.Prelude.{ℕ, zero, suc, ◌+◌, List, [], ◌∷◌, Bool
 use Rattle.text.specs.Bytes.{Text, lf, starts, line_at}
 use Rattle.text.specs.Number.{Read, missing, found, number, signed, item}
 use Rattle.text.specs.Lists.{list_end}
+use Rattle.text.specs.declared.Cause.{Cause}
+use Rattle.text.specs.declared.Cause.TheVariants.{Syntax, Range, Typing, Idling}
 use Rattle.text.specs.declared.Fault.{Fault}
 use Rattle.text.specs.declared.Spot.{Spot}
 
@@ -11,13 +13,20 @@ pub data Outcome (A : Type 0) : Type 0 where
   got : A → ℕ → Outcome A
   bad : Fault → Outcome A
 
--- the number of the cause in 01's table, and where the line at fault begins; its first byte stands for the byte at fault
-abbrev pub fault : ℕ → ℕ → Fault
-fault why at = record { why = why; at = at; byte = at }
+-- the number of a cause in 01's table
+abbrev pub cause_number : Cause → ℕ
+cause_number Syntax = 2
+cause_number Range = 3
+cause_number Typing = 4
+cause_number Idling = 5
+
+-- the cause, and where the line at fault begins; its first byte stands for the byte at fault
+abbrev pub fault : Cause → ℕ → Fault
+fault cause at = record { cause = cause; at = at; byte = at }
 
 -- a fault as an answer names it: by the number of its line
 abbrev pub spot_of : Text → Fault → Spot
-spot_of s e = record { why = e.why; line = line_at s e.at }
+spot_of s e = record { cause = e.cause; line = line_at s e.at }
 
 module _ {A B : Type 0} where
   -- one reading after another; the first fault ends both
@@ -27,9 +36,9 @@ module _ {A B : Type 0} where
 
 module _ {A : Type 0} where
   -- a test, and the cause where it fails
-  unfoldable pub need : Bool → ℕ → ℕ → Outcome A → Outcome A
-  need true why at o = o
-  need false why at o = bad (fault why at)
+  unfoldable pub need : Bool → Cause → ℕ → Outcome A → Outcome A
+  need true cause at o = o
+  need false cause at o = bad (fault cause at)
 
   -- n things, one after the other
   unfoldable pub many : (ℕ → Outcome A) → ℕ → ℕ → Outcome (List A)
@@ -38,8 +47,8 @@ module _ {A : Type 0} where
 
   -- in a line, syntax (2) is judged before any range (3)
   unfoldable pub judged : (A → Bool) → ℕ → Read A → Outcome A
-  judged range at missing = bad (fault 2 at)
-  judged range at (found a next) = need (range a) 3 at (got a next)
+  judged range at missing = bad (fault Syntax at)
+  judged range at (found a next) = need (range a) Range at (got a next)
 
   abbrev pub every : (A → Bool) → List A → Bool
   every f [] = true
@@ -70,4 +79,4 @@ modest most w = leb (nat_abs w) most
 
 -- the first line of a file, which is the same in every file of its kind. 01: "In eos, inv and run any other number is 2"
 unfoldable pub read_head : Text → Text → ℕ → Outcome (Unit {0})
-read_head line s at = need (starts line (drop at s)) 2 at (got tt (at + length line))
+read_head line s at = need (starts line (drop at s)) Syntax at (got tt (at + length line))

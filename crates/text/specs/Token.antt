@@ -4,6 +4,7 @@ use Rattle.text.specs.Bytes.{Text, colon}
 use Rattle.text.specs.Number.{Read, missing, found, number, item}
 use Rattle.text.specs.Lists.{list_end, any_list}
 use Rattle.text.specs.Lines.{Outcome, got, bad, fault, then, need, judged, every, in_range, behind}
+use Rattle.text.specs.declared.Cause.TheVariants.{Syntax, Range}
 
 -- a net-token as its line says it: the place's number, from 1, and the counts
 pub record Token : Type 0 where
@@ -14,10 +15,10 @@ pub record Token : Type 0 where
 -- length is then not tested"; its syntax is
 unfoldable pub counts_at : Bool → ℕ → (ℕ → Bool) → Text → ℕ → ℕ → ℕ → Outcome Token
 counts_at true n range s at p x = then (judged (every range) at (list_end number n s x)) λ counts next. got (record { place = p; counts = counts }) next
-counts_at false n range s at p x = need (any_list s x) 2 at (bad (fault 3 at))
+counts_at false n range s at p x = need (any_list s x) Syntax at (bad (fault Range at))
 
 unfoldable pub token_at : ℕ → (ℕ → ℕ) → (ℕ → Bool) → Text → ℕ → Read ℕ → Outcome Token
-token_at places size range s at missing = bad (fault 2 at)
+token_at places size range s at missing = bad (fault Syntax at)
 token_at places size range s at (found p x) = counts_at (in_range 1 places p) (size p) range s at p x
 
 -- the line of key, a place from 1 to `places`, and `size place` counts in the range

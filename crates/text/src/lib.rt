@@ -2,71 +2,110 @@
 // text, and its answer says the position after what it read or the one fault that ends the reading.
 #![tactic(auto)]
 
-// A number in a line, 65,536 for each that is larger, and the position after it.
+ghost use Rattle.std.specs.Prelude.{◌≡◌, ℤ, Bool, true, false};
+ghost use Rattle.text.specs.Lines.{cause_number};
+ghost use Rattle.text.specs.Values.{number_in, weight_in};
+
+// What was read, and the position after it.
 #[derive(Clone, Copy)]
-pub enum Decimal {
-    Found { value: u32, end: usize },
-    Missing,
+pub struct Parsed<T> {
+    pub value: T,
+    pub end: usize,
 }
 
-// A signed number in a line, as its parts above and below 0.
-#[derive(Clone, Copy)]
-pub enum Signed {
-    Weight { above: u32, below: u32, end: usize },
-    Unsaid,
+// Why a line is refused: it is not of the form that is wanted there, a number is out of its range, a move takes racks of a net and gives
+// none, or an event idles at a place without a net, with another net or with no transition.
+#[derive(Clone, Copy, PartialEq, Eq)]
+pub enum Cause {
+    Syntax,
+    Range,
+    Typing,
+    Idling,
 }
 
-// A fault: the number of its cause, the position at which the line at fault begins, and that of the byte at fault, for which the line's
-// first stands.
+impl Cause {
+    // Its number among the causes.
+    pub fn number(self) -> u8
+        ensures { result ≡ cause_number self }
+    {
+        match self {
+            Cause::Syntax => 2,
+            Cause::Range => 3,
+            Cause::Typing => 4,
+            Cause::Idling => 5,
+        }
+    }
+}
+
+// A fault: its cause, the position at which the line at fault begins, and that of the byte at fault, for which the line's first stands.
 #[derive(Clone, Copy)]
 pub struct Fault {
-    pub why: u8,
+    pub cause: Cause,
     pub at: usize,
     pub byte: usize,
 }
 
-// A fault as an answer names it: the number of its cause, and the number of its line, from 1.
+// A fault as an answer names it: its cause, and the number of its line, from 1.
 #[derive(Clone, Copy)]
 pub struct Spot {
-    pub why: u8,
+    pub cause: Cause,
     pub line: usize,
-}
-
-// What the line of one number says, and the position after the line.
-#[derive(Clone, Copy)]
-pub enum Line {
-    Value { value: u16, next: usize },
-    Refused { fault: Fault },
-}
-
-// How the reading of a line of several numbers ended. The numbers stand beside it, in an array.
-#[derive(Clone, Copy)]
-pub enum Ended {
-    Past { next: usize },
-    Stopped { fault: Fault },
-}
-
-// The numbers of a list; unused room is 0.
-#[derive(Clone, Copy)]
-pub struct Row {
-    pub ended: Ended,
-    pub values: [u16; 32],
-}
-
-// The weights of a list, each as its part above 0 and its part below 0, of which one is 0.
-#[derive(Clone, Copy)]
-pub struct WeightRow {
-    pub ended: Ended,
-    pub above: [u16; 32],
-    pub below: [u16; 32],
 }
 
 // A net-token's place, from 1, and its counts.
 #[derive(Clone, Copy)]
-pub struct TokenRow {
-    pub ended: Ended,
+pub struct TokenLine {
     pub place: u16,
     pub counts: [u16; 32],
+}
+
+// How a number of a list is held: in what type, and whether a minus sign may stand before it. Of the numbers for which the type has no room,
+// which are out of every range that is asked of it, 0 stands for each.
+pub trait Value: Copy {
+    ghost SIGNED: { Bool };
+
+    const SIGNED: bool;
+
+    ghost held: { ℤ → Self };
+
+    fn held(value: i32) -> Self
+        ensures { result ≡ held value };
+}
+
+impl Value for u8 {
+    ghost SIGNED = { false };
+
+    const SIGNED: bool = false;
+
+    ghost held = { number_in 255 };
+
+    fn held(value: i32) -> u8 {
+        u8::try_from(value).unwrap_or(0)
+    }
+}
+
+impl Value for u16 {
+    ghost SIGNED = { false };
+
+    const SIGNED: bool = false;
+
+    ghost held = { number_in 65535 };
+
+    fn held(value: i32) -> u16 {
+        u16::try_from(value).unwrap_or(0)
+    }
+}
+
+impl Value for i16 {
+    ghost SIGNED = { true };
+
+    const SIGNED: bool = true;
+
+    ghost held = { weight_in };
+
+    fn held(value: i32) -> i16 {
+        i16::try_from(value).unwrap_or(0)
+    }
 }
 
 // A lent buffer is too small for a text: so many bytes are needed.

@@ -3,61 +3,41 @@
 
 ghost use Rattle.std.specs.Prelude.{◌≡◌};
 ghost use Rattle.text.specs.Lines.{in_range, read_number, read_head};
-ghost use Rattle.text.specs.Answers.{line_of, ended_in, ended_of};
+ghost use Rattle.text.specs.Answers.{parsed};
 
-use text::{Decimal, Ended, Line};
+use text::{Cause, Fault, Parsed};
 use text_scan::{fault_at, item, starts};
 
 // The line of key and one number from lo to hi.
-pub fn number_line(s: &[u8], at: usize, key: &[u8], lo: u16, hi: u16) -> Line
-    ensures { result ≡ line_of (read_number key.now (in_range lo hi) s.now at) }
+pub fn number_line(s: &[u8], at: usize, key: &[u8], lo: u16, hi: u16) -> Result<Parsed<u16>, Fault>
+    ensures { result ≡ parsed (read_number key.now (in_range lo hi) s.now at) }
 {
     if !starts(s, at, key) {
-        return Line::Refused {
-            fault: fault_at(2, at),
-        };
+        return Err(fault_at(Cause::Syntax, at));
     }
-    let Decimal::Found { value, end } = item(s, at + key.len(), 10) else {
-        return Line::Refused {
-            fault: fault_at(2, at),
-        };
+    let Some(Parsed { value, end }) = item(s, at + key.len(), b'\n') else {
+        return Err(fault_at(Cause::Syntax, at));
     };
     if value < lo as u32 {
-        return Line::Refused {
-            fault: fault_at(3, at),
-        };
+        return Err(fault_at(Cause::Range, at));
     }
     if (hi as u32) < value {
-        return Line::Refused {
-            fault: fault_at(3, at),
-        };
+        return Err(fault_at(Cause::Range, at));
     }
-    Line::Value {
-        value: value as u16,
-        next: end,
-    }
-}
-
-// How the line of one number ended.
-pub fn ended_of(line: Line) -> Ended
-    ensures { result ≡ ended_in line }
-{
-    match line {
-        Line::Value { value: _, next } => Ended::Past { next },
-        Line::Refused { fault } => Ended::Stopped { fault },
-    }
+    // No From goes this way; the number is known to fit.
+    let value = value as u16;
+    Ok(Parsed { value, end })
 }
 
 // The first line of a file, which is `line` with its LF; any other is a fault of the syntax.
-pub fn head_line(s: &[u8], at: usize, line: &[u8]) -> Ended
-    ensures { result ≡ ended_of (read_head line.now s.now at) }
+pub fn head_line(s: &[u8], at: usize, line: &[u8]) -> Result<Parsed<()>, Fault>
+    ensures { result ≡ parsed (read_head line.now s.now at) }
 {
     if !starts(s, at, line) {
-        return Ended::Stopped {
-            fault: fault_at(2, at),
-        };
+        return Err(fault_at(Cause::Syntax, at));
     }
-    Ended::Past {
-        next: at + line.len(),
-    }
+    Ok(Parsed {
+        value: (),
+        end: at + line.len(),
+    })
 }

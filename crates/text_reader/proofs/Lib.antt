@@ -1,2 +1,2 @@
-pub mod PlaceLaws
-pub mod ReaderLaws
+pub mod ReadsLaws
+pub mod LoopLaws

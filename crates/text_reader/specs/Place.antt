@@ -1,21 +1,32 @@
 -- The place that the reader of a file has reached (01, "Files": "the reader of a file holds the lent bytes and the place it has reached").
-use Rattle.std.specs.Prelude.{ℕ, true, false, leb, length}
+use Rattle.std.specs.Prelude.{ℕ, ◌≡◌, leb, length, Result}
 use Rattle.text.specs.Bytes.{Text}
-use Rattle.text.specs.Lines.{fault}
-use Rattle.text.specs.declared.Ended.{Ended}
-use Rattle.text.specs.declared.Ended.TheVariants.{Past, Stopped}
+use Rattle.text.specs.Lines.{Outcome, got, bad, need}
+use Rattle.text.specs.Answers.{accepted}
+use Rattle.text.specs.declared.Cause.TheVariants.{Syntax}
+use Rattle.text.specs.declared.Fault.{Fault}
+use Rattle.std.specs.declared.result.Result.TheVariants.{Ok, Err}
 use Rattle.text_reader.specs.declared.Reader.{Reader}
 
 -- the reader of the same bytes at another place
 abbrev pub placed : Reader → ℕ → Reader
 placed r at = record { src = r.src; at = at }
 
--- the place that a reading has reached: behind its lines, or at the line at fault
-abbrev pub reached : Ended → ℕ
-reached (Past next) = next
-reached (Stopped e) = e.at
+-- where the reader stands after a reading: behind what was read; where that is refused, the place in the same bytes is left open
+abbrev pub Stands : {A : Type 0} → Outcome A → Reader → Reader → Type 0
+Stands (got a next) old new = new ≡ placed old next
+Stands (bad e) old new = new.src ≡ old.src
 
--- how the reading of a whole text ended, whose lines ended at a place: 01 has "bytes after the last line" as a fault
-unfoldable pub closed : Text → ℕ → Ended → Ended
-closed s at (Past next) = elim (leb (length s) at) [ true ↦ Past next | false ↦ Stopped (fault 2 at) ]
-closed s at (Stopped e) = Stopped e
+-- what a reading answers, and where the reader stands after it
+pub record Reads {A : Type 0} (o : Outcome A) (old new : Reader) (answer : Result A Fault) : Type 0 where
+  pub answers : answer ≡ accepted o
+  pub stands : Stands o old new
+
+-- the same of a reading into lent memory: it answers whether it was read, beside what is held there
+abbrev pub lent : {B : Type 0} → B → Result (Unit {0}) Fault → Result B Fault
+lent b (Ok _) = Ok b
+lent b (Err e) = Err e
+
+-- the end of a text: 01 has "bytes after the last line" as a fault
+unfoldable pub closed : Text → ℕ → Outcome (Unit {0})
+closed s at = need (leb (length s) at) Syntax at (got tt at)

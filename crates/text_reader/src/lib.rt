@@ -1,12 +1,20 @@
-// The reader of a file: the bytes that are lent, and the place that it has reached. A reading makes one, hands it on, and moves it where
-// one block of lines ends and the next begins; what takes it apart calls a function on the bytes and the place.
+// The reader of a file: the bytes that are lent, and the place that it has reached. Each reading moves it behind what was read.
 #![tactic(auto)]
 
-ghost use Rattle.std.specs.Prelude.{◌≡◌};
-ghost use Rattle.text_reader.specs.Place.{placed, reached, closed};
+ghost use Rattle.std.specs.Prelude.{◌≡◌, ◌-◌, leb, get_or, drop, ℤ};
+ghost use Rattle.text.specs.Bytes.{starts};
+ghost use Rattle.text.specs.Number.{signed_if};
+ghost use Rattle.text.specs.Lists.{list_end};
+ghost use Rattle.text.specs.Lines.{Outcome, judged, every, modest, behind, in_range, read_number, read_head};
+ghost use Rattle.text.specs.Token.{read_token};
+ghost use Rattle.text.specs.Answers.{kept, parsed, accepted, row, token_line};
+ghost use Rattle.text_reader.specs.Place.{Reads, closed};
 
-use text::Ended;
+use text::{Cause, Fault, Parsed, TokenLine, Value};
+use text_lines::{head_line, number_line};
+use text_lists::list_line;
 use text_scan::fault_at;
+use text_tokens::token_line;
 
 #[derive(Clone, Copy)]
 pub struct Reader<'a> {
@@ -15,35 +23,63 @@ pub struct Reader<'a> {
 }
 
 impl<'a> Reader<'a> {
-    // The reader of the same bytes at another place.
-    pub fn moved(self, at: usize) -> Reader<'a>
-        ensures { result ≡ placed self.entry at }
+    // What was read from the place reached: the reader moves behind it.
+    fn take<T: Copy>(&mut self, read: Result<Parsed<T>, Fault>) -> Result<T, Fault>
+        ensures { (o : Outcome T) → read ≡ parsed o → Reads o self.old self.new result }
     {
-        Reader { src: self.src, at }
+        let Parsed { value, end } = read?;
+        self.at = end;
+        Ok(value)
     }
-}
 
-// The place that a reading has reached: behind its lines, or at the line at fault.
-pub fn reached(ended: Ended) -> usize
-    ensures { result ≡ reached ended }
-{
-    match ended {
-        Ended::Past { next } => next,
-        Ended::Stopped { fault } => fault.at,
+    // The first line of a file.
+    pub fn head(&mut self, line: &[u8]) -> Result<(), Fault>
+        ensures { Reads (read_head line.now self.old.src.now self.old.at) self.old self.new result }
+    {
+        self.take(head_line(self.src, self.at, line))
     }
-}
 
-// How the reading of a whole text ended, whose lines ended at `at`: bytes behind them are a fault.
-pub fn closed(s: &[u8], at: usize, ended: Ended) -> Ended
-    ensures { result ≡ closed s.now at ended }
-{
-    let Ended::Past { next: _ } = ended else {
-        return ended;
-    };
-    if at < s.len() {
-        return Ended::Stopped {
-            fault: fault_at(2, at),
-        };
+    // Whether key stands at the place reached.
+    pub fn starts(&self, key: &[u8]) -> bool
+        ensures { result ≡ starts key.now (drop self.now.at self.now.src.now) }
+    {
+        text_scan::starts(self.src, self.at, key)
     }
-    ended
+
+    // The line of key and one number from lo to hi.
+    pub fn number(&mut self, key: &[u8], lo: u16, hi: u16) -> Result<u16, Fault>
+        ensures { Reads (read_number key.now (in_range lo hi) self.old.src.now self.old.at) self.old self.new result }
+    {
+        self.take(number_line(self.src, self.at, key, lo, hi))
+    }
+
+    // The line of key and n values of at most hi, either side of 0 where their type has a sign.
+    pub fn list<V: Value>(&mut self, key: &[u8], n: usize, hi: u16) -> Result<[V; 32], Fault>
+        ensures { Reads (kept (row V.held) (judged (every (modest hi)) self.old.at (behind key.now (list_end (signed_if V.SIGNED) n self.old.src.now) self.old.src.now self.old.at))) self.old self.new result }
+    {
+        self.take(list_line(self.src, self.at, key, n, hi))
+    }
+
+    // The line of key, a place from 1 to `places` and its counts up to hi; `sizes` says for each place how many.
+    pub fn token(
+        &mut self,
+        key: &[u8],
+        places: u16,
+        sizes: &[u8],
+        hi: u16,
+    ) -> Result<TokenLine, Fault>
+        ensures { Reads (kept token_line (read_token key.now places (λ p. get_or sizes.now (p - 1) 0) (λ v. leb v hi) self.old.src.now self.old.at)) self.old self.new result }
+    {
+        self.take(token_line(self.src, self.at, key, places, sizes, hi))
+    }
+
+    // The end of the text: bytes after the last line are a fault.
+    pub fn close(&self) -> Result<(), Fault>
+        ensures { result ≡ accepted (closed self.now.src.now self.now.at) }
+    {
+        if self.at < self.src.len() {
+            return Err(fault_at(Cause::Syntax, self.at));
+        }
+        Ok(())
+    }
 }

@@ -2,12 +2,14 @@
 #![tactic(auto)]
 
 ghost use Rattle.std.specs.Prelude.{◌≡◌, true, ◌-◌, leb, get_or};
+ghost use Rattle.std.specs.declared.result.Result.TheVariants.{Err};
 ghost use Rattle.text.specs.Lists.{any_list};
 ghost use Rattle.text.specs.Lines.{fault, bad, need};
+ghost use Rattle.text.specs.declared.Cause.TheVariants.{Syntax, Range};
 ghost use Rattle.text.specs.Token.{counts_at, read_token};
-ghost use Rattle.text.specs.Answers.{token_row_of};
+ghost use Rattle.text.specs.Answers.{kept, parsed, token_line};
 
-use text::{Decimal, Ended, TokenRow};
+use text::{Cause, Fault, Parsed, TokenLine};
 use text_lists::list_end;
 use text_scan::{byte_at, fault_at, item, number, starts};
 
@@ -15,24 +17,16 @@ use text_scan::{byte_at, fault_at, item, number, starts};
 fn any_list(s: &[u8], from: usize) -> bool
     ensures { result ≡ any_list s.now from }
 {
-    if from < s.len() {
-        if s[from] == 10 {
-            return true;
-        }
+    if byte_at(s, from) == b'\n' {
+        return true;
     }
     let mut at = from;
-    while at < s.len() {
-        let Decimal::Found { value: _, end } = number(s, at) else {
-            return false;
-        };
-        if s.len() <= end {
-            return false;
-        }
-        let b = s[end];
-        if b == 10 {
+    while let Some(Parsed { value: _, end }) = number(s, at) {
+        let next = byte_at(s, end);
+        if next == b'\n' {
             return true;
         }
-        if b != 44 {
+        if next != b',' {
             return false;
         }
         at = end + 1;
@@ -40,66 +34,56 @@ fn any_list(s: &[u8], from: usize) -> bool
     false
 }
 
-// No net-token, and the fault.
-fn no_token(why: u8, at: usize) -> TokenRow
-    ensures { result ≡ token_row_of (bad (fault why at)) }
-{
-    TokenRow {
-        ended: Ended::Stopped {
-            fault: fault_at(why, at),
-        },
-        place: 0,
-        counts: [0u16; 32],
-    }
-}
-
-// A place out of range: only the syntax of its counts, from `x` on, is judged.
-fn out_of_range(s: &[u8], at: usize, x: usize) -> TokenRow
-    ensures { result ≡ token_row_of (need (any_list s.now x) 2 at (bad (fault 3 at))) }
+// The fault of a place out of range: only the syntax of its counts, from `x` on, is judged.
+fn out_of_range(s: &[u8], at: usize, x: usize) -> Fault
+    ensures { Err result ≡ parsed (kept token_line (need (any_list s.now x) Syntax at (bad (fault Range at)))) }
 {
     if any_list(s, x) {
-        return no_token(3, at);
+        return fault_at(Cause::Range, at);
     }
-    no_token(2, at)
+    fault_at(Cause::Syntax, at)
 }
 
 // A place in range: its n counts, from `x` on.
-fn counted(s: &[u8], at: usize, x: usize, n: usize, place: u16, hi: u16) -> TokenRow
-    ensures { result ≡ token_row_of (counts_at true n (λ v. leb v hi) s.now at place x) }
+fn counted(
+    s: &[u8],
+    at: usize,
+    x: usize,
+    n: usize,
+    place: u16,
+    hi: u16,
+) -> Result<Parsed<TokenLine>, Fault>
+    ensures { result ≡ parsed (kept token_line (counts_at true n (λ v. leb v hi) s.now at place x)) }
 {
-    let row = list_end(s, at, x, n, hi);
-    let ended = row.ended;
-    let counts = row.values;
-    let Ended::Past { next: _ } = ended else {
-        return TokenRow {
-            ended,
-            place: 0,
-            counts,
-        };
-    };
-    TokenRow {
-        ended,
-        place,
-        counts,
-    }
+    let Parsed { value: counts, end } = list_end(s, at, x, n, hi)?;
+    let value = TokenLine { place, counts };
+    Ok(Parsed { value, end })
 }
 
 // The line of key, a place from 1 to `places` and its counts up to hi; `sizes` says for each place how many.
-pub fn token_line(s: &[u8], at: usize, key: &[u8], places: u16, sizes: &[u8], hi: u16) -> TokenRow
-    ensures { result ≡ token_row_of (read_token key.now places (λ p. get_or sizes.now (p - 1) 0) (λ v. leb v hi) s.now at) }
+pub fn token_line(
+    s: &[u8],
+    at: usize,
+    key: &[u8],
+    places: u16,
+    sizes: &[u8],
+    hi: u16,
+) -> Result<Parsed<TokenLine>, Fault>
+    ensures { result ≡ parsed (kept token_line (read_token key.now places (λ p. get_or sizes.now (p - 1) 0) (λ v. leb v hi) s.now at)) }
 {
     if !starts(s, at, key) {
-        return no_token(2, at);
+        return Err(fault_at(Cause::Syntax, at));
     }
-    let Decimal::Found { value, end } = item(s, at + key.len(), 58) else {
-        return no_token(2, at);
+    let Some(Parsed { value, end }) = item(s, at + key.len(), b':') else {
+        return Err(fault_at(Cause::Syntax, at));
     };
     if value == 0 {
-        return out_of_range(s, at, end);
+        return Err(out_of_range(s, at, end));
     }
     if (places as u32) < value {
-        return out_of_range(s, at, end);
+        return Err(out_of_range(s, at, end));
     }
     let n = byte_at(sizes, (value - 1) as usize);
+    // No From goes this way; the number is known to fit.
     counted(s, at, end, n as usize, value as u16, hi)
 }

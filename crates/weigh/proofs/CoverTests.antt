@@ -1,41 +1,49 @@
--- The test of weights that cover, case by case.
-use Prim.Native.Nat.{ℕ, suc, ◌/◌, ◌≤◌, ◌<◌}
-use mathlib.Core.Path.{◌≡◌}
-use mathlib.Core.Bool.{Bool, true, false}
+-- The test of weights that cover, case by case, and at small weights by computation.
+use Prim.Native.Nat.{ℕ, ◌<◌}
+use mathlib.Core.Path.{◌≡◌, refl, ap, sym, ◌∙◌}
+use mathlib.Core.Bool.{Bool, true, false, ◌&&◌, false≢true}
 use mathlib.Core.List.{List, [], ◌∷◌}
-use native.Mathlib.Omega.{arith}
-use lib.ListN.{length, take}
-use lib.Seq.{length-take-le, get_or-take}
-use borrow.Author.Tests.{ltb-true, lt-leb, le-leb}
+use lib.IntN.{ℤ, pos}
+use lib.ListN.{take}
+use Rattle.std.specs.List.{list_all}
+use Rattle.text.proofs.Basics.{by_test}
 use Rattle.eos.specs.Firing.{all_below}
-use Rattle.model.specs.Rules.{nth}
+use Rattle.eos.specs.Multiset.{every}
 use Rattle.model.specs.declared.ObjectNet.{ObjectNet}
-use Rattle.model.proofs.SlotLaws.{below_at}
-use Rattle.weigh.specs.Sums.{lowest, some_at, net_covered, covered}
+use Rattle.model.proofs.SlotLaws.{below_at, below_of}
+use Rattle.weigh.specs.Sums.{row_of, enough, net_covered, covered}
 
--- the least of numbers that are not 0 is not 0
-lowest_some : (l : List ℕ) → 1 ≤ length l → ((i : ℕ) → i < length l → 1 ≤ nth l i) → 1 ≤ lowest l
-lowest_some [] h p = absurd (omega arith)
-lowest_some (v ∷ []) h p = p 0 (omega arith)
-lowest_some (v ∷ u ∷ l) h p = omega (arith, p 0 (omega arith), lowest_some (u ∷ l) (omega arith) (λ i q. p (suc i) (omega arith)))
+-- a test of every element, in the words of the library
+pub every_all : {A : Type 0} (f : A → Bool) (l : List A) → list_all f l ≡ every f l
+every_all f [] = refl
+every_all f (a ∷ l) = ap (λ (t : Bool). f a && t) (every_all f l)
 
-pub low_some : (w : List ℕ) (n : ℕ) → 1 ≤ n → n ≤ length w → all_below n (some_at w) ≡ true → 1 ≤ lowest (take n w)
-low_some w n p q h =
-    let long : length (take n w) ≡ n = length-take-le n w q in
-    lowest_some (take n w) (omega arith) λ i k.
-    let e : nth (take n w) i ≡ nth w i = get_or-take n w i 0 (omega arith) in
-    omega (arith, ltb-true 0 (nth w i) (below_at n (some_at w) h i (omega arith)))
-
-module _ (most places nets : ℕ) (objects : List ObjectNet) (w : List ℕ) (sum : ℕ) where
-  pub cover_lacks : all_below places (some_at w) ≡ false → false ≡ covered most places nets objects w sum
+module _ (most places nets : ℕ) (objects : List ObjectNet) (weights : List (List ℤ)) (sum : ℕ) where
+  pub outer_lacks : every (enough most sum) (take places (row_of weights 0)) ≡ false → false ≡ covered most places nets objects weights sum
   unfolding covered
-  cover_lacks h = rw h
+  outer_lacks h = rw h
 
-  module _ (some : all_below places (some_at w) ≡ true) (low : ℕ) (is : low ≡ lowest (take places w)) where
-    pub cover_many : most < sum / low → false ≡ covered most places nets objects w sum
+  module _ (outer : every (enough most sum) (take places (row_of weights 0)) ≡ true) where
+    pub net_lacks : (n : ℕ) → n < nets → net_covered objects weights sum n ≡ false → false ≡ covered most places nets objects weights sum
     unfolding covered
-    cover_many h = rw (some, ← is, lt-leb (sum / low) most h)
+    net_lacks n p h =
+        rw outer
+        (by_test (all_below nets (net_covered objects weights sum))
+        (λ e. absurd (false≢true (sym h ∙ below_at nets (net_covered objects weights sum) e n p)))
+        (λ e. sym e))
 
-    pub cover_rest : sum / low ≤ most → (t : Bool) → t ≡ all_below nets (net_covered sum w objects) → t ≡ covered most places nets objects w sum
+    pub all_covered : ((n : ℕ) → n < nets → net_covered objects weights sum n ≡ true) → true ≡ covered most places nets objects weights sum
     unfolding covered
-    cover_rest h t e = rw (some, ← is, le-leb (sum / low) most h) e
+    all_covered h = rw outer (sym (below_of nets (net_covered objects weights sum) h))
+
+-- 256 racks of weight 1 are covered, and 257 are not; and so of a count inside
+abbrev pub net : ObjectNet
+net = record { places = 1; transitions = 0; pre = []; post = [] }
+
+pub cover-cases :
+    (covered 256 1 0 [] ((pos 1 ∷ []) ∷ []) 256 ≡ true)
+    × (covered 256 1 0 [] ((pos 1 ∷ []) ∷ []) 257 ≡ false)
+    × (covered 256 1 1 (net ∷ []) ((pos 512 ∷ []) ∷ (pos 1 ∷ []) ∷ []) 65535 ≡ true)
+    × (covered 256 1 1 (net ∷ []) ((pos 512 ∷ []) ∷ (pos 1 ∷ []) ∷ []) 65536 ≡ false)
+unfolding covered
+cover-cases = (refl, refl, refl, refl)

@@ -1,145 +1,172 @@
--- The tables of what transitions gain: a row as it is filled, and the rows laid one after the other.
-use Prim.Native.Nat.{ℕ, zero, suc, ◌+◌, ◌*◌, ◌≤◌, ◌<◌}
-use mathlib.Core.Path.{◌≡◌, refl, ap, ◌∙◌}
-use mathlib.Core.Bool.{Bool}
+-- What transitions gain, as a row is filled and as the rows are laid one after the other.
+use Prim.Native.Nat.{ℕ, zero, suc, ◌+◌, ◌-◌, ◌*◌, ◌≤◌, ◌<◌}
+use mathlib.Core.Path.{◌≡◌, refl, ap, sym, ◌∙◌}
+use mathlib.Core.Bool.{Bool, true, false}
 use mathlib.Core.List.{List, [], ◌∷◌}
+use mathlib.Core.Option.{none, some}
 use native.Mathlib.Omega.{arith}
 use native.Mathlib.Nat.{add-zero, zero-add}
-use borrow.Author.Tests.{eq-eqb, ne_eqb}
-use lib.ListN.{length, get_or, set, replicate, length-set, length-replicate}
-use lib.Seq.{sets, get_or-set_same, get_or-set_other, set_out, length-sets}
-use Rattle.model.specs.Rules.{nth}
-use Rattle.model.specs.Held.{no_net}
-use Rattle.model.specs.declared.ObjectNet.{ObjectNet}
-use Rattle.model.specs.declared.Event.{Event}
-use Rattle.model.proofs.PaddedRows.{nth-zeros}
+use native.Mathlib.Numerals.{add-one}
+use Rattle.std.specs.Prelude as answer
+use lib.IntN.{ℤ, pos, negsuc, nat_abs, ◌-ℤ◌}
+use lib.ListN.{length, get_or, set, take, drop, replicate, length-set}
+use lib.Seq.{get_or-set_same, get_or-set_other, set_out}
+use Rattle.eos.specs.Causes.{failing}
+use Rattle.eos.specs.Weights.{dot, is_zero}
+use Rattle.model.specs.Held.{no_net, row_in}
+use Rattle.model.specs.declared.Model.{Model}
 use Rattle.model.proofs.SlotLaws.{by_index}
-use Rattle.weigh.specs.Sums.{move_gain, product, gain_of, Small, GainRow, NetGains, TableGains, event_gain, balanced, least_after}
-
--- ---- a number stored in a list
+use Rattle.weigh.specs.Sums.{row_of, number_of, gain_of, Small, GainRow, Gains, move_gain, found}
 
 by_same : {G : Type 0} (i j : ℕ) → (i ≡ j → G) → ((i ≡ j → ⊥) → G) → G
 by_same i j f g = by_index i j (λ p. g (λ e. omega arith)) (λ p. by_index j i (λ q. g (λ e. omega arith)) (λ q. f (omega arith)))
 
--- each number stays below a limit
-small-set : (l : List ℕ) (i v : ℕ) → Small l → v ≤ 1069531200 → Small (set l i v)
-small-set l i v h p k =
-    by_same k i
-    (λ e. by_index (length l) i (λ q. rw (e, get_or-set_same l i v 0 q) p) (λ q. rw (set_out l i v q) (h k)))
-    (λ d. rw (get_or-set_other l i k v 0 d) (h k))
-
-small-sets : (vs l : List ℕ) (i : ℕ) → Small l → Small vs → Small (sets l i vs)
-small-sets [] l i h p = h
-small-sets (v ∷ vs) l i h p = small-sets vs (set l i v) (suc i) (small-set l i v h (p 0)) (λ k. p (suc k))
-
-pub small-zeros : (n : ℕ) → Small (replicate n 0)
-small-zeros n k = omega (arith, nth-zeros n k)
-
--- before a row that is stored
-sets-before : (vs l : List ℕ) (i k : ℕ) → k < i → nth (sets l i vs) k ≡ nth l k
-sets-before [] l i k p = refl
-sets-before (v ∷ vs) l i k p = sets-before vs (set l i v) (suc i) k (omega arith) ∙ get_or-set_other l i k v 0 (λ e. omega arith)
-
--- in it
-sets_in : (vs l : List ℕ) (i k : ℕ) → i + length vs ≤ length l → k < length vs → nth (sets l i vs) (i + k) ≡ nth vs k
-sets_in [] l i k h p = absurd (omega arith)
-sets_in (v ∷ vs) l i zero h p =
-    rw (add-zero i) (sets-before vs (set l i v) (suc i) i (omega arith) ∙ get_or-set_same l i v 0 (omega arith))
-sets_in (v ∷ vs) l i (suc k) h p =
-    let e : i + suc k ≡ suc i + k = omega arith in
-    rw e (sets_in vs (set l i v) (suc i) k (omega (arith, length-set l i v)) (omega arith))
-
 -- ---- a row as it is filled
 
+pub small_none : (n : ℕ) → Small (replicate n (pos 0))
+small_none zero k = omega arith
+small_none (suc n) zero = omega arith
+small_none (suc n) (suc k) = small_none n k
+
+small_set : (row : List ℤ) (i : ℕ) (v : ℤ) → Small row → nat_abs v ≤ 137436856320 → Small (set row i v)
+small_set row i v h p k =
+    by_same k i
+    (λ e. by_index (length row) i (λ q. rw (e, get_or-set_same row i v (pos 0) q) p) (λ q. rw (set_out row i v q) (h k)))
+    (λ d. rw (get_or-set_other row i k v (pos 0) d) (h k))
+
+-- the first number of a small row, and those behind it
+pub small_here : (a rest : List ℤ) (g : ℤ) → a ≡ g ∷ rest → Small a → nat_abs g ≤ 137436856320
+small_here a rest g e h = let p : nat_abs (number_of a 0) ≡ nat_abs g = ap (λ (l : List ℤ). nat_abs (number_of l 0)) e in omega (arith, p, h 0)
+
+pub small_rest : (a rest : List ℤ) (g : ℤ) → a ≡ g ∷ rest → Small a → Small rest
+small_rest a rest g e h k =
+    let p : nat_abs (number_of a (suc k)) ≡ nat_abs (number_of rest k) = ap (λ (l : List ℤ). nat_abs (number_of l (suc k))) e in
+    omega (arith, p, h (suc k))
+
 -- the first t gains stand in it
-pub record Filling (up down : List ℕ) (i : ℕ) (pre post : List ℕ) (t : ℕ) (row : List ℕ) : Type 0 where
+pub record Filling (w : List ℤ) (pre post : List ℕ) (t : ℕ) (row : List ℤ) : Type 0 where
   pub long : length row ≡ 32
   pub small : Small row
-  pub is : (k : ℕ) → k < t → nth row k ≡ gain_of up down i pre post k
+  pub is : (k : ℕ) → k < t → number_of row k ≡ gain_of w pre post k
 
-module _ (up down : List ℕ) (i : ℕ) (pre post : List ℕ) where
-  pub filling_none : Filling up down i pre post 0 (replicate 32 0)
-  filling_none = record { long = length-replicate {A = ℕ} 32 0; small = small-zeros 32; is = λ k p. absurd (omega arith) }
+-- a gain as the code has it, with the parts of the tables cut out
+pub gain_is : (w : List ℤ) (pre post : List ℕ) (t : ℕ)
+    → dot w (take (t * 32 + 32 - t * 32) (drop (t * 32) post)) -ℤ dot w (take (t * 32 + 32 - t * 32) (drop (t * 32) pre)) ≡ gain_of w pre post t
+unfolding gain_of
+gain_is w pre post t = let e : t * 32 + 32 - t * 32 ≡ 32 = omega arith in rw e
 
-  pub filling_next : (t : ℕ) (row : List ℕ) → Filling up down i pre post t row → t < 32 → (a b : ℕ) → a ≡ product up i post (t * 32)
-      → b ≡ product down i pre (t * 32) → a ≤ 534765600 → b ≤ 534765600 → Filling up down i pre post (t + 1) (set row t (a + b))
-  unfolding gain_of
-  filling_next t row f h a b p q s u = record {
-    long = length-set row t (a + b) ∙ f.long;
-    small = small-set row t (a + b) f.small (omega arith);
+-- and a part of an event's counts
+pub counts_part : (w : List ℤ) (sync : List ℕ) (n : ℕ) → dot w (take (n * 32 + 32 - n * 32) (drop (n * 32) sync)) ≡ dot w (row_in 32 sync n)
+counts_part w sync n = let e : n * 32 + 32 - n * 32 ≡ 32 = omega arith in rw e
+
+module _ (w : List ℤ) (pre post : List ℕ) where
+  pub filling_none : Filling w pre post 0 (replicate 32 (pos 0))
+  filling_none = record { long = refl; small = small_none 32; is = λ k p. absurd (omega arith) }
+
+  pub filling_next : (t : ℕ) (row : List ℤ) → Filling w pre post t row → t < 32 → (v : ℤ) → v ≡ gain_of w pre post t → nat_abs v ≤ 137436856320
+      → Filling w pre post (t + 1) (set row t v)
+  filling_next t row f h v e p = record {
+    long = length-set row t v ∙ f.long;
+    small = small_set row t v f.small p;
     is = λ k r.
         by_same k t
-        (λ e. rw (e, get_or-set_same row t (a + b) 0 (omega (arith, f.long)), p, q))
-        (λ d. get_or-set_other row t k (a + b) 0 d ∙ f.is k (omega (arith, d)));
+        (λ d. rw (d, get_or-set_same row t v (pos 0) (omega (arith, f.long))) e)
+        (λ d. get_or-set_other row t k v (pos 0) d ∙ f.is k (omega (arith, d)));
   }
 
-  pub filling_done : (t : ℕ) (row : List ℕ) → Filling up down i pre post t row → 32 ≤ t → GainRow up down i pre post row
-  filling_done t row f h = record { long = f.long; small = f.small; is = λ k p. f.is k (omega arith) }
+  pub filling_done : (row : List ℤ) → Filling w pre post 32 row → GainRow w pre post row
+  filling_done row f = record { long = f.long; small = f.small; is = f.is }
 
 -- ---- rows laid one after the other
 
-module _ (first : List ℕ) (objects : List ObjectNet) (up down : List ℕ) where
-  -- what stood in the first row, and the rows of the first n nets
-  pub record Laid (n : ℕ) (table : List ℕ) : Type 0 where
-    pub long : length table ≡ 288
-    pub gains : NetGains first n objects up down table
+module _ (m : Model) (weights : List (List ℤ)) where
+  -- the row of the moves, and those of the first n nets
+  pub record Laid (n : ℕ) (table : List (List ℤ)) : Type 0 where
+    pub long : length table ≡ 9
+    pub small : (r : ℕ) → Small (row_of table r)
+    pub moves : GainRow (row_of weights 0) m.pre m.post (row_of table 0)
+    pub nets : (k : ℕ) → k < n
+        → GainRow (row_of weights (suc k)) (get_or m.objects k no_net).pre (get_or m.objects k no_net).post (row_of table (suc k))
 
-  pub laid_none : length first ≡ 288 → Small first → Laid 0 first
-  laid_none long small = record { long = long; gains = record { small = small; first = λ t p. refl; is = λ n t p q. absurd (omega arith) } }
+  rows_set : (table : List (List ℤ)) (i : ℕ) (row : List ℤ) → ((r : ℕ) → Small (row_of table r)) → Small row → (r : ℕ) → Small (row_of (set table i row) r)
+  rows_set table i row h p r =
+      by_same r i
+      (λ e. by_index (length table) i (λ q. rw (e, get_or-set_same table i row [] q) p) (λ q. rw (set_out table i row q) (h r)))
+      (λ d. rw (get_or-set_other table i r row [] d) (h r))
 
-  pub laid_next : (n : ℕ) (table row next : List ℕ) → Laid n table → n < 8
-      → GainRow up down (n * 32 + 32) (get_or objects n no_net).pre (get_or objects n no_net).post row → next ≡ sets table (n * 32 + 32) row → Laid (n + 1) next
-  laid_next n table row next l h g e = record {
-    long = ap length e ∙ length-sets table (n * 32 + 32) row ∙ l.long;
-    gains = record {
-      small = rw e (small-sets row table (n * 32 + 32) l.gains.small g.small);
-      first = λ t p. rw e (sets-before row table (n * 32 + 32) t (omega arith) ∙ l.gains.first t p);
-      is = λ k t p q.
-          by_same k n
-          (λ d. rw (e, d) (sets_in row table (n * 32 + 32) t (omega (arith, g.long, l.long)) (omega (arith, g.long)) ∙ g.is t q))
-          (λ d. rw e (sets-before row table (n * 32 + 32) (k * 32 + 32 + t) (omega (arith, d)) ∙ l.gains.is k t (omega (arith, d)) q));
-    };
+  rows_none : (n r : ℕ) → Small (row_of (replicate n (replicate 32 (pos 0))) r)
+  rows_none zero r = λ k. omega arith
+  rows_none (suc n) zero = small_none 32
+  rows_none (suc n) (suc r) = rows_none n r
+
+  pub laid_none : (row : List ℤ) → GainRow (row_of weights 0) m.pre m.post row → Laid 0 (set (replicate 9 (replicate 32 (pos 0))) 0 row)
+  laid_none row g = record {
+    long = refl;
+    small = rows_set (replicate 9 (replicate 32 (pos 0))) 0 row (rows_none 9) g.small;
+    moves = g;
+    nets = λ k p. absurd (omega arith);
   }
 
--- the first row is that of the moves
-module _ (moves first : List ℕ) (long : length moves ≡ 32) (small : Small moves) (laid : first ≡ sets (replicate 288 0) 0 moves) where
-  pub first-long : length first ≡ 288
-  first-long = ap length laid ∙ length-sets (replicate 288 0) 0 moves ∙ length-replicate {A = ℕ} 288 0
-
-  pub first_small : Small first
-  first_small = rw laid (small-sets moves (replicate 288 0) 0 (small-zeros 288) small)
-
-  pub first_gains : (n : ℕ) (objects : List ObjectNet) (up down table : List ℕ) → NetGains first n objects up down table → NetGains moves n objects up down table
-  first_gains n objects up down table g = record {
-    small = g.small;
-    first = λ t p.
-        g.first t p
-        ∙ rw laid (rw (zero-add t) at (sets_in moves (replicate 288 0) 0 t (omega (arith, length-replicate {A = ℕ} 288 0)) (omega arith)));
-    is = g.is;
+  pub laid_next : (n : ℕ) (table : List (List ℤ)) (row : List ℤ) → Laid n table → n < 8
+      → GainRow (row_of weights (suc n)) (get_or m.objects n no_net).pre (get_or m.objects n no_net).post row → Laid (n + 1) (set table (n + 1) row)
+  laid_next n table row l h g = record {
+    long = length-set table (n + 1) row ∙ l.long;
+    small = rows_set table (n + 1) row l.small g.small;
+    moves = rw (get_or-set_other table (n + 1) 0 row [] (λ e. omega arith)) l.moves;
+    nets = λ k p.
+        by_same k n
+        (λ d. rw (d, ← (add-one n), get_or-set_same table (n + 1) row [] (omega (arith, l.long)), add-one n) g)
+        (λ d. rw (get_or-set_other table (n + 1) (suc k) row [] (λ e. d (omega arith))) (l.nets k (omega (arith, d))));
   }
 
--- the table of a model
-pub model_gains : (pre post : List ℕ) (nets : ℕ) (objects : List ObjectNet) (up down moves gain : List ℕ) → GainRow up down 0 pre post moves
-    → NetGains moves nets objects up down gain → TableGains pre post nets objects up down gain
-model_gains pre post nets objects up down moves gain g n = record { small = n.small; moves = λ t p. n.first t p ∙ g.is t p; nets = n.is }
+  pub laid_done : (table : List (List ℤ)) → Laid m.nets table → Gains m weights table
+  laid_done table l = record { small = l.small; moves = l.moves; nets = l.nets }
 
--- what a move gains stays small
-pub move-small : (gain : List ℕ) → Small gain → (k : ℕ) → move_gain gain k ≤ 1069531200
+-- ---- a move's gain
+
+pub of_none : (row : List ℤ) (k : ℕ) → k ≡ 0 → pos 0 ≡ move_gain row k
 unfolding move_gain
-move-small gain h zero = omega arith
-move-small gain h (suc k) = h k
+of_none row k e = rw e
 
--- the least of the events before k, with the event e at k
-module _ (least k : ℕ) where
-  pub least-before : (good : Bool) → (least ≡ 0 → ⊥) → least ≡ least_after least k good
-  unfolding least_after
-  least-before good h = rw (ne_eqb least 0 h)
+pub of_move : (row : List ℤ) (k : ℕ) → (k ≡ 0 → ⊥) → number_of row (k - 1) ≡ move_gain row k
+unfolding move_gain
+of_move row zero h = absurd (h refl)
+of_move row (suc k) h = let e : suc k - 1 ≡ k = omega arith in rw e
 
-  module _ (none : least ≡ 0) (nets : ℕ) (e : Event) (gain loss : List ℕ) (x y : ℕ) (p : x ≡ event_gain nets e gain) (q : y ≡ event_gain nets e loss) where
-    pub least_here : (x ≡ y → ⊥) → k + 1 ≡ least_after least k (balanced nets gain loss e)
-    unfolding least_after
-    least_here h = rw (none, ← p, ← q, ne_eqb x y h)
+pub move_small : (row : List ℤ) → Small row → (k : ℕ) → nat_abs (move_gain row k) ≤ 137436856320
+unfolding move_gain
+move_small row h zero = omega arith
+move_small row h (suc k) = h k
 
-    pub least_not_yet : x ≡ y → 0 ≡ least_after least k (balanced nets gain loss e)
-    unfolding least_after
-    least_not_yet h = rw (none, ← p, ← q, eq-eqb x y h)
+-- ---- the first event that fails
+
+failing_some : (f : ℕ → Bool) (n i k : ℕ) → k < n → ((j : ℕ) → j < k → f (i + j) ≡ true) → f (i + k) ≡ false → failing n i f ≡ some (i + k)
+failing_some f zero i k h p q = absurd (omega arith)
+failing_some f (suc n) i zero h p q = rw (add-zero i) (rw (rw (add-zero i) at q))
+failing_some f (suc n) i (suc k) h p q =
+    let e : i + suc k ≡ suc i + k = omega arith in
+    let here : f i ≡ true = rw (add-zero i) at (p 0 (omega arith)) in
+    rw (here, e)
+    (failing_some f n (suc i) k (omega arith) (λ j r. let d : suc i + j ≡ i + suc j = omega arith in rw d (p (suc j) (omega arith))) (rw e at q))
+
+failing_none : (f : ℕ → Bool) (n i : ℕ) → ((j : ℕ) → j < n → f (i + j) ≡ true) → failing n i f ≡ none
+failing_none f zero i p = refl
+failing_none f (suc n) i p =
+    let here : f i ≡ true = rw (add-zero i) at (p 0 (omega arith)) in
+    rw here (failing_none f n (suc i) (λ j r. let d : suc i + j ≡ i + suc j = omega arith in rw d (p (suc j) (omega arith))))
+
+pub first_fails : (f : ℕ → Bool) (n k : ℕ) → k < n → ((j : ℕ) → j < k → f j ≡ true) → f k ≡ false → answer.Some k ≡ found (failing n 0 f)
+first_fails f n k h p q =
+    sym (ap found (failing_some f n 0 k h (λ j r. rw (zero-add j) (p j r)) (rw (zero-add k) q) ∙ ap some (zero-add k)))
+
+pub none_fails : (f : ℕ → Bool) (n : ℕ) → ((j : ℕ) → j < n → f j ≡ true) → answer.None ≡ found (failing n 0 f)
+none_fails f n p = sym (ap found (failing_none f n 0 (λ j r. rw (zero-add j) (p j r))))
+
+-- a gain that is 0, and one that is not
+pub gain_zero : (g v : ℤ) → g ≡ v → g ≡ pos 0 → is_zero v ≡ true
+gain_zero g v e z = rw (← e, z)
+
+pub gain_not_zero : (g v : ℤ) → g ≡ v → (g ≡ pos 0 → ⊥) → is_zero v ≡ false
+gain_not_zero (pos zero) v e z = absurd (z refl)
+gain_not_zero (pos (suc n)) v e z = rw (← e)
+gain_not_zero (negsuc n) v e z = rw (← e)

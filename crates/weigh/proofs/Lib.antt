@@ -1,4 +1,4 @@
-pub mod TotalLaws
-pub mod WeightLoops
+pub mod DotLaws
 pub mod GainLaws
+pub mod TotalLaws
 pub mod CoverTests

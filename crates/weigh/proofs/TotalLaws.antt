@@ -1,62 +1,65 @@
 -- Laws of sums over the numbers below n.
-use Prim.Native.Nat.{ℕ, zero, suc, ◌+◌, ◌*◌, ◌<◌}
-use mathlib.Core.Path.{◌≡◌, refl, ap, ap₂, ◌∙◌}
+use Prim.Native.Nat.{ℕ, zero, suc, ◌+◌, ◌<◌}
+use mathlib.Core.Path.{◌≡◌, refl, ap, ap₂, sym, ◌∙◌}
 use native.Mathlib.Omega.{arith}
-use native.Mathlib.Nat.{add-zero, add-suc}
+use native.Mathlib.Numerals.{add-one}
+use lib.IntN.{ℤ, pos, ◌+ℤ◌, ◌-ℤ◌, +ℤ_assoc, +ℤ_idl, +ℤ_idr}
+use Rattle.std.proofs.lemmas.Int.{ints}
 use Rattle.model.proofs.SlotLaws.{by_index}
 use Rattle.weigh.specs.Sums.{total}
 
 -- one summand more, and none
-pub total_on : (n : ℕ) (f : ℕ → ℕ) → total (n + 1) f ≡ total n f + f n
+pub total_on : (n : ℕ) (f : ℕ → ℤ) → total (n + 1) f ≡ total n f +ℤ f n
 unfolding total
-total_on n f = let e : n + 1 ≡ suc n = omega arith in rw e
+total_on n f = rw (add-one n)
 
-pub total_none : (f : ℕ → ℕ) → total 0 f ≡ 0
+pub total_none : (f : ℕ → ℤ) → total 0 f ≡ pos 0
 unfolding total
 total_none f = refl
 
 -- sums of the same summands
-pub total_same : (n : ℕ) (f g : ℕ → ℕ) → ((i : ℕ) → i < n → f i ≡ g i) → total n f ≡ total n g
+pub total_same : (n : ℕ) (f g : ℕ → ℤ) → ((i : ℕ) → i < n → f i ≡ g i) → total n f ≡ total n g
 unfolding total
 total_same zero f g h = refl
-total_same (suc n) f g h = ap₂ ◌+◌ (total_same n f g (λ i p. h i (omega arith))) (h n (omega arith))
+total_same (suc n) f g h = ap₂ ◌+ℤ◌ (total_same n f g (λ i p. h i (omega arith))) (h n (omega arith))
 
-pub total_zero : (n : ℕ) (f : ℕ → ℕ) → ((i : ℕ) → i < n → f i ≡ 0) → total n f ≡ 0
+-- the difference of two sums
+pub total_minus : (n : ℕ) (f g : ℕ → ℤ) → total n (λ i. f i -ℤ g i) ≡ total n f -ℤ total n g
 unfolding total
-total_zero zero f h = refl
-total_zero (suc n) f h = omega (arith, total_zero n f (λ i p. h i (omega arith)), h n (omega arith))
-
--- sums are linear
-pub total_plus : (n : ℕ) (f g : ℕ → ℕ) → total n (λ i. f i + g i) ≡ total n f + total n g
-unfolding total
-total_plus zero f g = refl
-total_plus (suc n) f g = omega (arith, total_plus n f g)
+total_minus zero f g = refl
+total_minus (suc n) f g = let e = total_minus n f g in omega (arith, ints, e)
 
 -- the first summand stands before the others
-pub total_front : (n : ℕ) (f : ℕ → ℕ) → total (suc n) f ≡ f 0 + total n (λ i. f (suc i))
+pub total_front : (n : ℕ) (f : ℕ → ℤ) → total (suc n) f ≡ f 0 +ℤ total n (λ i. f (suc i))
 unfolding total
-total_front zero f = omega arith
-total_front (suc n) f = omega (arith, total_front n f)
+total_front zero f = +ℤ_idl (f 0) ∙ sym (+ℤ_idr (f 0))
+total_front (suc n) f = ap (λ (z : ℤ). z +ℤ f (suc n)) (total_front n f) ∙ +ℤ_assoc (f 0) (total n (λ i. f (suc i))) (f (suc n))
 
--- a sum in two parts
-pub total_parts : (a b : ℕ) (f : ℕ → ℕ) → total (a + b) f ≡ total a f + total b (λ i. f (a + i))
-unfolding total
-total_parts a zero f = rw (add-zero a) (omega arith)
-total_parts a (suc b) f = rw (add-suc a b) (omega (arith, total_parts a b f))
+-- one sum further
+pub add_next : (f : ℕ → ℤ) (k : ℕ) (sum next r : ℤ) → sum ≡ total k f → r ≡ f k → next ≡ sum +ℤ r → next ≡ total (k + 1) f
+add_next f k sum next r p q e = e ∙ ap₂ ◌+ℤ◌ p q ∙ sym (total_on k f)
 
--- a sum over rows of 32
-pub total-rows : (n : ℕ) (f : ℕ → ℕ) → total (n * 32) f ≡ total n (λ i. total 32 (λ t. f (i * 32 + t)))
+-- the same behind another number
+pub total_begins : (first : ℤ) (f : ℕ → ℤ) → first ≡ first +ℤ total 0 f
 unfolding total
-total-rows zero f = refl
-total-rows (suc n) f =
-    let e : suc n * 32 ≡ n * 32 + 32 = omega arith in
-    ap (λ (k : ℕ). total k f) e ∙ total_parts (n * 32) 32 f ∙ ap (λ (k : ℕ). k + total 32 (λ t. f (n * 32 + t))) (total-rows n f)
+total_begins first f = sym (+ℤ_idr first)
+
+pub total_further : (first sum r : ℤ) (n : ℕ) (f : ℕ → ℤ) → sum ≡ first +ℤ total n f → r ≡ f n → sum +ℤ r ≡ first +ℤ total (n + 1) f
+total_further first sum r n f p q =
+    ap₂ ◌+ℤ◌ p q ∙ +ℤ_assoc first (total n f) (f n) ∙ ap (λ (z : ℤ). first +ℤ z) (sym (total_on n f))
+
+pub total_zero : (n : ℕ) (f : ℕ → ℤ) → ((i : ℕ) → i < n → f i ≡ pos 0) → total n f ≡ pos 0
+unfolding total
+total_zero zero f h = refl
+total_zero (suc n) f h = ap₂ ◌+ℤ◌ (total_zero n f (λ i p. h i (omega arith))) (h n (omega arith))
 
 -- a sum of which one summand is not 0
-pub total-one : (n k : ℕ) (f : ℕ → ℕ) → k < n → ((i : ℕ) → (i ≡ k → ⊥) → f i ≡ 0) → total n f ≡ f k
+pub total_one : (n k : ℕ) (f : ℕ → ℤ) → k < n → ((i : ℕ) → (i ≡ k → ⊥) → f i ≡ pos 0) → total n f ≡ f k
 unfolding total
-total-one zero k f h z = absurd (omega arith)
-total-one (suc n) k f h z =
+total_one zero k f h z = absurd (omega arith)
+total_one (suc n) k f h z =
     by_index n k
-    (λ p. omega (arith, total-one n k f p z, z n (λ e. omega arith)))
-    (λ p. let e : k ≡ n = omega arith in rw e (omega (arith, total_zero n f (λ i q. z i (λ d. omega arith)))))
+    (λ p. ap₂ ◌+ℤ◌ (total_one n k f p z) (z n (λ e. omega arith)) ∙ +ℤ_idr (f k))
+    (λ p.
+    let e : k ≡ n = omega arith in
+    ap₂ ◌+ℤ◌ (total_zero n f (λ i q. z i (λ d. omega arith))) (ap f (sym e)) ∙ +ℤ_idl (f k))

@@ -1,200 +1,112 @@
-// What events gain and lose: an event whose effect is 0 gains what it loses.
+// What events gain, by weights: an event whose effect is 0 gains nothing.
 #![tactic(auto)]
 
-ghost use Rattle.std.specs.Prelude.{◌≡◌, ℕ, ◌+◌, ◌*◌, ◌^◌, ◌≤◌, ◌<◌, length, get_or};
-ghost use Rattle.eos.specs.Causes.{failing, numbered};
-ghost use Rattle.model.specs.Limits.{sync_room};
-ghost use Rattle.model.specs.Rules.{nth};
+ghost use Rattle.std.specs.Prelude.{◌≡◌, ℕ, ◌≤◌, ◌<◌, length, get_or, pos, neg_ℤ, nat_abs, ◌-ℤ◌, ◌*ℤ◌, ◌≤ℤ◌};
+ghost use Rattle.eos.specs.Causes.{failing};
+ghost use Rattle.eos.specs.Weights.{dot};
 ghost use Rattle.model.specs.Held.{no_event};
-ghost use Rattle.weigh.specs.Sums.{total, product, GainRow, NetGains, TableGains, Small, move_gain, event_gain, balanced, balanced_at, least_after, ActIn};
+ghost use Rattle.weigh.specs.Sums.{GainRow, Gains, Small, row_of, move_gain, event_gain, balanced_at, ActIn, found};
 
-use model::{Event, ObjectNet};
+use model::{Event, Model};
 use model_acts::move_of;
-use model_tables::sums::put_sums;
+use weigh::dot;
 
-// A weight times an arc.
-fn arc_weight(w: u16, v: u8) -> u64
-    ensures { (result ≡ w * v) × (result ≤ 16711425) }
+// What a transition gains by a row of weights: its post weighed, less its pre weighed.
+fn gain(weights: &[i16], pre: &[u8], post: &[u8]) -> i64
+    requires { length weights.now ≤ 32 }
+    ensures value { result ≡ dot weights.now post.now -ℤ dot weights.now pre.now }
+    ensures low { neg_ℤ (pos 137436856320) ≤ℤ result }
+    ensures high { result ≤ℤ pos 137436856320 }
 {
-    w as u64 * v as u64
+    dot(weights, post) - dot(weights, pre)
 }
 
-// The 32 weights from i on times the 32 arcs from j on.
-fn side_weight<'a>(w: &'a [u16], i: usize, v: &'a [u8], j: usize) -> u64
-    requires { (i + 32 ≤ length w.now) × (j + 32 ≤ length v.now) }
-    ensures { (result ≡ product w.now i v.now j) × (result ≤ 534765600) }
+// What each of 32 transitions gains by a row of weights.
+fn gain_row(weights: &[i16; 32], pre: &[u8; 1024], post: &[u8; 1024]) -> [i64; 32]
+    ensures { GainRow weights.now pre.now post.now result }
 {
-    let mut sum: u64 = 0;
-    let mut k = 0;
-    while k < 32 {
-        sum += arc_weight(w[i + k], v[j + k]);
-        k += 1;
-    }
-    sum
-}
-
-// What each of 32 transitions gains by the weights from `at` on.
-fn gain_row<'a>(
-    up: &'a [u16],
-    down: &'a [u16],
-    at: usize,
-    pre: &'a [u8],
-    post: &'a [u8],
-) -> [u64; 32]
-    requires { (at + 32 ≤ length up.now) × (at + 32 ≤ length down.now) × (length pre.now ≡ 1024) × (length post.now ≡ 1024) }
-    ensures { GainRow up.now down.now at pre.now post.now result }
-{
-    let mut row = [0u64; 32];
-    let mut t = 0;
-    while t < 32 {
-        row[t] = side_weight(up, at, post, t * 32) + side_weight(down, at, pre, t * 32);
-        t += 1;
+    let mut row = [0i64; 32];
+    for t in 0..32 {
+        row[t] = gain(
+            weights,
+            &pre[t * 32..t * 32 + 32],
+            &post[t * 32..t * 32 + 32],
+        );
     }
     row
 }
 
-// What each transition of a net gains by the weights from `at` on.
-fn net_row(o: ObjectNet, up: [u16; 288], down: [u16; 288], at: usize) -> [u64; 32]
-    requires { at + 32 ≤ 288 }
-    ensures { GainRow up down at o.pre o.post result }
+// What each move and each net's transitions of a model gain, in the rows of their weights.
+pub fn gains(m: &Model, weights: &[[i16; 32]; 9]) -> [[i64; 32]; 9]
+    requires { m.now.nets ≤ 8 }
+    ensures { Gains m.now weights.now result }
 {
-    gain_row(&up, &down, at, &o.pre, &o.post)
-}
-
-// What the moves and each net's transitions gain, in the rows of the weights.
-fn gain_table(
-    moves: [u64; 32],
-    nets: usize,
-    objects: [ObjectNet; 8],
-    up: [u16; 288],
-    down: [u16; 288],
-) -> [u64; 288]
-    requires { (nets ≤ 8) × Small moves }
-    ensures { NetGains moves nets objects up down result }
-{
-    let mut table = [0u64; 288];
-    put_sums(&mut table, 0, moves);
-    let mut n = 0;
-    while n < nets {
-        let o = objects[n];
-        let row = net_row(o, up, down, n * 32 + 32);
-        put_sums(&mut table, n * 32 + 32, row);
-        n += 1;
+    let mut table = [[0i64; 32]; 9];
+    table[0] = gain_row(&weights[0], &m.pre, &m.post);
+    for n in 0..m.nets {
+        let net = &m.objects[n];
+        table[n + 1] = gain_row(&weights[n + 1], &net.pre, &net.post);
     }
     table
 }
 
-// What each move and each transition of a model gains; with the two kinds of weights exchanged, what each loses.
-pub fn gains<'a>(
-    nets: usize,
-    pre: &'a [u8],
-    post: &'a [u8],
-    objects: [ObjectNet; 8],
-    up: [u16; 288],
-    down: [u16; 288],
-) -> [u64; 288]
-    requires { (nets ≤ 8) × (length pre.now ≡ 1024) × (length post.now ≡ 1024) }
-    ensures { TableGains pre.now post.now nets objects up down result }
-{
-    let moves = gain_row(&up, &down, 0, pre, post);
-    gain_table(moves, nets, objects, up, down)
-}
-
 // What move k gains, numbered from 1; 0 is no move.
-fn move_gain(k: u8, gain: &[u64]) -> u64
-    requires { (k ≤ 32) × (length gain.now ≡ 288) }
-    ensures { result ≡ move_gain gain.now k }
+fn move_gain(k: u8, gains: &[i64; 32]) -> i64
+    requires { k ≤ 32 }
+    ensures { result ≡ move_gain gains.now k }
 {
     if k == 0 {
         return 0;
     }
-    gain[k as usize - 1]
+    gains[k as usize - 1]
 }
 
 // A gain, as often as it is counted.
-fn gain_counted(c: u8, gain: u64) -> u64
-    requires { gain ≤ 1069531200 }
-    ensures { (result ≡ c * gain) × (result ≤ 272730456000) }
+fn counted(gain: i64, count: u8) -> i64
+    requires { nat_abs gain ≤ 137436856320 }
+    ensures value { result ≡ gain *ℤ pos count }
+    ensures low { neg_ℤ (pos 35046398361600) ≤ℤ result }
+    ensures high { result ≤ℤ pos 35046398361600 }
 {
-    c as u64 * gain
+    gain * count as i64
 }
 
-// What the transitions of all nets gain, each as often as it is counted.
-fn counts_gain<'a>(sync: &'a [u8], n: usize, gain: &'a [u64]) -> u64
-    requires { (n ≤ sync_room) × (length sync.now ≡ sync_room) × (length gain.now ≡ 288) × Small gain.now }
-    ensures { (result ≡ total n (λ k. nth sync.now k * nth gain.now (32 + k))) × (result ≤ 69818996736000) }
+// What a net's transitions gain, each as often as it is counted.
+fn counts_gain(gains: &[i64], counts: &[u8]) -> i64
+    requires { (length gains.now ≤ 32) × Small gains.now }
+    ensures value { result ≡ dot gains.now counts.now }
+    ensures low { neg_ℤ (pos 1121484747571200) ≤ℤ result }
+    ensures high { result ≤ℤ pos 1121484747571200 }
 {
-    let mut sum: u64 = 0;
-    let mut k = 0;
-    while k < n {
-        sum += gain_counted(sync[k], gain[32 + k]);
-        k += 1;
+    let mut sum: i64 = 0;
+    for (gain, count) in gains.iter().zip(counts.iter()) {
+        sum += counted(*gain, *count);
     }
     sum
 }
 
 // What an event gains.
-fn event_gain(e: Event, nets: usize, gain: [u64; 288]) -> u64
-    requires { (nets ≤ 8) × ActIn e × Small gain }
-    ensures { result ≡ event_gain nets e gain }
+fn event_gain(e: &Event, nets: usize, gains: &[[i64; 32]; 9]) -> i64
+    requires { (nets ≤ 8) × ActIn e.now × ((r : ℕ) → Small (row_of gains.now r)) }
+    ensures { result ≡ event_gain nets e.now gains.now }
 {
-    let outside = move_gain(move_of(e.kind, e.index), &gain);
-    let inside = counts_gain(&e.sync, nets * 32, &gain);
-    outside + inside
+    let mut sum = move_gain(move_of(e.kind, e.index), &gains[0]);
+    for n in 0..nets {
+        sum += counts_gain(&gains[n + 1], &e.sync[n * 32..n * 32 + 32]);
+    }
+    sum
 }
 
-// The number of the least event that does not gain what it loses, from 1 and 0 for none, once the event e at k is judged too.
-fn least_after(
-    least: usize,
-    k: usize,
-    e: Event,
-    nets: usize,
-    gain: [u64; 288],
-    loss: [u64; 288],
-) -> usize
-    requires { (k + 1 < 2 ^ 64) × (nets ≤ 8) × ActIn e × Small gain × Small loss }
-    ensures { result ≡ least_after least k (balanced nets gain loss e) }
+// The first of the events that gains something, by its index.
+pub fn first_unbalanced(events: &[Event], nets: usize, gains: &[[i64; 32]; 9]) -> Option<usize>
+    requires nets_bound { (nets ≤ 8) × ((r : ℕ) → Small (row_of gains.now r)) }
+    requires by_index { (k : ℕ) → k < length events.now → ActIn (get_or events.now k no_event) }
+    ensures { result ≡ found (failing (length events.now) 0 (balanced_at nets events.now gains.now)) }
 {
-    if least != 0 {
-        return least;
+    for (k, event) in events.iter().enumerate() {
+        if event_gain(event, nets, gains) != 0 {
+            return Some(k);
+        }
     }
-    if event_gain(e, nets, gain) != event_gain(e, nets, loss) {
-        return k + 1;
-    }
-    0
-}
-
-// The number of the least of the first events that are lent, `listed` of them, that does not gain what it loses, from 1; 0 where each does.
-fn least_unbalanced(
-    events: &[Event],
-    listed: usize,
-    nets: usize,
-    gain: [u64; 288],
-    loss: [u64; 288],
-) -> usize
-    requires { (listed ≤ length events.now) × (nets ≤ 8) × Small gain × Small loss × ((k : ℕ) → k < listed → ActIn (get_or events.now k no_event)) }
-    ensures { result ≡ numbered (failing listed 0 (balanced_at nets events.now gain loss)) }
-{
-    let mut least = 0;
-    let mut k = 0;
-    while k < listed {
-        least = least_after(least, k, events[k], nets, gain, loss);
-        k += 1;
-    }
-    least
-}
-
-// The same of an array's first events.
-pub fn first_unbalanced(
-    listed: usize,
-    nets: usize,
-    events: [Event; 64],
-    gain: [u64; 288],
-    loss: [u64; 288],
-) -> usize
-    requires listed_bound { (listed ≤ 64) × (nets ≤ 8) × Small gain × Small loss }
-    requires by_index { (k : ℕ) → k < listed → ActIn (get_or events k no_event) }
-    ensures { result ≡ numbered (failing listed 0 (balanced_at nets events gain loss)) }
-{
-    least_unbalanced(&events, listed, nets, gain, loss)
+    None
 }

@@ -1,7 +1,13 @@
--- `all_zero` is the test of both tables.
-use mathlib.Core.Bool.{◌&&◌}
-use mathlib.Core.Path.{ap₂}
+-- `all_zero` is the test of each row.
+use Rattle.std.proofs.Common.{rules, tests, ◌∙◌}
+use Rattle.std.proofs.lemmas.Iterator.{YieldsList-from_slice}
+use Rattle.std.proofs.lemmas.Iterator.Search.{all_from_yields_List}
+use Rattle.eos.specs.Multiset.{every}
+use Rattle.eos.specs.Weights.{is_zero}
+use Rattle.weigh.proofs.CoverTests.{every_all}
 use Rattle.keeper.proofs.all_zero.Goals as goal
 
 pub returns : goal.returns
-returns c = ap₂ ◌&&◌ c.empty_from-up.ensures c.empty_from-down.ensures
+returns c =
+    all_from_yields_List (every is_zero) _ _ _ c.all.ensures.ran (YieldsList-from_slice c.args.held.now.rows (cc)) (λ x b q k. search (rules, tests))
+    ∙ every_all (every is_zero) c.args.held.now.rows

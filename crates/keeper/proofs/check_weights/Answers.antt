@@ -4,6 +4,7 @@ use borrow.Author.Rules.{rules}
 use mathlib.Core.Path.{◌≡◌, ap, sym, ◌∙◌}
 use mathlib.Core.Bool.{true}
 use lib.ListN.{length}
+use Rattle.model.proofs.RoomLaws.{objects-room, events-room}
 use Rattle.reader.specs.Answers.{held_both}
 use Rattle.keeper.specs.Answers.{refused_weights}
 use Rattle.keeper.proofs.JudgeLaws.{model-held}
@@ -32,12 +33,15 @@ pub weight_lines-read-requires : goal.weight_lines-read-requires
 weight_lines-read-requires c = shape_few _ (model-held _ _ (both (goal.at.weight_lines-read-requires c).Else-not-test_marking)) _ c.shape_of.ensures
 
 pub judged-requires : goal.judged-requires
-judged-requires c = both (goal.at.judged-requires c).Else-not-test_marking
+judged-requires c = record {
+  both = both (goal.at.judged-requires c).Else-not-test_marking;
+  room = (objects-room c.args.m _ c.well_formed.0, events-room c.args.m _ c.well_formed.0);
+}
 
 pub returns-in_default : goal.returns-in_default
 returns-in_default c =
     check_past c.args.m c.args.k c.args.s.now c.if-s-gt-LONGEST.false (both (goal.at.returns-in_default c).Else-not-test_marking) (long (goal.at.returns-in_default c).Start) _ c.shape_of.ensures _
-    c.weight_lines-read.ensures _ c.in_default.is _ c.judged.ensures
+    c.weight_lines-read.ensures (objects-room c.args.m _ c.well_formed.0) _ c.in_default.is _ _ c.signed.ensures c.judged.ensures
 
 pub returns : goal.returns
 returns c =

@@ -1,46 +1,69 @@
 -- `judged` meets its contract: all weights 0, an event that is not balanced, or weights that pass.
-use mathlib.Core.Path.{sym, ◌∙◌}
+use borrow.Author.Rules.{rules}
+use mathlib.Core.Path.{◌≡◌, sym, ap, ◌∙◌}
 use native.Mathlib.Omega.{arith}
-use Rattle.model.proofs.HeldTests.{held-is, most-nets}
-use Rattle.model.proofs.RoomLaws.{types-room, objects-room}
+use lib.ListN.{length-take}
+use lib.IntN.{nat_abs}
+use Rattle.weigh.specs.Sums.{covered}
+use mir.Syntax.{w64}
+use mir.Val.{to_z, of_z}
+use Rattle.std.proofs.lemmas.Int.{ints}
+use Rattle.keeper.specs.Answers.{sum_of}
+use Rattle.eos.specs.Multiset.{every}
+use Rattle.eos.specs.Weights.{is_zero}
+use Rattle.model.proofs.HeldTests.{held-is, most-nets, most-places}
+use Rattle.marking.proofs.SizeLaws.{nets-small, type-few}
+use Rattle.keeper.specs.declared.HeldWeights.{HeldWeights}
 use Rattle.keeper.proofs.HeldRows.{Kept}
 use Rattle.keeper.proofs.ZeroLaws.{zero_is}
-use Rattle.keeper.proofs.JudgeLaws.{model-held, turned_zero, turned-event, none_turned}
+use Rattle.keeper.proofs.JudgeLaws.{model-held, marking_held, tokens-few, places_in, turned_zero, turned-event, none_turned, passed_is}
 use Rattle.keeper.proofs.judged.Goals as goal
 
-pub overflow_add-m : goal.overflow_add-m
-overflow_add-m c =
-    omega (arith, most-nets _ (held-is _ (model-held _ _ c.requires)))
+pub overflow_add-last : goal.overflow_add-last
+overflow_add-last c = omega (arith, most-nets _ (held-is _ (model-held _ _ c.requires.both)))
+
+pub unbalanced-requires : goal.unbalanced-requires
+unbalanced-requires c = record { tested = model-held _ _ c.requires.both; room = c.requires.room }
 
 pub returns-then-all_zero : goal.returns-then-all_zero
 returns-then-all_zero c =
-    let m = c.args.m in
+    let m = c.args.m.now in
     λ w h.
-    let kept : Kept m w =
-    record { held = model-held _ _ c.requires; types = types-room m _ c.well_formed.1.0; objects = objects-room m _ c.well_formed.1.0; shaped = h.shaped } in
-    let zero = zero_is m w kept c.args.h h.is ∙ sym c.all_zero.ensures in
+    let kept : Kept m w = record { held = model-held _ _ c.requires.both; types = search rules; objects = c.requires.room.0; shaped = h.shaped } in
+    let zero = zero_is m w kept ∙ sym (ap (λ (x : HeldWeights). every (every is_zero) x.rows) h.is) ∙ sym c.all_zero.ensures in
     c.weights_refused.ensures ∙ turned_zero _ _ w _ (zero ∙ c.if-all_zero.true)
 
-pub unbalanced-event-requires : goal.unbalanced-event-requires
-unbalanced-event-requires c = model-held _ _ c.requires
+pub held-requires : goal.held-requires
+held-requires c = tokens-few _ _ c.requires.both
 
-pub returns-then-event-ne0 : goal.returns-then-event-ne0
-returns-then-event-ne0 c =
-    let m = c.args.m in
+pub marking_weight-sum-requires : goal.marking_weight-sum-requires
+marking_weight-sum-requires c =
+    let few = tokens-few _ _ c.requires.both in
+    let k = c.args.k.now in
+    rw c.held.ensures.tokens
+    (omega (arith, few, length-take k.len k.tokens), places_in _ _ c.requires.both, type-few _ (model-held _ _ c.requires.both))
+
+pub covers-cover-requires : goal.covers-cover-requires
+covers-cover-requires c =
+    let h = model-held _ _ c.requires.both in
+    let m = c.args.m.now in
+    (most-places m (held-is m h), most-nets m (held-is m h), nets-small m h c.requires.room.0)
+
+pub returns-in-Some : goal.returns-in-Some
+returns-in-Some c =
+    let m = c.args.m.now in
     λ w h.
-    let kept : Kept m w =
-    record { held = model-held _ _ c.requires; types = types-room m _ c.well_formed.1.0; objects = objects-room m _ c.well_formed.1.0; shaped = h.shaped } in
-    let zero = zero_is m w kept c.args.h h.is ∙ sym c.all_zero.ensures in
-    c.weights_refused-then-event-ne0.ensures ∙ turned-event _ _ w _ (zero ∙ c.if-all_zero.false) _ (c.unbalanced-event.ensures w h) c.if-event-ne0.true
-
-pub passed-requires : goal.passed-requires
-passed-requires c = c.requires
+    let kept : Kept m w = record { held = model-held _ _ c.requires.both; types = search rules; objects = c.requires.room.0; shaped = h.shaped } in
+    let zero = zero_is m w kept ∙ sym (ap (λ (x : HeldWeights). every (every is_zero) x.rows) h.is) ∙ sym c.all_zero.ensures in
+    c.weights_refused-in-Some.ensures ∙ turned-event _ _ w _ (zero ∙ c.if-all_zero.false) _ (c.unbalanced.ensures.first w h) c.in-Some.event c.in-Some.is
 
 pub returns : goal.returns
 returns c =
-    let m = c.args.m in
+    let m = c.args.m.now in
     λ w h.
-    let kept : Kept m w =
-    record { held = model-held _ _ c.requires; types = types-room m _ c.well_formed.1.0; objects = objects-room m _ c.well_formed.1.0; shaped = h.shaped } in
-    let zero = zero_is m w kept c.args.h h.is ∙ sym c.all_zero.ensures in
-    c.passed.ensures w h ∙ none_turned _ _ w _ (zero ∙ c.if-all_zero.false) _ (c.unbalanced-event.ensures w h) c.if-event-ne0.false
+    let kept : Kept m w = record { held = model-held _ _ c.requires.both; types = search rules; objects = c.requires.room.0; shaped = h.shaped } in
+    let zero = zero_is m w kept ∙ sym (ap (λ (x : HeldWeights). every (every is_zero) x.rows) h.is) ∙ sym c.all_zero.ensures in
+    let sum : to_z w64 (of_z w64 c.marking_weight-sum.result) ≡ c.marking_weight-sum.result = omega (arith, ints) in
+    passed_is m w kept c.args.k.now (marking_held _ _ c.requires.both) c.args.held.now h.is c.marking_weight-sum.result (rw c.held.ensures.tokens at c.marking_weight-sum.ensures.value) _ (c.from.ensures ∙ ap sum_of sum) _ _
+    (c.covers-cover.ensures ∙ ap (covered c.args.most m.places m.nets m.objects c.args.held.now.rows) (c.unsigned_abs.ensures.value ∙ ap nat_abs sum))
+    ∙ none_turned _ _ w _ (zero ∙ c.if-all_zero.false) _ (c.unbalanced.ensures.first w h) c.in_default.is

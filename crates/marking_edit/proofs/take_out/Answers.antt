@@ -1,54 +1,37 @@
--- `take_out` takes out the row at the row's place where it is like it; there is none elsewhere.
-use borrow.Author.Rules.{rules}
-use Prim.Native.Nat.{◌<◌}
-use native.Mathlib.Omega.{arith}
-use Rattle.marking.proofs.RowWalk.{place-few}
-use Rattle.marking_edit.proofs.Change.{out_end, out_other, out_laid}
+-- `take_out` takes out the net-token at the place where it is like the given one; there is none elsewhere.
+use Prim.Native.Nat.{◌-◌}
+use mathlib.Core.Path.{◌≡◌, ap, ◌∙◌}
+use mathlib.Core.Bool.{true}
+use mathlib.Core.List.{[]}
+use lib.ListN.{get_or, set}
+use Rattle.marking.specs.Tokens.{place_for, tokens_in}
+use Rattle.marking.specs.declared.NetToken.{NetToken}
+use Rattle.marking.proofs.TokenOrder.{ne_true, ne_false}
+use Rattle.marking_edit.proofs.Change.{out_end, out_other, out_held, within}
 use Rattle.marking_edit.proofs.take_out.Goals as goal
-use Rattle.marking_edit.proofs.take_out.Goals.{Else-p-n}
 
-place_low : (c : Else-p-n) → c.place_for-p.result < c.args.n
-place_low c = let a = c.args in omega (arith, place-few a.row a.n a.rows.now)
+-- what the code reads past the last net-token
+abbrev outside : NetToken
+outside = record { place = 0; counts = [] }
 
 pub returns-then-p-n : goal.returns-then-p-n
 returns-then-p-n c =
-    let a = c.args in
-    out_end a.n a.rows.now a.row c.requires c.place_for-p.result c.place_for-p.ensures c.if-p-n.true
+    let t = c.args.t.now in
+    out_end t c.args.k.now c.requires c.place_for-p.result (c.place_for-p.ensures.0 ∙ ap (place_for t) c.held.ensures.tokens) c.if-p-n.true
 
-pub overflow_mul-p : goal.overflow_mul-p
-overflow_mul-p c =
-    omega (arith, (place_low (goal.at.overflow_mul-p c).Else-p-n), c.requires.few)
-
-pub like-requires : goal.like-requires
-like-requires c =
-    let k = c.requires in
-    omega (arith, (place_low (goal.at.like-requires c).Else-p-n), k.few, k.long)
-
-pub returns-then-not-like : goal.returns-then-not-like
-returns-then-not-like c =
-    let a = c.args in
-    out_other a.n a.rows.now a.row c.requires c.place_for-p.result c.place_for-p.ensures (place_low (goal.at.returns-then-not-like c).Else-p-n) c.like.ensures
-    c.if-not-like.true
-
-pub overflow_mul-p-2 : goal.overflow_mul-p-2
-overflow_mul-p-2 c =
-    omega (arith, (place_low (goal.at.overflow_mul-p-2 c).Else-p-n), c.requires.few)
-
-pub overflow_sub-n : goal.overflow_sub-n
-overflow_sub-n c =
-    omega (arith, (place_low (goal.at.overflow_sub-n c).Else-p-n))
-
-pub overflow_mul-n : goal.overflow_mul-n
-overflow_mul-n c =
-    omega (arith, c.requires.few)
-
-pub remove_row-requires : goal.remove_row-requires
-remove_row-requires c =
-    let k = c.requires in
-    (omega (arith, (place_low (goal.at.remove_row-requires c).Else-p-n)), omega (arith, (place_low (goal.at.remove_row-requires c).Else-p-n), k.few, k.long))
+pub returns-then-ne : goal.returns-then-ne
+returns-then-ne c =
+    let t = c.args.t.now in
+    let k = c.args.k.now in
+    let p : c.place_for-p.result ≡ place_for t (tokens_in k) = c.place_for-p.ensures.0 ∙ ap (place_for t) c.held.ensures.tokens in
+    out_other t k c.requires c.place_for-p.result p (within t k c.requires c.place_for-p.result p c.if-p-n.false) outside
+    (ne_true t (get_or k.tokens c.place_for-p.result outside) _ c.ne.ensures c.if-ne.true)
 
 pub returns : goal.returns
 returns c =
-    let a = c.args in
-    out_laid a.n a.rows.now a.row c.requires c.place_for-p.result c.place_for-p.ensures (place_low (goal.at.returns c).Else-p-n) c.like.ensures
-    c.remove_row.new.rows c.if-not-like.false (search rules) c.remove_row.ensures
+    let t = c.args.t.now in
+    let k = c.args.k.now in
+    let p : c.place_for-p.result ≡ place_for t (tokens_in k) = c.place_for-p.ensures.0 ∙ ap (place_for t) c.held.ensures.tokens in
+    ap (λ (u : NetToken). record { found = true; marking = record { len = k.len - 1; tokens = set c.copy_within.new.self (k.len - 1) u } }) c.empty.ensures
+    ∙ out_held t k c.requires c.place_for-p.result p (within t k c.requires c.place_for-p.result p c.if-p-n.false) outside c.copy_within.new.self
+    (ne_false t (get_or k.tokens c.place_for-p.result outside) _ c.ne.ensures c.if-ne.false) c.copy_within.ensures.after

@@ -24,20 +24,20 @@ loop-n-init c = (search rules, refl, first-size _ 9)
 pub overflow_cast-sizes : goal.overflow_cast-sizes
 overflow_cast-sizes c =
     let a = c.args in
-    let m : length a.objects ≡ 8 = search rules in
-    omega (arith, c.requires c.loop-n.n, ap places (at_any a.objects c.loop-n.n outside no_net (omega arith)))
+    let m : length a.objects.now ≡ 8 = search rules in
+    omega (arith, c.requires c.loop-n.n (omega arith), ap places (at_any a.objects.now c.loop-n.n outside no_net (omega arith)))
 
 pub loop-n-preserved : goal.loop-n-preserved
 loop-n-preserved c =
     let a = c.args in
-    let m : length a.objects ≡ 8 = search rules in (
+    let m : length a.objects.now ≡ 8 = search rules in (
       omega arith,
       (simp length-set c.loop-n.invariant.1),
-      filled_turn (size_of_type a.objects) c.loop-n.sizes (c.loop-n.n + 1) _ (omega arith) c.loop-n.invariant.2 (size-at a.objects c.loop-n.n outside (omega arith)),
+      filled_turn (size_of_type a.objects.now) c.loop-n.sizes (c.loop-n.n + 1) _ (omega arith) c.loop-n.invariant.2 (size-at a.objects.now c.loop-n.n outside (omega arith)),
     )
 
 pub returns : goal.returns
 returns c =
     let a = c.args in
     let e : c.loop-n.n + 1 ≡ 9 = omega arith in
-    listed_all (size_of_type a.objects) c.loop-n.sizes 9 c.loop-n.invariant.1 (rw e at c.loop-n.invariant.2)
+    listed_all (size_of_type a.objects.now) c.loop-n.sizes 9 c.loop-n.invariant.1 (rw e at c.loop-n.invariant.2)

@@ -1,49 +1,40 @@
--- `put_token` meets its contract: the parts of a row's line, one after the other.
+-- `put_token` meets its contract: the parts of a line, one after the other.
 use Prim.Native.Nat.{◌+◌, ◌≤◌}
+use mathlib.Core.Path.{ap}
 use native.Mathlib.Omega.{arith}
-use lib.ListN.{length, get_or}
+use lib.ListN.{length, take}
 use Rattle.text.specs.Printed.{decimal, end_text}
-use Rattle.marking.proofs.LinesLaid.{counts_at, size_few, row_line, row-length, lay-line}
+use Rattle.marking.specs.Held.{as_sizes}
+use Rattle.marking.proofs.LinesLaid.{held_line, held-length, lay-line}
 use Rattle.marking_write.proofs.put_token.Goals as goal
-use Rattle.marking_write.proofs.put_token.Goals.{After-row_size}
-
--- the counts are within the row
-few : (c : After-row_size) → c.row_size.result ≤ 32
-few c = size_few c.args.sizes c.args.rows.now c.args.from _ c.requires.2 c.row_size.ensures
+use Rattle.marking_write.proofs.put_token.Goals.{After-size_at}
 
 -- the line fits
-room : (c : After-row_size) →
-    let a = c.args in
-    (a.at + (7 + length (decimal (get_or a.rows.now a.from 0)) + length (end_text decimal (counts_at a.rows.now a.from c.row_size.result)))
-    ≤ length a.out.now)
+room : (c : After-size_at) → let t = c.args.t.now in
+    (c.args.at + (7 + length (decimal t.place) + length (end_text decimal (take c.size_at.result t.counts))) ≤ length c.args.out.now)
 room c =
-    omega (arith, row-length c.args.sizes c.args.rows.now c.args.from _ c.requires.2 c.row_size.ensures, c.requires.3)
-
-pub overflow_add-end : goal.overflow_add-end
-overflow_add-end c = omega (arith, few c)
+    let t = c.args.t.now in
+    let counts = ap (λ n. length (end_text decimal (take n t.counts))) c.size_at.ensures in
+    omega (arith, held-length (as_sizes c.args.z.now) t, counts, c.requires.1)
 
 pub put_text-place-requires : goal.put_text-place-requires
-put_text-place-requires c = omega (arith, room (goal.at.put_text-place-requires c).After-row_size)
-
-pub overflow_cast-p : goal.overflow_cast-p
-overflow_cast-p c =
-    omega (arith, c.type_inv.rows c.args.from)
+put_text-place-requires c = omega (arith, room (goal.at.put_text-place-requires c).After-size_at)
 
 pub put_number-colon-requires : goal.put_number-colon-requires
 put_number-colon-requires c =
-    omega (arith, room (goal.at.put_number-colon-requires c).After-row_size, c.put_text-place.ensures.0)
+    omega (arith, room (goal.at.put_number-colon-requires c).After-size_at, c.put_text-place.ensures.0)
 
-pub put_text-counts-requires : goal.put_text-counts-requires
-put_text-counts-requires c =
-    omega (arith, room (goal.at.put_text-counts-requires c).After-row_size, c.put_text-place.ensures.0, c.put_number-colon.ensures.0)
+pub put_text-list-requires : goal.put_text-list-requires
+put_text-list-requires c =
+    omega (arith, room (goal.at.put_text-list-requires c).After-size_at, c.put_text-place.ensures.0, c.put_number-colon.ensures.0)
 
 pub put_list-requires : goal.put_list-requires
 put_list-requires c =
-    omega (arith, room (goal.at.put_list-requires c).After-row_size, c.put_text-place.ensures.0, c.put_number-colon.ensures.0, c.put_text-counts.ensures.0)
+    omega (arith, room (goal.at.put_list-requires c).After-size_at, c.put_text-place.ensures.0, c.put_number-colon.ensures.0, c.put_text-list.ensures.0)
 
 pub returns : goal.returns
 returns c =
-    let a = c.args in
-    rw (row_line a.sizes a.rows.now a.from _ c.requires.2 c.row_size.ensures)
-    (lay-line _ (counts_at a.rows.now a.from c.row_size.result) a.out.now a.at
-    c.put_text-place.ensures c.put_number-colon.ensures c.put_text-counts.ensures c.put_list.ensures)
+    let t = c.args.t.now in
+    rw (held_line (as_sizes c.args.z.now) t, ← c.size_at.ensures)
+    (lay-line t.place (take c.size_at.result t.counts) c.args.out.now c.args.at
+    c.put_text-place.ensures c.put_number-colon.ensures c.put_text-list.ensures c.put_list.ensures)

@@ -1,32 +1,45 @@
--- `read_plant` answers what the lines of a model say: a case for each of its three parts that is refused, and one for the model.
-use mathlib.Core.Path.{◌∙◌}
-use Rattle.model_text.proofs.PlantLaws.{outline_refused, outline_fits, system_refused, fits, listed-refused, plant_read}
+-- `read_plant` reads the lines of a model: one of them is refused, or all are held.
+use mathlib.Core.Path.{ap}
+use Rattle.std.proofs.lemmas.Result.{err_from_is_err_and}
+use Rattle.model.specs.declared.Model.{Model}
+use Rattle.model_text.proofs.PlantLaws.{outline_refused, outline_fits, system_refused, fits, eventless_yet, listed_refused, listed_few, events_read}
 use Rattle.model_read.proofs.read_plant.Goals as goal
 
-pub returns-in_default : goal.returns-in_default
-returns-in_default c =
-    c.no_model.ensures ∙ outline_refused _ _ _ c.outline_at-a.ensures _ c.in_default.is
+pub returns-in_err-outline : goal.returns-in_err-outline
+returns-in_err-outline c =
+    let p = err_from_is_err_and c.from_residual.result c.from_residual.ensures.1 in
+    rw (p.1, p.2) (outline_refused c.args.r.now _ c.in_err-outline.ensures)
 
-pub system_at-b-requires : goal.system_at-b-requires
-system_at-b-requires c =
-    outline_fits _ _ _ c.outline_at-a.ensures _ c.in-Past.is
+pub system-requires : goal.system-requires
+system-requires c =
+    let few = outline_fits c.args.r.now _ c.in_ok-outline.ensures in
+    (few.0, few.1, ap (λ (m : Model). m.objects) c.requires)
 
-pub returns-in_default-e : goal.returns-in_default-e
-returns-in_default-e c =
-    c.no_model-in_default-e.ensures
-    ∙ system_refused _ _ _ c.outline_at-a.ensures _ c.in-Past.is _ c.system_at-b.ensures _ c.in_default-e.is
+pub returns-in_err-system : goal.returns-in_err-system
+returns-in_err-system c =
+    let p = err_from_is_err_and c.from_residual-in_err-system.result c.from_residual-in_err-system.ensures.1 in
+    rw (p.1, p.2) (system_refused c.args.r.now _ c.in_ok-outline.ensures _ (rw c.requires at c.in_err-system.ensures))
 
-pub listed_at-c-requires : goal.listed_at-c-requires
-listed_at-c-requires c =
-    fits _ _ _ c.outline_at-a.ensures _ c.in-Past.is _ c.system_at-b.ensures _ c.in-Past-e.is _ c.frame_of.ensures
+pub returns-in_err-listed : goal.returns-in_err-listed
+returns-in_err-listed c =
+    let p = err_from_is_err_and c.from_residual-in_err-listed.result c.from_residual-in_err-listed.ensures.1 in
+    rw (p.1, p.2) (listed_refused c.args.r.now _ c.in_ok-outline.ensures _ (rw c.requires at c.in_ok-system.ensures) _ c.in_err-listed.ensures)
 
-pub returns-in_default-f : goal.returns-in_default-f
-returns-in_default-f c =
-    c.no_model-in_default-f.ensures
-    ∙ listed-refused _ _ _ c.outline_at-a.ensures _ c.in-Past.is _ c.system_at-b.ensures _ c.in-Past-e.is _ c.frame_of.ensures
-    _ c.listed_at-c.ensures _ c.in_default-f.is
+pub events-requires-clause-fitting : goal.events-requires-clause-fitting
+events-requires-clause-fitting c = fits c.args.r.now _ c.in_ok-outline.ensures _ (rw c.requires at c.in_ok-system.ensures)
+
+pub events-requires-clause-none : goal.events-requires-clause-none
+events-requires-clause-none c = (
+  listed_few c.args.r.now _ c.in_ok-outline.ensures _ (rw c.requires at c.in_ok-system.ensures) _ c.in_ok-listed.ensures,
+  eventless_yet c.args.r.now _ c.in_ok-outline.ensures _ (rw c.requires at c.in_ok-system.ensures),
+)
+
+pub returns-in_err-events : goal.returns-in_err-events
+returns-in_err-events c =
+    let p = err_from_is_err_and c.from_residual-in_err-events.result c.from_residual-in_err-events.ensures.1 in
+    rw (p.1, p.2)
+    (events_read c.args.r.now _ c.in_ok-outline.ensures _ (rw c.requires at c.in_ok-system.ensures) _ c.in_ok-listed.ensures _ c.in_err-events.ensures)
 
 pub returns : goal.returns
 returns c =
-    plant_read _ _ _ c.outline_at-a.ensures _ c.in-Past.is _ c.system_at-b.ensures _ c.in-Past-e.is _ c.frame_of.ensures
-    _ c.listed_at-c.ensures _ c.in-Past-f.is _ c.model_of-model.ensures
+    events_read c.args.r.now _ c.in_ok-outline.ensures _ (rw c.requires at c.in_ok-system.ensures) _ c.in_ok-listed.ensures _ c.in_ok-events.ensures

@@ -2,7 +2,6 @@
 use mathlib.Core.Path.{◌≡◌, sym, ◌∙◌}
 use mathlib.Core.Bool.{true}
 use native.Mathlib.Omega.{arith}
-use Rattle.model.proofs.HeldTests.{held-is, most-places}
 use Rattle.marking.specs.Printed.{marking_text}
 use Rattle.reader.specs.Answers.{held_both}
 use Rattle.reader.proofs.ReadingLaws.{both_model}
@@ -11,24 +10,21 @@ use Rattle.reader.proofs.write_marking.Goals as goal
 use Rattle.reader.proofs.write_marking.Goals.{Else-not-test_marking}
 
 -- the two passed their tests
-passed : (c : Else-not-test_marking) → let a = c.args in held_both a.m a.k ≡ true
+passed : (c : Else-not-test_marking) → let a = c.args in held_both a.m.now a.k.now ≡ true
 passed c = sym c.test_marking.ensures ∙ c.if-not-test_marking.false
 
 pub returns-then-not-test_marking : goal.returns-then-not-test_marking
 returns-then-not-test_marking c = write_unheld _ _ _ (sym c.test_marking.ensures ∙ c.if-not-test_marking.true)
 
-pub overflow_cast-m : goal.overflow_cast-m
-overflow_cast-m c = omega (arith, most-places _ (held-is _ (both_model _ _ (passed (goal.at.overflow_cast-m c).Else-not-test_marking))))
-
-pub sizes-requires : goal.sizes-requires
-sizes-requires c = both_model _ _ (passed (goal.at.sizes-requires c).Else-not-test_marking)
+pub place_sizes-requires : goal.place_sizes-requires
+place_sizes-requires c = both_model _ _ (passed c)
 
 pub write-requires : goal.write-requires
 write-requires c =
-    let a = write_asks _ _ (passed (goal.at.write-requires c).Else-not-test_marking) _ c.sizes.ensures in
+    let a = write_asks _ _ (passed (goal.at.write-requires c).Else-not-test_marking) _ c.place_sizes.ensures in
     (a.0, a.1, omega arith, omega arith)
 
 pub returns : goal.returns
 unfolding marking_text
 returns c =
-    write_laid _ _ _ (passed (goal.at.returns c).Else-not-test_marking) _ c.sizes.ensures _ _ _ c.written_as.ensures c.write.ensures
+    write_laid _ _ _ (passed (goal.at.returns c).Else-not-test_marking) _ c.place_sizes.ensures _ _ _ c.written_as.ensures c.write.ensures

@@ -1,66 +1,47 @@
-use Prim.Native.Nat.{ℕ, ◌+◌, ◌-◌, ◌*◌, ◌≤◌, ◌<◌}
-use mathlib.Core.Path.{◌≡◌, refl, sym, ◌∙◌, ap}
+use Prim.Native.Nat.{◌+◌, ◌-◌, ◌≤◌, ◌<◌}
+use mathlib.Core.Path.{refl, sym, ◌∙◌}
 use native.Mathlib.Omega.{arith}
-use lib.ListN.{length, drop, get_or, take, length-set}
-use Rattle.eos.specs.Vector.{◌⊕◌, unit}
+use lib.ListN.{length, get_or, length-set}
 use Rattle.eos.proofs.VectorSums.{nth_zero}
-use Rattle.marking.specs.Rows.{rows_in}
+use Rattle.marking.proofs.TokenOrder.{outside}
+use Rattle.marking.proofs.KeptLaws.{place_at}
 use Rattle.model.specs.Rules.{nth}
-use Rattle.step.specs.Verdict.{outer_rows}
+use Rattle.step.specs.Verdict.{outer_tokens}
 use Rattle.step.proofs.VectorArrays.{put_unit, unit_more}
-use Rattle.step.proofs.RowProjections.{place_at, first_of, sum-start, sum_turn, sum_end, place_in, outer_none, outer_more}
+use Rattle.step.proofs.TokenSums.{sum-start, sum_turn, sum_end, place_in, outer_none, outer_more}
 use Rattle.step_projections.proofs.outer_of.Goals as goal
-use Rattle.step_projections.proofs.outer_of.Goals.{In-loop-i}
+use Rattle.step_projections.proofs.outer_of.Goals.{In-loop-t}
 
--- the row's place
-place : (c : In-loop-i) → (1 ≤ get_or c.args.rows.now (c.loop-i.i * 33) 0) × (get_or c.args.rows.now (c.loop-i.i * 33) 0 ≤ 32)
-place c =
-    place_at c.args.n c.args.rows.now c.loop-i.i c.requires.places c.loop-i-test.true
+-- the net-token's place
+place : (c : In-loop-t) → (1 ≤ (get_or c.args.tokens.now c.loop-t.t-index outside).place) × ((get_or c.args.tokens.now c.loop-t.t-index outside).place ≤ 32)
+place c = place_at c.args.tokens.now c.loop-t.t-index outside c.requires.places c.loop-t-test.true
 
-pub loop-i-init : goal.loop-i-init
-loop-i-init c =
-    let a = c.args in
-    (omega arith, refl, (λ k. omega (arith, nth_zero 32 k)), sum-start place_in outer_rows outer_none outer_more (rows_in a.n a.rows.now))
-
-pub overflow_cast-p : goal.overflow_cast-p
-overflow_cast-p c = omega (arith, place (goal.at.overflow_cast-p c).In-loop-i)
+pub loop-t-init : goal.loop-t-init
+loop-t-init c =
+    (refl, (λ k. omega (arith, nth_zero 32 k)), sum-start place_in outer_tokens outer_none outer_more c.args.tokens.now)
 
 pub overflow_sub-p : goal.overflow_sub-p
-overflow_sub-p c = omega (arith, place (goal.at.overflow_sub-p c).In-loop-i)
-
-pub offset_bounds-sums-p : goal.offset_bounds-sums-p
-offset_bounds-sums-p c = omega (arith, place (goal.at.offset_bounds-sums-p c).In-loop-i)
+overflow_sub-p c = omega (arith, place (goal.at.overflow_sub-p c).In-loop-t)
 
 pub bounds-sums-p : goal.bounds-sums-p
-bounds-sums-p c = omega (arith, place (goal.at.bounds-sums-p c).In-loop-i)
+bounds-sums-p c = omega (arith, place (goal.at.bounds-sums-p c).In-loop-t)
 
-pub overflow_add-sums : goal.overflow_add-sums
-overflow_add-sums c =
-    let a = c.args in
-    omega (arith, c.requires.few, c.loop-i.invariant.2 (get_or a.rows.now (c.loop-i.i * 33) 0 - 1))
+pub bounds-sums-p-in-loop-t : goal.bounds-sums-p-in-loop-t
+bounds-sums-p-in-loop-t c = omega (arith, place (goal.at.bounds-sums-p-in-loop-t c).In-loop-t)
 
-pub offset_bounds-sums-p-in-loop-i : goal.offset_bounds-sums-p-in-loop-i
-offset_bounds-sums-p-in-loop-i c = omega (arith, place (goal.at.offset_bounds-sums-p-in-loop-i c).In-loop-i)
-
-pub bounds-sums-p-in-loop-i : goal.bounds-sums-p-in-loop-i
-bounds-sums-p-in-loop-i c = omega (arith, place (goal.at.bounds-sums-p-in-loop-i c).In-loop-i)
-
-pub loop-i-preserved : goal.loop-i-preserved
-loop-i-preserved c =
-    let a = c.args in
-    let i = c.loop-i.i in
-    let s = c.loop-i.sums in
-    let p = get_or a.rows.now (i * 33) 0 - 1 in
-    let h : p < length s = omega (arith, place (goal.at.loop-i-preserved c).In-loop-i) in
-    let e : s ⊕ unit p ≡ s ⊕ place_in (take 33 (drop (i * 33) a.rows.now)) = ap (λ (k : ℕ). s ⊕ unit (k - 1)) (sym (first_of a.rows.now (i * 33))) in (
-      omega arith,
-      length-set s p (nth s p + 1) ∙ c.loop-i.invariant.1,
-      rw (put_unit s p h) (unit_more s p i c.loop-i.invariant.2),
-      c.loop-i.invariant.3
-          ∙ rw (put_unit s p h, e) (sum_turn place_in outer_rows outer_none outer_more a.n a.rows.now i s c.loop-i-test.true),
+pub loop-t-preserved : goal.loop-t-preserved
+loop-t-preserved c =
+    let ts = c.args.tokens.now in
+    let i = c.loop-t.t-index in
+    let s = c.loop-t.sums in
+    let p = (get_or ts i outside).place - 1 in
+    let h : p < length s = omega (arith, place (goal.at.loop-t-preserved c).In-loop-t) in (
+      length-set s p (nth s p + 1) ∙ c.loop-t.invariant.0,
+      rw (put_unit s p h) (unit_more s p i c.loop-t.invariant.1),
+      c.loop-t.invariant.2
+          ∙ rw (put_unit s p h) (sum_turn place_in outer_tokens outer_none outer_more ts i s outside c.loop-t-test.true),
     )
 
 pub returns : goal.returns
 returns c =
-    let a = c.args in
-    sym (c.loop-i.invariant.3 ∙ sum_end place_in outer_rows outer_none outer_more a.n a.rows.now c.loop-i.i c.loop-i.sums c.loop-i-test.false c.loop-i.invariant.1)
+    sym (c.loop-t.invariant.2 ∙ sum_end place_in outer_tokens outer_none outer_more c.args.tokens.now c.loop-t.t-index c.loop-t.sums c.loop-t-test.false c.loop-t.invariant.0)

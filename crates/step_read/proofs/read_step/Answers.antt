@@ -1,6 +1,22 @@
--- `read_step` meets its contract: the lines of the taken are read, the reader is moved to where they ended, and the lines of the given are read there.
+-- `read_step` reads the taken, and where they ended the given.
+use Rattle.std.proofs.lemmas.Result.{err_from_is_err_and}
+use Rattle.marking.specs.Held.{as_sizes}
+use Rattle.marking.specs.Reading.{limits}
+use Rattle.step.proofs.StepReading.{untaken}
 use Rattle.step_read.proofs.GivingLaws.{step-joined}
 use Rattle.step_read.proofs.read_step.Goals as goal
 
+pub returns-in_err-event : goal.returns-in_err-event
+returns-in_err-event c =
+    let a = c.args in
+    let p = err_from_is_err_and c.from_residual.result c.from_residual.ensures.1 in
+    rw (p.1, p.2) (untaken (limits 256 65535) (as_sizes c.args.z.now) a.events a.r.now _ c.in_err-event.ensures)
+
+pub returns-in_err-give : goal.returns-in_err-give
+returns-in_err-give c =
+    let a = c.args in
+    let p = err_from_is_err_and c.from_residual-in_err-give.result c.from_residual-in_err-give.ensures.1 in
+    rw (p.1, p.2) (step-joined (limits 256 65535) (as_sizes c.args.z.now) a.events a.r.now _ _ _ _ c.in_ok-event.ensures c.in_err-give.ensures)
+
 pub returns : goal.returns
-returns c = step-joined _ _ _ _ _ _ _ c.taking_from-take.ensures _ _ (rw (c.moved.ensures, c.taking_end.ensures) at c.giving_from.ensures)
+returns c = let a = c.args in step-joined (limits 256 65535) (as_sizes c.args.z.now) a.events a.r.now _ _ _ _ c.in_ok-event.ensures c.in_ok-give.ensures

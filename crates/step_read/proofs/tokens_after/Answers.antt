@@ -1,20 +1,29 @@
--- `tokens_after` meets its contract: the number of net-tokens, and then their lines.
-use mathlib.Core.Path.{ap, sym, ◌∙◌}
-use Rattle.text.specs.Answers.{ended_in}
-use Rattle.text.proofs.Loops.{line-got, line-bad}
-use Rattle.marking.proofs.BlockLaws.{counted-few}
-use Rattle.step.specs.Answers.{token_rows}
-use Rattle.step.proofs.TokenLoop.{no_rows, tokens-refused, tokens-counted}
+-- `tokens_after` reads the number of net-tokens, and then their lines.
+use mathlib.Core.List.{map}
+use Rattle.std.proofs.lemmas.Result.{err_from_is_err_and}
+use Rattle.marking.specs.Held.{as_sizes, hold_token}
+use Rattle.marking.proofs.BlockLaws.{block_refused, block_counted, counted_few}
+use Rattle.step.specs.Answers.{hold_rows}
+use Rattle.step.proofs.TokenLoop.{counted_rows, still_refused}
 use Rattle.step_read.proofs.tokens_after.Goals as goal
 
-pub returns-in_default : goal.returns-in_default
-returns-in_default c =
-    ap no_rows (c.ended_of.ensures ∙ ap ended_in c.in_default.is) ∙ tokens-refused _ _ _ _ _ (line-bad _ _ (sym c.in_default.is ∙ c.number_line-line.ensures))
+pub returns-in_err-n : goal.returns-in_err-n
+returns-in_err-n c =
+    let a = c.args in
+    let p = err_from_is_err_and c.from_residual.result c.from_residual.ensures.1 in
+    rw (p.1, p.2) (block_refused hold_rows a.key.now 256 (as_sizes a.z.now) a.r.now _ c.in_err-n.ensures)
 
-pub rows_at-requires : goal.rows_at-requires
-rows_at-requires c =
-    (counted-few _ _ _ _ _ _ (line-got _ _ _ (sym c.in-Value.is ∙ c.number_line-line.ensures)), c.requires)
+pub net_tokens-requires : goal.net_tokens-requires
+net_tokens-requires c = let a = c.args in counted_few hold_rows a.key.now 256 (as_sizes a.z.now) a.r.now _ c.in_ok-n.ensures
+
+pub returns-in_err-net_tokens : goal.returns-in_err-net_tokens
+returns-in_err-net_tokens c =
+    let a = c.args in
+    let p = err_from_is_err_and c.from_residual-in_err-net_tokens.result c.from_residual-in_err-net_tokens.ensures.1 in
+    rw (p.1, p.2)
+    (block_counted hold_rows a.key.now 256 (as_sizes a.z.now) a.r.now _ c.in_ok-n.ensures _ (still_refused (map hold_token) hold_rows _ _ c.in_err-net_tokens.ensures))
 
 pub returns : goal.returns
 returns c =
-    c.rows_at.ensures ∙ ap token_rows (tokens-counted _ _ _ _ _ _ (line-got _ _ _ (sym c.in-Value.is ∙ c.number_line-line.ensures)))
+    let a = c.args in
+    block_counted hold_rows a.key.now 256 (as_sizes a.z.now) a.r.now _ c.in_ok-n.ensures _ (counted_rows _ _ _ _ _ _ c.in_ok-net_tokens.ensures)

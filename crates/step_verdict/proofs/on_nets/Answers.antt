@@ -1,54 +1,48 @@
 -- `on_nets` asks the tests 9 and 10 in their order.
-use borrow.Author.Rules.{rules}
-use mathlib.Core.Path.{◌≡◌, sym, ap, ◌∙◌}
-use Rattle.eos.specs.Causes.{failing, numbered}
-use Rattle.marking.specs.Rows.{rows_in}
-use Rattle.step.specs.Verdict.{inner_taken_in, inner_given_in}
-use Rattle.step.proofs.VerdictLaws.{taken_same, given_same, stop_short, stop_unequal, pass_nets}
+use Prim.Native.Nat.{ℕ}
+use mathlib.Core.Bool.{Bool}
+use mathlib.Core.Path.{sym, ap, ◌∙◌}
+use native.Mathlib.Omega.{arith}
+use Rattle.eos.specs.Vector.{le_v}
+use Rattle.eos.specs.Causes.{failing}
+use Rattle.model.specs.Held.{row_in}
+use Rattle.step.specs.VerdictParts.{even_in}
+use Rattle.step.specs.Verdict.{told}
+use Rattle.step.proofs.FirstFailing.{failing_below}
+use Rattle.step.proofs.VerdictLaws.{told_some, taken_same, given_same, stop_short, stop_unequal, pass_nets}
 use Rattle.step_verdict.proofs.on_nets.Goals as goal
-use Rattle.step_verdict.proofs.on_nets.Goals.{After-short_net-short, After-unbalanced_net-unbalanced}
 
--- what each test says
-says-taken : (c : After-short_net-short) → let a = c.args in let r = a.rule.now in
-    c.short_net-short.result ≡ numbered (failing r.nets 0 (inner_taken_in r (rows_in a.take a.taken.now)))
-says-taken c =
+pub overflow_add-result : goal.overflow_add-result
+overflow_add-result c =
+    let q = c.args.rule.now in
+    let f : ℕ → Bool = λ n. le_v (row_in 32 q.pre.inner n) (row_in 32 c.inner_of.new.sums n) in
+    omega (arith, failing_below q.nets 0 f c.in-Some.net (told_some (failing q.nets 0 f) c.in-Some.net c.in-Some.ensures), c.requires.0.nets)
+
+pub returns-in-Some : goal.returns-in-Some
+returns-in-Some c =
     let a = c.args in
-    c.short_net-short.ensures
-    ∙ ap numbered (taken_same a.rule.now (rows_in a.take a.taken.now) _ c.requires.0.nets c.inner_of.ensures)
+    sym (stop_short _ a.rule.now a.taken.now a.given.now c.in-Some.net
+    (c.in-Some.ensures ∙ ap told (taken_same a.rule.now a.taken.now _ c.requires.0.nets c.inner_of.ensures)))
 
-says-given : (c : After-unbalanced_net-unbalanced) → let a = c.args in let r = a.rule.now in
-    c.unbalanced_net-unbalanced.result ≡ numbered (failing r.nets 0 (inner_given_in r (rows_in a.take a.taken.now) (rows_in a.give a.given.now)))
-says-given c =
+pub overflow_add-result-in-Some-unbalanced_net : goal.overflow_add-result-in-Some-unbalanced_net
+overflow_add-result-in-Some-unbalanced_net c =
+    let q = c.args.rule.now in
+    let n = c.in-Some-unbalanced_net.net in
+    let f : ℕ → Bool = even_in c.inner_of-2.new.sums c.inner_of.new.sums q.pre.inner q.post.inner in
+    omega (arith, failing_below q.nets 0 f n (told_some (failing q.nets 0 f) n c.in-Some-unbalanced_net.ensures), c.requires.0.nets)
+
+pub returns-in-Some-unbalanced_net : goal.returns-in-Some-unbalanced_net
+returns-in-Some-unbalanced_net c =
     let a = c.args in
-    c.unbalanced_net-unbalanced.ensures
-    ∙ ap numbered
-    (given_same a.rule.now (rows_in a.take a.taken.now) _ c.requires.0.nets c.inner_of.ensures (rows_in a.give a.given.now) _ c.inner_of-2.ensures)
-
-pub returns-then-short-ne0 : goal.returns-then-short-ne0
-returns-then-short-ne0 c =
-    let a = c.args in
-    c.turned.ensures
-    ∙ sym (stop_short a.take a.rule.now (rows_in a.take a.taken.now) (rows_in a.give a.given.now) c.short_net-short.result
-    (says-taken (goal.at.returns-then-short-ne0 c).After-short_net-short) c.if-short-ne0.true)
-
-pub unbalanced_net-unbalanced-requires : goal.unbalanced_net-unbalanced-requires
-unbalanced_net-unbalanced-requires c =
-    let l = c.requires.0 in
-    (l.nets, c.inner_of-2.ensures.long, c.inner_of.ensures.long, search rules, search rules, c.inner_of.ensures.small, l.post)
-
-pub returns-then-unbalanced-ne0 : goal.returns-then-unbalanced-ne0
-returns-then-unbalanced-ne0 c =
-    let a = c.args in
-    let g = goal.at.returns-then-unbalanced-ne0 c in
-    c.turned-then-unbalanced-ne0.ensures
-    ∙ sym (stop_unequal a.take a.rule.now (rows_in a.take a.taken.now) (rows_in a.give a.given.now)
-    (sym (says-taken g.After-short_net-short) ∙ c.if-short-ne0.false)
-    c.unbalanced_net-unbalanced.result (says-given g.After-unbalanced_net-unbalanced) c.if-unbalanced-ne0.true)
+    let q = a.rule.now in
+    sym (stop_unequal _ q a.taken.now a.given.now
+    (c.in_default.ensures ∙ ap told (taken_same q a.taken.now _ c.requires.0.nets c.inner_of.ensures)) c.in-Some-unbalanced_net.net
+    (c.in-Some-unbalanced_net.ensures ∙ ap told (given_same q a.taken.now _ c.requires.0.nets c.inner_of.ensures a.given.now _ c.inner_of-2.ensures)))
 
 pub returns : goal.returns
 returns c =
     let a = c.args in
-    let g = goal.at.returns c in
-    sym (pass_nets a.take a.rule.now (rows_in a.take a.taken.now) (rows_in a.give a.given.now)
-    (sym (says-taken g.After-short_net-short) ∙ c.if-short-ne0.false)
-    (sym (says-given g.After-unbalanced_net-unbalanced) ∙ c.if-unbalanced-ne0.false))
+    let q = a.rule.now in
+    sym (pass_nets _ q a.taken.now a.given.now
+    (c.in_default.ensures ∙ ap told (taken_same q a.taken.now _ c.requires.0.nets c.inner_of.ensures))
+    (c.in_default-unbalanced_net.ensures ∙ ap told (given_same q a.taken.now _ c.requires.0.nets c.inner_of.ensures a.given.now _ c.inner_of-2.ensures)))

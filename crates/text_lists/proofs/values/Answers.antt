@@ -1,50 +1,55 @@
-use borrow.Author.Rules.{rules}
-use Prim.Native.Nat.{◌-◌, ◌%◌}
+use Rattle.std.proofs.Common.{rules}
 use mathlib.Core.Path.{refl, sym, ap, ◌∙◌}
 use mathlib.Core.Bool.{true, false}
 use native.Mathlib.Omega.{arith}
 use native.Mathlib.Nat.{sub-zero}
-use lib.ListN.{length, length-set}
+use Rattle.text.specs.Capped.{cap_signed}
+use Rattle.text.proofs.NumberLaws.{missing_of, exact_of}
+use Rattle.text.proofs.ListLaws.{going_start, turn_missing, turn_more, turn_done, rows_if}
+use Rattle.std.specs.declared.result.Result.TheVariants.{Err}
+use Rattle.std.proofs.Math.Facts.{to_z-of_z}
+use mir.Syntax.{w32}
+use mir.Val.{SFits, to_z, of_z}
+use lib.ListN.{set, length-set}
+use lib.Seq.{set_out}
+use mathlib.Core.Path.{◌≡◌}
 use Rattle.text.specs.Number.{signed_if, item}
 use Rattle.text.specs.Lists.{stop_of}
-use Rattle.text.proofs.NumberLaws.{Exact, CappedSigned, missing-signed, exact_signed}
-use Rattle.text.proofs.ListLaws.{rows_if, going_start, turn_missing, turn_more, turn_done}
+use Prim.Native.Nat.{◌-◌}
 use Rattle.text_lists.proofs.values.Goals as goal
-use Rattle.text_lists.proofs.values.Goals.{In-Weight}
-
--- what `value_item` read in a turn
-read : (c : In-Weight) →
-    Exact (item (signed_if c.args.minus) (stop_of (c.args.n - c.loop-i.i - 1)) c.args.s.now c.loop-i.at) (CappedSigned c.in-Weight.above c.in-Weight.below) c.in-Weight.end
-read c =
-    exact_signed _ _ _ _ (sym c.in-Weight.is ∙ (rw c.stop_of-stop.ensures at c.value_item.ensures))
+use Rattle.text_lists.proofs.values.Goals.{then-i-lt32, else-i-lt32}
 
 pub loop-i-init : goal.loop-i-init
-loop-i-init c = (search rules, refl, refl, rw sub-zero (going_start _ _ _))
+loop-i-init g c = (refl, rw (sub-zero, c.held-row.ensures) (going_start g.V.Value.held _ _ _))
 
 pub returns-in_default : goal.returns-in_default
-returns-in_default c =
-    c.no_values.ensures
-    ∙ sym
-    (c.loop-i.invariant.3
-    ∙ turn_missing _ _ _ _ _ _ _ _ _ _ c.loop-i-test.true (missing-signed _ (sym c.in_default.is ∙ (rw c.stop_of-stop.ensures at c.value_item.ensures))))
+returns-in_default g c =
+    ap Err c.fault_at.ensures
+    ∙ sym (c.loop-i.invariant.1 ∙ turn_missing g.V.Value.held _ _ (signed_if g.V.Value.SIGNED) c.args.s.now _ _ _ _ _ c.loop-i-test.true (missing_of cap_signed (item (signed_if g.V.Value.SIGNED) (stop_of (c.args.n - c.loop-i.i - 1)) c.args.s.now c.loop-i.at) (sym c.in_default.is ∙ (rw (c.stop_of.ensures, c.SIGNED.ensures) at c.value_item.ensures))))
 
 pub loop-i-preserved : goal.loop-i-preserved
-loop-i-preserved c =
-    let f = c.ranges in
-    let h = c.loop-i-test.true in (
-      omega (arith, h),
-      ap length c.keep.ensures ∙ length-set c.loop-i.ups c.loop-i.i (c.in-Weight.above % 65536) ∙ c.loop-i.invariant.1,
-      ap length c.keep-in-loop-i.ensures ∙ length-set c.loop-i.downs c.loop-i.i (c.in-Weight.below % 65536) ∙ c.loop-i.invariant.2,
-      c.loop-i.invariant.3
-          ∙ turn_more _ _ _ _ _ _ _ _ _ _ f.hi.fits h _ _ _ (read (goal.at.loop-i-preserved c).In-Weight) _ refl _ _ c.keep.ensures c.keep-in-loop-i.ensures,
+loop-i-preserved g c =
+    let a = c.args in
+    let l = c.loop-i in
+    let v = c.in-Some.field-0.value in
+    let f : SFits w32 v = search rules in
+    let same : to_z w32 (of_z w32 v) ≡ v = to_z-of_z f in
+    let read = exact_of cap_signed (item (signed_if g.V.Value.SIGNED) (stop_of (a.n - l.i - 1)) a.s.now l.at) c.in-Some.field-0 (sym c.in-Some.is ∙ (rw (c.stop_of.ensures, c.SIGNED.ensures) at c.value_item.ensures)) in
+    let k : c.if-i-lt32.row ≡ set l.row l.i (g.V.Value.held v) =
+    elim c.if-i-lt32.branch [
+      | then-i-lt32 w ↦ w.row-is ∙ ap (set l.row l.i) (w.held.ensures ∙ ap g.V.Value.held same)
+      | else-i-lt32 w ↦ w.row-is ∙ sym (set_out l.row l.i (g.V.Value.held v) (omega (arith, l.invariant.0, w.if-i-lt32.false)))
+    ] in (
+      rw k (length-set l.row l.i (g.V.Value.held v) ∙ l.invariant.0),
+      l.invariant.1 ∙ turn_more g.V.Value.held a.hi a.top (signed_if g.V.Value.SIGNED) a.s.now a.n l.at l.inside l.i l.row c.ranges.hi.fits c.loop-i-test.true v _ read _ (rw (c.unsigned_abs.ensures.value, same)) _ k,
     )
 
-pub returns-then-inside : goal.returns-then-inside
+pub returns-then-not-inside : goal.returns-then-not-inside
 unfolding rows_if
-returns-then-inside c =
-    sym (c.loop-i.invariant.3 ∙ turn_done _ _ _ _ _ _ _ _ _ _ c.loop-i-test.false true c.if-inside.true)
+returns-then-not-inside g c =
+    ap Err c.fault_at-then-not-inside.ensures
+    ∙ sym (c.loop-i.invariant.1 ∙ turn_done _ _ _ _ _ _ _ _ _ _ c.loop-i-test.false false c.if-not-inside.true)
 
 pub returns : goal.returns
 unfolding rows_if
-returns c =
-    c.no_values-2.ensures ∙ sym (c.loop-i.invariant.3 ∙ turn_done _ _ _ _ _ _ _ _ _ _ c.loop-i-test.false false c.if-inside.false)
+returns g c = sym (c.loop-i.invariant.1 ∙ turn_done _ _ _ _ _ _ _ _ _ _ c.loop-i-test.false true c.if-not-inside.false)

@@ -1,24 +1,24 @@
 -- `item` meets its contract: a number was read, and the byte after it decides.
-use borrow.Author.Rules.{rules}
+use Rattle.std.proofs.Common.{rules}
 use mathlib.Core.Path.{sym, ap, ◌∙◌}
-use Rattle.text.specs.Capped.{capped}
-use Rattle.text.proofs.NumberLaws.{number-within, missing_of, exact_of, answer_of_lem, item-missing, item_here, item_other}
+use Rattle.text.specs.Capped.{cap, capped}
+use Rattle.text.proofs.NumberLaws.{number-within, missing_of, exact_of, answer_is, item-missing, item_here, item_other}
 use Rattle.text_scan.proofs.item.Goals as goal
 
-pub returns-in_default : goal.returns-in_default
-returns-in_default c = sym (ap capped (item-missing _ _ _ _ (missing_of _ (sym c.in_default.is ∙ c.number.ensures))))
+pub returns-in_err-value : goal.returns-in_err-value
+returns-in_err-value c = c.from_residual.ensures ∙ sym (ap capped (item-missing _ _ _ _ (missing_of cap _ c.in_err-value.ensures)))
 
 pub overflow_add-result : goal.overflow_add-result
 overflow_add-result c =
-    let e = exact_of _ _ _ (sym c.in-Found.is ∙ c.number.ensures) in
+    let e = exact_of cap _ _ c.in_ok-value.ensures in
     let a = c.args in
     let h = number-within a.s.now a.at _ _ e.is in
     search rules
 
 pub returns-then-byte_at-stop : goal.returns-then-byte_at-stop
 returns-then-byte_at-stop c =
-    answer_of_lem _ _ _ (item_here _ _ _ _ _ (exact_of _ _ _ (sym c.in-Found.is ∙ c.number.ensures)) (sym c.byte_at.ensures ∙ c.if-byte_at-stop.true))
+    answer_is cap _ _ _ (item_here _ _ _ _ _ (exact_of cap _ _ c.in_ok-value.ensures) (sym c.byte_at.ensures ∙ c.if-byte_at-stop.true))
 
 pub returns : goal.returns
 returns c =
-    sym (ap capped (item_other _ _ _ _ _ (exact_of _ _ _ (sym c.in-Found.is ∙ c.number.ensures)) (λ h. c.if-byte_at-stop.false (c.byte_at.ensures ∙ h))))
+    sym (ap capped (item_other _ _ _ _ _ (exact_of cap _ _ c.in_ok-value.ensures) (λ h. c.if-byte_at-stop.false (c.byte_at.ensures ∙ h))))

@@ -1,23 +1,26 @@
 -- `value_item` meets its contract, by the byte at the position; past the end there is no minus sign.
-use borrow.Author.Rules.{rules}
-use borrow.Author.Tests.{eqb-true}
+use Rattle.std.proofs.Common.{rules}
 use mathlib.Core.Path.{sym, ap, ◌∙◌}
 use Rattle.text.specs.Capped.{capped_signed}
-use Rattle.text.proofs.Basics.{and_true}
 use Rattle.text.proofs.ReadLaws.{within_text}
 use Rattle.text.proofs.NumberLaws.{item_plain, item-minus}
+use borrow.Author.Tests.{eq-eqb, ne_eqb}
 use Rattle.text_scan.proofs.value_item.Goals as goal
+use Rattle.text_scan.proofs.value_item.Goals.{else-minus-via-then-minus+else-byte_at-eq45, else-minus-via-else-minus}
 
 pub overflow_add-at : goal.overflow_add-at
 overflow_add-at c =
     let a = c.args in
-    let h = within_text a.s.now a.at 44 (sym c.byte_at.ensures ∙ eqb-true _ _ (and_true a.minus _ c.if-minus-byte_at.true).1) in
+    let h = within_text a.s.now a.at 44 (sym c.byte_at.ensures ∙ c.if-byte_at-eq45.true) in
     search rules
 
-pub returns-then-minus-byte_at : goal.returns-then-minus-byte_at
-returns-then-minus-byte_at c =
-    c.negated.ensures ∙ sym (ap capped_signed (item-minus _ _ _ _ (rw c.byte_at.ensures at c.if-minus-byte_at.true)))
+pub returns-then-byte_at-eq45 : goal.returns-then-byte_at-eq45
+returns-then-byte_at-eq45 c =
+    c.negated.ensures ∙ sym (ap capped_signed (item-minus _ _ _ _ (rw (c.if-minus.true, eq-eqb _ _ (sym c.byte_at.ensures ∙ c.if-byte_at-eq45.true)))))
 
 pub returns : goal.returns
 returns c =
-    c.plain.ensures ∙ sym (ap capped_signed (item_plain _ _ _ _ (rw c.byte_at.ensures at c.if-minus-byte_at.false)))
+    c.plain.ensures ∙ sym (ap capped_signed (item_plain _ _ _ _ (elim c.else-minus.branch [
+      | else-minus-via-then-minus+else-byte_at-eq45 w ↦ rw (w.if-minus.true, ne_eqb _ _ (λ h. w.if-byte_at-eq45.false (w.byte_at.ensures ∙ h)))
+      | else-minus-via-else-minus w ↦ rw w.if-minus.false
+    ])))

@@ -1,50 +1,58 @@
+use Rattle.std.proofs.Common.{rules}
 use mathlib.Core.Path.{sym, ◌∙◌}
 use native.Mathlib.Omega.{arith}
+use Prim.Native.Nat.{◌<◌}
+use lib.ListN.{length}
 use Rattle.text.specs.Number.{number}
-use Rattle.text.proofs.NumberLaws.{Exact, Capped, missing_of, exact_of, number_forward}
-use Rattle.text.proofs.ListLaws.{any_empty, any_start, any_start_past, any_missing, any_end, any_last, any_other, any_past, any_more}
+use Rattle.text.specs.Capped.{cap}
+use Rattle.text.proofs.NumberLaws.{Exact, Capped, missing_if, exact_of, number_forward, number-within}
+use Rattle.text.proofs.ListLaws.{any_empty, any_start, any_missing, any_last, any_other, any_more}
 use Rattle.text_tokens.proofs.any_list.Goals as goal
-use Rattle.text_tokens.proofs.any_list.Goals.{In-Found, then-from-s+else-s-from-eq10, else-from-s}
+use Rattle.text_tokens.proofs.any_list.Goals.{In-Some}
 
 -- what `number` read in a turn
-read : (c : In-Found) →
-    Exact (number c.args.s.now c.loop-at.at) (Capped c.in-Found.value) c.in-Found.end
-read c = exact_of _ _ _ (sym c.in-Found.is ∙ c.number.ensures)
+read : (c : In-Some) → Exact (number c.args.s.now c.loop-end.at) (Capped c.in-Some.field-0.value) c.in-Some.field-0.end
+read c = exact_of cap _ _ c.in-Some.ensures
 
-pub returns-then-s-from-eq10 : goal.returns-then-s-from-eq10
-returns-then-s-from-eq10 c = let a = c.args in sym (any_empty a.s.now a.from c.if-s-from-eq10.true)
+-- it stands in the text
+here : (c : In-Some) → c.loop-end.at < length c.args.s.now
+here c =
+    let r = read c in
+    omega (arith, number_forward c.args.s.now c.loop-end.at r.value _ r.is, number-within c.args.s.now c.loop-end.at r.value _ r.is)
 
-pub loop-at-init : goal.loop-at-init
-loop-at-init c =
-    let a = c.args in
-    elim c.if-from-s.branch [
-      | then-from-s+else-s-from-eq10 w ↦ any_start a.s.now a.from w.if-s-from-eq10.false
-      | else-from-s w ↦ any_start_past a.s.now a.from w.if-from-s.false
-    ]
+pub returns-then-byte_at-eq10 : goal.returns-then-byte_at-eq10
+returns-then-byte_at-eq10 c = let a = c.args in sym (any_empty a.s.now a.from (sym c.byte_at.ensures ∙ c.if-byte_at-eq10.true))
 
-pub returns-in_default : goal.returns-in_default
-returns-in_default c =
-    sym (c.loop-at.invariant ∙ any_missing c.args.s.now c.loop-at.at (missing_of _ (sym c.in_default.is ∙ c.number.ensures)))
+pub loop-end-init : goal.loop-end-init
+loop-end-init c = let a = c.args in any_start a.s.now a.from (λ h. c.if-byte_at-eq10.false (c.byte_at.ensures ∙ h))
 
-pub returns-then-s-end : goal.returns-then-s-end
-returns-then-s-end c =
-    sym (c.loop-at.invariant ∙ any_past c.args.s.now c.loop-at.at c.loop-at-test.true _ _ (read (goal.at.returns-then-s-end c).In-Found).is c.if-s-end.true)
+pub returns-then-next-eq10 : goal.returns-then-next-eq10
+returns-then-next-eq10 c =
+    let i = (goal.at.returns-then-next-eq10 c).In-Some in
+    sym (c.loop-end.invariant ∙ any_last c.args.s.now c.loop-end.at (here i) _ _ (read i).is (sym c.byte_at-next.ensures ∙ c.if-next-eq10.true))
 
-pub returns-then-b-eq10 : goal.returns-then-b-eq10
-returns-then-b-eq10 c =
-    sym (c.loop-at.invariant ∙ any_last c.args.s.now c.loop-at.at c.loop-at-test.true _ _ (read (goal.at.returns-then-b-eq10 c).In-Found).is c.if-b-eq10.true)
+pub returns-then-next-ne44 : goal.returns-then-next-ne44
+returns-then-next-ne44 c =
+    let i = (goal.at.returns-then-next-ne44 c).In-Some in
+    sym (c.loop-end.invariant ∙ any_other c.args.s.now c.loop-end.at (here i) _ _ (read i).is (λ h. c.if-next-eq10.false (c.byte_at-next.ensures ∙ h)) (λ h. c.if-next-ne44.true (c.byte_at-next.ensures ∙ h)))
 
-pub returns-then-b-ne44 : goal.returns-then-b-ne44
-returns-then-b-ne44 c =
-    sym (c.loop-at.invariant ∙ any_other c.args.s.now c.loop-at.at c.loop-at-test.true _ _ (read (goal.at.returns-then-b-ne44 c).In-Found).is c.if-b-eq10.false c.if-b-ne44.true)
+pub overflow_add-at : goal.overflow_add-at
+overflow_add-at c =
+    let r = read (goal.at.overflow_add-at c).In-Some in
+    let h = number-within c.args.s.now c.loop-end.at r.value _ r.is in
+    search rules
 
-pub loop-at-smaller : goal.loop-at-smaller
-loop-at-smaller c =
-    omega (arith, number_forward c.args.s.now c.loop-at.at (read (goal.at.loop-at-smaller c).In-Found).value c.in-Found.end (read (goal.at.loop-at-smaller c).In-Found).is)
+pub loop-end-smaller : goal.loop-end-smaller
+loop-end-smaller c =
+    let i = (goal.at.loop-end-smaller c).In-Some in
+    let r = read i in
+    omega (arith, here i, number_forward c.args.s.now c.loop-end.at r.value _ r.is)
 
-pub loop-at-preserved : goal.loop-at-preserved
-loop-at-preserved c =
-    c.loop-at.invariant ∙ any_more c.args.s.now c.loop-at.at c.loop-at-test.true _ _ (read (goal.at.loop-at-preserved c).In-Found).is c.if-b-eq10.false c.if-b-ne44.false
+pub loop-end-preserved : goal.loop-end-preserved
+loop-end-preserved c =
+    let i = (goal.at.loop-end-preserved c).In-Some in
+    c.loop-end.invariant ∙ any_more c.args.s.now c.loop-end.at (here i) _ _ (read i).is (λ h. c.if-next-eq10.false (c.byte_at-next.ensures ∙ h)) (sym c.byte_at-next.ensures ∙ c.if-next-ne44.false)
 
 pub returns : goal.returns
-returns c = sym (c.loop-at.invariant ∙ any_end c.args.s.now c.loop-at.at c.loop-at-test.false)
+returns c =
+    sym (c.loop-end.invariant ∙ any_missing c.args.s.now c.loop-end.at (missing_if cap _ _ c.number.ensures c.in_default.not-Some))

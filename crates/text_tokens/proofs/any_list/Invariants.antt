@@ -5,8 +5,8 @@ use lib.ListN.{length}
 use Rattle.text.specs.Lists.{any_list, any_items}
 use Rattle.text_tokens.proofs.any_list.Given as goal
 
-abbrev pub invariant-loop-at : goal.invariant-loop-at
-invariant-loop-at l = any_list l.s l.from ≡ any_items (length l.s - l.at) l.s l.at
+abbrev pub invariant-loop-end : goal.invariant-loop-end
+invariant-loop-end l = any_list l.s l.from ≡ any_items (length l.s - l.at) l.s l.at
 
-abbrev pub decreases-loop-at : goal.decreases-loop-at
-decreases-loop-at l = length l.s - l.at
+abbrev pub decreases-loop-end : goal.decreases-loop-end
+decreases-loop-end l = length l.s - l.at

@@ -1,16 +1,15 @@
--- `counted` meets its contract: how the row ended says which outcome it stands for.
-use Rattle.text.specs.Token.{counts_at}
-use Rattle.text_tokens.proofs.TokenLaws.{counts_past, counts_stopped}
+-- `counted` meets its contract: how the list ended says which outcome it stands for.
+use Rattle.std.proofs.lemmas.Result.{err_from_is_err_and}
+use Rattle.text_tokens.proofs.TokenLaws.{counts_answer}
 use Rattle.text_tokens.proofs.counted.Goals as goal
 
-pub returns-in_default : goal.returns-in_default
-unfolding counts_at
-returns-in_default c =
-    let r = c.list_end-row in
-    counts_stopped c.args.place _ r.result _ r.ensures c.in_default.is
+pub returns-in_err-counts : goal.returns-in_err-counts
+returns-in_err-counts c =
+    let p = err_from_is_err_and c.from_residual.result c.from_residual.ensures.1 in
+    let a = c.args in
+    rw (p.1, p.2) ((counts_answer a.n a.hi a.place a.s.now a.at a.x c.ranges.hi.fits _ c.list_end.ensures).0 _ c.in_err-counts.was)
 
 pub returns : goal.returns
-unfolding counts_at
 returns c =
-    let r = c.list_end-row in
-    counts_past c.args.place _ r.result _ r.ensures c.in-Past.is
+    let a = c.args in
+    (counts_answer a.n a.hi a.place a.s.now a.at a.x c.ranges.hi.fits _ c.list_end.ensures).1 _ c.in_ok-counts.was

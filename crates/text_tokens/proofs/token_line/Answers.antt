@@ -7,43 +7,44 @@ use lib.ListN.{length, drop}
 use Rattle.text.specs.Bytes.{colon, starts}
 use Rattle.text.proofs.ByteLaws.{key_past}
 use Rattle.text.specs.Number.{number, item}
-use Rattle.text.specs.Answers.{token_row_of}
-use Rattle.text.proofs.NumberLaws.{Exact, Capped, missing_of, exact_of}
-use Rattle.text_tokens.proofs.TokenLaws.{token_other, token_missing, token_low, token_high, token_in}
+use Rattle.text.specs.Capped.{cap}
+use Rattle.std.specs.declared.result.Result.TheVariants.{Err}
+use Rattle.text.proofs.NumberLaws.{Exact, Capped, missing_if, exact_of}
+use Rattle.text_tokens.proofs.TokenLaws.{answer, refused, token_other, token_missing, token_low, token_high, token_in}
 use Rattle.text_tokens.proofs.token_line.Goals as goal
-use Rattle.text_tokens.proofs.token_line.Goals.{Else-not-starts, In-Found}
+use Rattle.text_tokens.proofs.token_line.Goals.{Else-not-starts, In-Some}
 
 key-is : (c : Else-not-starts) → let a = c.args in starts a.key.now (drop a.at a.s.now) ≡ true
 key-is c = sym c.starts.ensures ∙ c.if-not-starts.false
 
 -- what `item` read
-read : (c : In-Found) →
+read : (c : In-Some) →
     let a = c.args in
-    Exact (item number colon a.s.now (a.at + length a.key.now)) (Capped c.in-Found.value) c.in-Found.end
-read c = exact_of _ _ _ (sym c.in-Found.is ∙ c.item.ensures)
+    Exact (item number colon a.s.now (a.at + length a.key.now)) (Capped c.in-Some.field-0.value) c.in-Some.field-0.end
+read c = exact_of cap _ _ c.in-Some.ensures
 
 pub returns-then-not-starts : goal.returns-then-not-starts
-returns-then-not-starts c = c.no_token.ensures ∙ sym (ap token_row_of (token_other _ _ _ _ _ _ (sym c.starts.ensures ∙ c.if-not-starts.true)))
+returns-then-not-starts c = ap Err c.fault_at.ensures ∙ refused (token_other _ _ _ _ _ _ (sym c.starts.ensures ∙ c.if-not-starts.true))
 
 pub overflow_add-at : goal.overflow_add-at
 overflow_add-at c = let a = c.args in omega (arith, key_past a.key.now a.s.now a.at (key-is c))
 
 pub returns-in_default : goal.returns-in_default
 returns-in_default c =
-    c.no_token-in_default.ensures
-    ∙ sym (ap token_row_of (token_missing _ _ _ _ _ _ (key-is (goal.at.returns-in_default c).Else-not-starts) (missing_of _ (sym c.in_default.is ∙ c.item.ensures))))
+    ap Err c.fault_at-in_default.ensures
+    ∙ refused (token_missing _ _ _ _ _ _ (key-is (goal.at.returns-in_default c).Else-not-starts) (missing_if cap _ _ c.item.ensures c.in_default.not-Some))
 
 pub returns-then-value-eq0 : goal.returns-then-value-eq0
 returns-then-value-eq0 c =
     let f = c.ranges in
-    c.out_of_range.ensures ∙ sym (ap token_row_of (token_low _ _ _ _ _ _ (key-is (goal.at.returns-then-value-eq0 c).Else-not-starts) f.places.fits _ _ (read (goal.at.returns-then-value-eq0 c).In-Found) c.if-value-eq0.true))
+    c.out_of_range.ensures ∙ sym (ap answer (token_low _ _ _ _ _ _ (key-is (goal.at.returns-then-value-eq0 c).Else-not-starts) f.places.fits _ _ (read (goal.at.returns-then-value-eq0 c).In-Some) c.if-value-eq0.true))
 
 pub returns-then-places-value : goal.returns-then-places-value
 returns-then-places-value c =
     let f = c.ranges in
-    c.out_of_range-then-places-value.ensures ∙ sym (ap token_row_of (token_high _ _ _ _ _ _ (key-is (goal.at.returns-then-places-value c).Else-not-starts) f.places.fits _ _ (read (goal.at.returns-then-places-value c).In-Found) c.if-places-value.true))
+    c.out_of_range-then-places-value.ensures ∙ sym (ap answer (token_high _ _ _ _ _ _ (key-is (goal.at.returns-then-places-value c).Else-not-starts) f.places.fits _ _ (read (goal.at.returns-then-places-value c).In-Some) c.if-places-value.true))
 
 pub returns : goal.returns
 returns c =
     let f = c.ranges in
-    (rw c.byte_at-n.ensures at c.counted.ensures) ∙ sym (ap token_row_of (token_in _ _ _ _ _ _ (key-is (goal.at.returns c).Else-not-starts) f.places.fits _ _ (read (goal.at.returns c).In-Found) c.if-value-eq0.false c.if-places-value.false))
+    (rw c.byte_at-n.ensures at c.counted.ensures) ∙ sym (ap answer (token_in _ _ _ _ _ _ (key-is (goal.at.returns c).Else-not-starts) f.places.fits _ _ (read (goal.at.returns c).In-Some) c.if-value-eq0.false c.if-places-value.false))

@@ -1,19 +1,13 @@
-use borrow.Author.Rules.{rules}
-use mathlib.Core.Path.{refl, sym, ◌∙◌}
-use native.Mathlib.Omega.{arith}
-use Rattle.weigh.proofs.WeightLoops.{below-bad, below-good, below_end}
+-- `all_enough` is the test of each weight.
+use Rattle.std.proofs.Common.{rules, tests, ◌∙◌}
+use Rattle.std.proofs.lemmas.Iterator.{YieldsList-from_slice}
+use Rattle.std.proofs.lemmas.Iterator.Search.{all_from_yields_List}
+use Rattle.weigh.specs.Sums.{enough}
+use Rattle.weigh.proofs.CoverTests.{every_all}
 use Rattle.weigh_cover.proofs.all_enough.Goals as goal
 
-pub loop-i-init : goal.loop-i-init
-loop-i-init c = (search rules, refl)
-
-pub returns-then-not-weight_covers : goal.returns-then-not-weight_covers
-returns-then-not-weight_covers c =
-    sym (c.loop-i.invariant.1 ∙ below-bad _ _ c.loop-i-test.true (sym c.weight_covers.ensures ∙ c.if-not-weight_covers.true))
-
-pub loop-i-preserved : goal.loop-i-preserved
-loop-i-preserved c =
-    (omega arith, c.loop-i.invariant.1 ∙ below-good _ _ c.loop-i-test.true (sym c.weight_covers.ensures ∙ c.if-not-weight_covers.false))
-
 pub returns : goal.returns
-returns c = sym (c.loop-i.invariant.1 ∙ below_end _ _ c.loop-i-test.false)
+returns c =
+    let test = enough c.args.most c.args.sum in
+    all_from_yields_List test _ _ _ c.all.ensures.ran (YieldsList-from_slice c.args.weights.now (cc)) (λ x b q k. search (rules, tests))
+    ∙ every_all test c.args.weights.now

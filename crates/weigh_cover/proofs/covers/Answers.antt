@@ -1,36 +1,49 @@
--- `covers` is the test of all weights: an outer weight that is 0, a sum that is too large for the least, or the test of the nets.
-use borrow.Author.Rules.{rules}
-use mathlib.Core.Path.{◌≡◌, sym, ◌∙◌}
-use mathlib.Core.Bool.{true}
+-- `covers` is the test of all weights: an outer one fails, or one of a net, or none.
+use Prim.Native.Nat.{ℕ, suc, ◌+◌, ◌<◌}
+use mathlib.Core.Path.{◌≡◌, sym, ap, ◌∙◌}
+use mathlib.Core.Bool.{Bool}
+use mathlib.Core.List.{List, []}
 use native.Mathlib.Omega.{arith}
-use lib.ListN.{length}
-use Rattle.eos.specs.Firing.{all_below}
-use Rattle.weigh.specs.Sums.{some_at}
-use Rattle.weigh.proofs.CoverTests.{low_some, cover_lacks, cover_many, cover_rest}
+use native.Mathlib.Numerals.{add-one}
+use borrow.Author.Rules.{rules}
+use lib.IntN.{ℤ}
+use lib.ListN.{length, take, get_or}
+use Rattle.std.proofs.Common.{below_more}
+use Rattle.eos.specs.Multiset.{every}
+use Rattle.model.specs.Limits.{count_limit}
+use Rattle.model.specs.Held.{no_net}
+use Rattle.model.specs.declared.ObjectNet.{ObjectNet}
+use Rattle.model.proofs.HeldTestLoops.{at_any}
+use Rattle.weigh.specs.Sums.{row_of, enough, net_covered}
+use Rattle.weigh.proofs.CoverTests.{outer_lacks, net_lacks, all_covered}
 use Rattle.weigh_cover.proofs.covers.Goals as goal
 
-pub returns-then-not-all_some : goal.returns-then-not-all_some
-returns-then-not-all_some c =
-    let a = c.args in
-    cover_lacks a.most a.places a.nets a.objects a.w a.sum (sym c.all_some.ensures ∙ c.if-not-all_some.true)
+-- what the code reads past the last net
+abbrev outside : ObjectNet
+outside = record { places = 0; transitions = 0; pre = []; post = [] }
 
--- in each of the others, `some`: no outer weight is 0
-pub nonzero_div-sum : goal.nonzero_div-sum
-nonzero_div-sum c =
-    let a = c.args in
-    let some : all_below a.places (some_at a.w) ≡ true = sym c.all_some.ensures ∙ c.if-not-all_some.false in
-    let m : length a.w ≡ 288 = search rules in
-    let low = low_some a.w a.places c.requires.0 (omega (arith, c.requires.1)) some in
-    omega (arith, low, c.least-low.ensures)
+-- a net's test, with the one default for the other
+net_at : (objects : List ObjectNet) (weights : List (List ℤ)) (sum n : ℕ) (r : Bool) → n < length objects
+    → r ≡ every (enough count_limit sum) (take (get_or objects n outside).places (row_of weights (n + 1))) → net_covered objects weights sum n ≡ r
+net_at objects weights sum n r h e =
+    rw (← (add-one n)) (sym (e ∙ ap (λ (o : ObjectNet). every (enough count_limit sum) (take o.places (row_of weights (n + 1)))) (at_any objects n outside no_net h)))
 
-pub returns-then-most-sum : goal.returns-then-most-sum
-returns-then-most-sum c =
+pub returns-then-not-all_enough : goal.returns-then-not-all_enough
+returns-then-not-all_enough c = outer_lacks _ _ _ _ _ _ (sym c.all_enough.ensures ∙ c.if-not-all_enough.true)
+
+pub loop-n-preserved : goal.loop-n-preserved
+loop-n-preserved c =
     let a = c.args in
-    let some : all_below a.places (some_at a.w) ≡ true = sym c.all_some.ensures ∙ c.if-not-all_some.false in
-    cover_many a.most a.places a.nets a.objects a.w a.sum some _ c.least-low.ensures c.if-most-sum.true
+    let long : length a.m.now.objects ≡ 8 = search rules in
+    below_more _ _ c.loop-n.invariant
+    (net_at a.m.now.objects a.weights.now a.sum c.loop-n.n _ (omega arith) c.all_enough-in-loop-n.ensures ∙ c.if-not-all_enough-2.false)
+
+pub returns-then-not-all_enough-2 : goal.returns-then-not-all_enough-2
+returns-then-not-all_enough-2 c =
+    let a = c.args in
+    let long : length a.m.now.objects ≡ 8 = search rules in
+    net_lacks _ _ _ _ _ _ (sym c.all_enough.ensures ∙ c.if-not-all_enough.false) c.loop-n.n (omega arith)
+    (net_at a.m.now.objects a.weights.now a.sum c.loop-n.n _ (omega arith) c.all_enough-in-loop-n.ensures ∙ c.if-not-all_enough-2.true)
 
 pub returns : goal.returns
-returns c =
-    let a = c.args in
-    let some : all_below a.places (some_at a.w) ≡ true = sym c.all_some.ensures ∙ c.if-not-all_some.false in
-    cover_rest a.most a.places a.nets a.objects a.w a.sum some _ c.least-low.ensures c.if-most-sum.false _ c.nets_enough.ensures
+returns c = all_covered _ _ _ _ _ _ (sym c.all_enough.ensures ∙ c.if-not-all_enough.false) (λ k h. c.loop-n.invariant k (omega arith))

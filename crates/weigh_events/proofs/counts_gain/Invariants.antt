@@ -1,12 +1,19 @@
--- `counts_gain` is a sum. The loop's invariant: what is added up is the sum of the first k.
-use Prim.Native.Nat.{◌≤◌, ◌-◌, ◌+◌, ◌*◌}
+-- `counts_gain` is a product. The loop's invariant: what is added up, with the product of what is still to come, is the product of all.
+use Prim.Native.Nat.{◌+◌, ◌*◌}
 use mathlib.Core.Path.{◌≡◌}
-use Rattle.model.specs.Rules.{nth}
-use Rattle.weigh.specs.Sums.{total}
+use lib.IntN.{pos, neg_ℤ, ◌+ℤ◌}
+use lib.ListN.{length}
+use lib.Signed.{◌≤ℤ◌}
+use Rattle.eos.specs.Weights.{dot}
+use Rattle.weigh.specs.Sums.{Small}
 use Rattle.weigh_events.proofs.counts_gain.Given as goal
 
-abbrev pub invariant-loop-k : goal.invariant-loop-k
-invariant-loop-k l = (l.k ≤ l.n) × (l.sum ≡ total l.k (λ t. nth l.sync t * nth l.gain (32 + t))) × (l.sum ≤ l.k * 272730456000)
-
-abbrev pub decreases-loop-k : goal.decreases-loop-k
-decreases-loop-k l = l.n - l.k
+abbrev pub invariant-loop-gain : goal.invariant-loop-gain
+invariant-loop-gain l =
+    (goal.iterator-loop-gain).can_next l.gain-iterator
+    × (goal.iterator-loop-gain).is_finite l.gain-iterator
+    × (l.sum +ℤ dot l.gain-iterator.a.rest.now l.gain-iterator.b.rest.now ≡ dot l.gains l.counts)
+    × (length l.yielded + length l.gain-iterator.a.rest.now ≡ length l.gains)
+    × (neg_ℤ (pos (length l.yielded * 35046398361600)) ≤ℤ l.sum)
+    × (l.sum ≤ℤ pos (length l.yielded * 35046398361600))
+    × Small l.gain-iterator.a.rest.now

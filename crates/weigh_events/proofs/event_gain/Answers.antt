@@ -1,23 +1,55 @@
--- `event_gain` is the gain of the event's move and that of its counts.
+use Prim.Native.Nat.{ℕ, suc, ◌+◌, ◌*◌}
+use mathlib.Core.Path.{◌≡◌, ap, ◌∙◌}
 use borrow.Author.Rules.{rules}
 use native.Mathlib.Omega.{arith}
-use mathlib.Core.Path.{ap, ap₂, ◌∙◌}
-use Prim.Native.Nat.{◌+◌}
-use Rattle.weigh.specs.Sums.{move_gain, event_gain}
+use native.Mathlib.Numerals.{add-one}
+use lib.IntN.{ℤ, pos, neg_ℤ, ◌+ℤ◌}
+use mir.Syntax.{w64}
+use mir.Val.{to_z, of_z}
+use Rattle.std.proofs.lemmas.Int.{ints}
+use Rattle.eos.specs.Weights.{dot}
+use Rattle.model.specs.Held.{row_in}
 use Rattle.model.proofs.HeldActs.{move-few}
-use Rattle.weigh.proofs.GainLaws.{move-small}
+use Rattle.weigh.specs.Sums.{row_of, move_gain, event_gain}
+use Rattle.weigh.proofs.TotalLaws.{total_begins, total_further}
+use Rattle.weigh.proofs.DotLaws.{sum_step, within}
+use Rattle.weigh.proofs.GainLaws.{move_small, counts_part}
 use Rattle.weigh_events.proofs.event_gain.Goals as goal
 
-pub move_gain-outside-requires : goal.move_gain-outside-requires
-move_gain-outside-requires c =
-    let e = c.args.e in
-    (omega (arith, c.move_of.ensures, move-few e.kind e.index c.requires.1.least, c.requires.1.most), search rules)
+pub move_gain-sum-requires : goal.move_gain-sum-requires
+move_gain-sum-requires c =
+    let e = c.args.e.now in
+    omega (arith, c.move_of.ensures, move-few e.kind e.index c.requires.1.least, c.requires.1.most)
 
-pub overflow_add-result : goal.overflow_add-result
-overflow_add-result c =
-    omega (arith, c.counts_gain-inside.ensures.1, c.move_gain-outside.ensures, move-small c.args.gain c.requires.2 c.move_of.result)
+pub loop-n-init : goal.loop-n-init
+loop-n-init c =
+    let r = c.move_gain-sum.result in
+    let row = row_of c.args.gains.now 0 in
+    let held : to_z w64 (of_z w64 r) ≡ r = omega (arith, ints) in
+    let p = within (move_gain row c.move_of.result) 137436856320 (move_small row (c.requires.2 0) c.move_of.result) in (
+      rw held (c.move_gain-sum.ensures ∙ ap (move_gain row) c.move_of.ensures ∙ total_begins _ _),
+      rw (held, c.move_gain-sum.ensures) p.0,
+      rw (held, c.move_gain-sum.ensures) p.1,
+    )
+
+pub counts_gain-sum-requires : goal.counts_gain-sum-requires
+counts_gain-sum-requires c = (search rules, c.requires.2 (c.loop-n.n + 1))
+
+pub loop-n-preserved : goal.loop-n-preserved
+loop-n-preserved c =
+    let l = c.loop-n in
+    let i = l.invariant in
+    let t = c.counts_gain-sum.ensures in
+    let e = sum_step l.sum-bits (l.n * 1121484747571200 + 137436856320) 1121484747571200 c.counts_gain-sum.result (omega (arith, c.requires.0)) i.1 i.2 t.low t.high in
+    let more : l.n * 1121484747571200 + 137436856320 + 1121484747571200 ≡ (l.n + 1) * 1121484747571200 + 137436856320 = omega arith in (
+      rw e.0 (total_further _ _ _ l.n _ i.0 (t.value ∙ rw (add-one l.n) (counts_part (row_of c.args.gains.now (suc l.n)) c.args.e.now.sync l.n))),
+      rw (e.0, ← more) e.1,
+      rw (e.0, ← more) e.2,
+    )
 
 pub returns : goal.returns
 unfolding event_gain
 returns c =
-    ap₂ ◌+◌ (c.move_gain-outside.ensures ∙ ap (move_gain c.args.gain) c.move_of.ensures) c.counts_gain-inside.ensures.0
+    let l = c.loop-n in
+    let e : l.n ≡ c.args.nets = omega arith in
+    rw e at l.invariant.0

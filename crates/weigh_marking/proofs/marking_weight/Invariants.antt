@@ -1,12 +1,14 @@
--- `marking_weight` is a sum. The loop's invariant: what is added up is the weight of the first i net-tokens.
-use Prim.Native.Nat.{◌≤◌, ◌-◌, ◌*◌}
+-- `marking_weight` is a sum. The loop's invariant: what is added up, with the weight of the others, is that of all.
+use Prim.Native.Nat.{◌*◌}
 use mathlib.Core.Path.{◌≡◌}
-use Rattle.weigh.specs.Sums.{total, token_weight}
+use lib.IntN.{pos, neg_ℤ, ◌+ℤ◌}
+use lib.ListN.{drop}
+use lib.Signed.{◌≤ℤ◌}
+use Rattle.weigh.specs.Sums.{marking_weight}
 use Rattle.weigh_marking.proofs.marking_weight.Given as goal
 
-abbrev pub invariant-loop-i : goal.invariant-loop-i
-invariant-loop-i l =
-    (l.i ≤ l.n) × (l.weight ≡ total l.i (λ k. token_weight l.w l.types l.rows (k * 33))) × (l.weight ≤ l.i * 137434824735)
-
-abbrev pub decreases-loop-i : goal.decreases-loop-i
-decreases-loop-i l = l.n - l.i
+abbrev pub invariant-loop-t : goal.invariant-loop-t
+invariant-loop-t l =
+    (marking_weight l.weights l.types l.tokens ≡ l.sum +ℤ marking_weight l.weights l.types (drop l.t-index l.tokens))
+    × (neg_ℤ (pos (l.t-index * 68718461952)) ≤ℤ l.sum)
+    × (l.sum ≤ℤ pos (l.t-index * 68718461952))

@@ -1,20 +1,22 @@
 -- `token_weight` is the weight of the place and that of the counts.
+use Prim.Native.Nat.{◌-◌}
+use mathlib.Core.Path.{◌≡◌, ap, ◌∙◌}
 use native.Mathlib.Omega.{arith}
-use mathlib.Core.Path.{ap₂}
-use Prim.Native.Nat.{◌+◌, ◌-◌}
-use lib.ListN.{get_or}
-use Rattle.weigh.specs.Sums.{token_weight}
+use borrow.Author.Rules.{rules}
+use lib.IntN.{ℤ, ◌+ℤ◌}
+use mir.Syntax.{w16, w64}
+use mir.Val.{SFits, to_z, of_z}
+use Rattle.std.proofs.lemmas.Int.{ints}
+use Rattle.weigh.specs.Sums.{row_of, number_of, token_weight}
+use Rattle.std.proofs.lemmas.List.{map-id}
 use Rattle.weigh_marking.proofs.token_weight.Goals as goal
 
-pub overflow_mul-d : goal.overflow_mul-d
-overflow_mul-d c =
-    omega (arith, c.requires.3 (get_or c.args.rows.now c.args.at 0 - 1) (omega (arith, c.requires.2.least, c.requires.2.most)))
-
-pub counts_weight-requires : goal.counts_weight-requires
-counts_weight-requires c =
-    let d = c.requires.3 (get_or c.args.rows.now c.args.at 0 - 1) (omega (arith, c.requires.2.least, c.requires.2.most)) in
-    (omega (arith, d, c.requires.0), omega (arith, c.requires.1))
-
-pub returns : goal.returns
+pub returns-clause-value : goal.returns-clause-value
 unfolding token_weight
-returns c = (ap₂ ◌+◌ c.wide.ensures.0 c.counts_weight.ensures.0, omega (arith, c.wide.ensures.1, c.counts_weight.ensures.1))
+returns-clause-value c =
+    let a = c.args in
+    let v = number_of (row_of a.weights.now 0) (a.t.now.place - 1) in
+    let fits : SFits w16 v = search rules in
+    let d = c.dot-counts.ensures in
+    let s : to_z w64 (of_z w64 (to_z w64 (of_z w64 (to_z w16 (of_z w16 v))) +ℤ to_z w64 (of_z w64 c.dot-counts.result))) ≡ v +ℤ c.dot-counts.result = omega (arith, ints, d.low, d.high) in
+    s ∙ ap (λ (z : ℤ). v +ℤ z) (d.value ∙ rw map-id)

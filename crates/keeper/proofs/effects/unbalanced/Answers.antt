@@ -1,32 +1,43 @@
--- `unbalanced` is the number of the least event whose effect is not 0, for the weights that are held.
+-- `unbalanced` is the first event whose effect is not 0, for the weights that are held.
+use mathlib.Core.Path.{◌≡◌, ap, ◌∙◌}
+use native.Mathlib.Omega.{arith}
+use borrow.Author.Rules.{rules}
+use lib.ListN.{length, take}
+use lib.Seq.{length-take-le}
 use Rattle.model.proofs.HeldTests.{held-is, most-nets, most-events}
-use Rattle.model.proofs.RoomLaws.{types-room, pre-room, post-room, objects-room}
+use Rattle.weigh.specs.Sums.{Gains}
+use Rattle.keeper.specs.declared.HeldWeights.{HeldWeights}
 use Rattle.keeper.proofs.HeldRows.{Kept}
-use Rattle.keeper.proofs.BalanceLaws.{act_in, least-unbalanced}
+use Rattle.keeper.proofs.BalanceLaws.{act_in, event_listed, first-unbalanced, found_within}
 use Rattle.keeper.proofs.effects.unbalanced.Goals as goal
 
-pub gains-gain-requires : goal.gains-gain-requires
-gains-gain-requires c =
-    let m = c.args.m in
-    (most-nets m (held-is m c.requires), pre-room m _ c.well_formed.0, post-room m _ c.well_formed.0)
+pub gains-requires : goal.gains-requires
+gains-requires c = most-nets _ (held-is _ c.requires.tested)
 
-pub gains-loss-requires : goal.gains-loss-requires
-gains-loss-requires c =
-    let m = c.args.m in
-    (most-nets m (held-is m c.requires), pre-room m _ c.well_formed.0, post-room m _ c.well_formed.0)
+pub shared_ref_as_front-first_unbalanced : goal.shared_ref_as_front-first_unbalanced
+shared_ref_as_front-first_unbalanced c = most-events _ (held-is _ c.requires.tested)
 
 pub first_unbalanced-requires : goal.first_unbalanced-requires
 first_unbalanced-requires c =
-    let h = held-is _ c.requires in
+    let m = c.args.m.now in
+    let listed = most-events m (held-is m c.requires.tested) in
+    let room = c.requires.room.1 in
+    let long : length (take m.listed m.events) ≡ m.listed = length-take-le m.listed m.events (omega arith) in
     record {
-      listed_bound = (most-events _ h, most-nets _ h, c.gains-gain.ensures.small, c.gains-loss.ensures.small);
-      by_index = act_in c.args.m c.requires;
+      nets_bound = (most-nets m (held-is m c.requires.tested), c.gains.ensures.small);
+      by_index = λ k h. rw (event_listed m k (omega arith)) (act_in m c.requires.tested k (omega arith));
     }
 
 pub returns : goal.returns
 returns c =
-    let m = c.args.m in
-    λ w h.
-    let kept : Kept m w =
-    record { held = c.requires; types = types-room m _ c.well_formed.0; objects = objects-room m _ c.well_formed.0; shaped = h.shaped } in
-    least-unbalanced m w kept c.args.h h.is _ _ c.gains-gain.ensures c.gains-loss.ensures _ c.first_unbalanced.ensures
+    let m = c.args.m.now in
+    let listed = most-events m (held-is m c.requires.tested) in
+    let room = c.requires.room.1 in
+    let long : length (take m.listed m.events) ≡ m.listed = length-take-le m.listed m.events (omega arith) in
+    record {
+      first = λ w h.
+          let kept : Kept m w = record { held = c.requires.tested; types = search rules; objects = c.requires.room.0; shaped = h.shaped } in
+          let g : Gains m _ c.gains.result = rw (ap (λ (x : HeldWeights). x.rows) h.is) at c.gains.ensures in
+          c.first_unbalanced.ensures ∙ first-unbalanced m w kept c.gains.result g (omega arith);
+      within = rw c.first_unbalanced.ensures (found_within _ (length (take m.listed m.events)) 64 (omega arith));
+    }

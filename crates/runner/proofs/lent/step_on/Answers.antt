@@ -1,67 +1,84 @@
 -- `step_on` meets its contract: what was read is a right step of the held model, so that the verdict and the change may be asked.
-use borrow.Author.Rules.{rules}
-use mathlib.Core.Path.{◌≡◌, ap, ◌∙◌}
+use mathlib.Core.Path.{ap, sym, subst, ◌∙◌}
+use Rattle.text.specs.Lines.{Outcome}
+use Rattle.text.specs.Answers.{kept}
+use Rattle.text.specs.declared.Spot.{Spot}
+use Rattle.text_reader.specs.Place.{Reads}
+use Rattle.text_reader.proofs.ReadsLaws.{refused_of}
+use Rattle.eos.specs.Firing.{Step}
 use native.Mathlib.Omega.{arith}
-use Rattle.marking.specs.Rows.{rows_in}
-use Rattle.model.proofs.HeldTests.{held-is, most-places, most-events}
+use lib.ListN.{take}
+use Rattle.model.proofs.HeldTests.{held-is, most-events}
 use Rattle.marking.specs.Sizes.{sizes_for}
-use Rattle.reader.proofs.ReadingLaws.{both_model, roomy_of}
-use Rattle.step.specs.Answers.{step_rows}
-use Rattle.runner.specs.declared.StepAnswer.{StepAnswer}
+use Rattle.reader.proofs.ReadingLaws.{both_model}
+use Rattle.std.specs.declared.result.Result.TheVariants.{Ok}
+use Rattle.text_reader.specs.declared.Reader.{Reader}
+use Rattle.step.specs.Answers.{hold_step, rows_of}
+use Rattle.runner.specs.declared.StepAnswer.TheVariants.{Faulty}
 use Rattle.runner.specs.Answers.{stays}
-use Rattle.runner.proofs.ReadLaws.{ReadRows, lines-bad, lines-got}
-use Rattle.runner.proofs.RuledLaws.{RightStep, read_right, rule_is_sound, rows-placed}
+use Rattle.runner.proofs.ReadLaws.{ReadTokens, lines-got}
+use Rattle.runner.proofs.RuledLaws.{RightStep, read_right, rule_is_sound, read_placed}
 use Rattle.runner.proofs.StepAnswers.{both_stands, reading, reading_is, step-refused, step-ruled}
 use Rattle.runner.proofs.lent.step_on.Goals as goal
-use Rattle.runner.proofs.lent.step_on.Goals.{After-read_step-lines, In-Past}
-
--- the rows that were read
-rows_read : (c : After-read_step-lines) → record { lines = c.read_step-lines.result; taken = (rows_in c.read_step-lines.result.take c.read_step-lines.new.taken); given = (rows_in c.read_step-lines.result.give c.read_step-lines.new.given) }
-    ≡ step_rows (reading c.args.m.now (record { len = c.args.len; rows = c.args.rows.now }) c.args.s.now)
-rows_read c =
-    c.read_step-lines.ensures ∙ ap step_rows (reading_is c.args.m.now (record { len = c.args.len; rows = c.args.rows.now }) c.args.s.now c.args.sizes c.requires.2)
+use Rattle.runner.proofs.lent.step_on.Goals.{In-Ok}
 
 -- the step that was read
-read : (c : In-Past) → ReadRows c.read_step-lines.result (rows_in c.read_step-lines.result.take c.read_step-lines.new.taken) (rows_in c.read_step-lines.result.give c.read_step-lines.new.given) (reading c.args.m.now (record { len = c.args.len; rows = c.args.rows.now }) c.args.s.now) c.in-Past.next
+read : (c : In-Ok) → let a = c.args in let r = c.read_step in
+    ReadTokens c.in-Ok.lines (take c.in-Ok.lines.take r.new.taken) (take c.in-Ok.lines.give r.new.given) (reading a.m.now a.k.now a.s.now) r.new.r.at
 read c =
-    lines-got c.read_step-lines.result (rows_in c.read_step-lines.result.take c.read_step-lines.new.taken) (rows_in c.read_step-lines.result.give c.read_step-lines.new.given) _ (c.read_step-lines.ensures ∙ ap step_rows (reading_is c.args.m.now (record { len = c.args.len; rows = c.args.rows.now }) c.args.s.now c.args.sizes c.requires.2))
-    _ c.in-Past.is
+    let a = c.args in
+    let r = c.read_step in
+    let l = c.in-Ok.lines in
+    let begun : Reader = record { src = a.s; at = 0 } in
+    lines-got l r.new.taken r.new.given _ begun r.new.r
+    (subst (λ (o : Outcome Step). Reads (kept hold_step o) begun r.new.r (Ok (record { event = l.event; taken = rows_of l.take r.new.taken; given = rows_of l.give r.new.given }))) (reading_is a.m.now a.k.now a.s.now a.z.now c.requires.2) c.in-Ok.ensures)
 
-right : (c : In-Past) → RightStep (sizes_for c.args.m.now) c.args.m.now.listed (read c).step
+right : (c : In-Ok) → RightStep (sizes_for c.args.m.now) c.args.m.now.listed (read c).step
 right c = read_right _ _ c.args.s.now _ _ (read c).is
 
 pub overflow_cast-m : goal.overflow_cast-m
 overflow_cast-m c = omega (arith, most-events _ (held-is _ (both_model _ _ c.requires.1)))
 
-pub overflow_cast-m-2 : goal.overflow_cast-m-2
-overflow_cast-m-2 c = omega (arith, most-places _ (held-is _ (both_model _ _ c.requires.1)))
-
-pub read_step-lines-requires : goal.read_step-lines-requires
-read_step-lines-requires c =
-    roomy_of c.args.m.now (both_model _ _ c.requires.1) c.args.sizes c.requires.2
-
-pub returns-in_default : goal.returns-in_default
-returns-in_default c =
-    ap (λ (a : StepAnswer). stays a (record { len = c.args.len; rows = c.args.rows.now })) c.answer_of.ensures
-    ∙ step-refused c.args.m.now (record { len = c.args.len; rows = c.args.rows.now }) c.args.s.now c.args.room _ _ c.in_default.is (lines-bad c.read_step-lines.result (rows_in c.read_step-lines.result.take c.read_step-lines.new.taken) (rows_in c.read_step-lines.result.give c.read_step-lines.new.given) _ (rows_read (goal.at.returns-in_default c).After-read_step-lines) _ c.in_default.is)
+pub returns-in-Err : goal.returns-in-Err
+returns-in-Err c =
+    let a = c.args in
+    ap (λ (x : Spot). stays (Faulty x) a.k.now) c.spot_of.ensures
+    ∙ step-refused a.m.now a.k.now a.s.now a.room _
+    (sym (reading_is a.m.now a.k.now a.s.now a.z.now c.requires.2) ∙ (refused_of hold_step _ _ c.in-Err.ensures).is)
 
 pub rule_of-requires : goal.rule_of-requires
 rule_of-requires c =
-    (both_model _ _ c.requires.1, omega (arith, (read (goal.at.rule_of-requires c).In-Past).event-is, (right (goal.at.rule_of-requires c).In-Past).known), c.empty-rule.ensures)
+    let p = (goal.at.rule_of-requires c).In-Ok in
+    (both_model _ _ c.requires.1, omega (arith, (read p).event-is, (right p).known), c.empty-rule.ensures)
+
+pub shared_ref_as_front-fire : goal.shared_ref_as_front-fire
+shared_ref_as_front-fire c =
+    let p = (goal.at.shared_ref_as_front-fire c).In-Ok in
+    omega (arith, (read p).take-is, (right p).take-few, c.read_step.array_long)
+
+pub shared_ref_as_front-fire-2 : goal.shared_ref_as_front-fire-2
+shared_ref_as_front-fire-2 c =
+    let p = (goal.at.shared_ref_as_front-fire-2 c).In-Ok in
+    omega (arith, (read p).give_is, (right p).give_few, c.read_step.array_long2)
 
 pub fire-requires : goal.fire-requires
 fire-requires c =
-    let t = (read (goal.at.fire-requires c).In-Past).step in
-    let r = right (goal.at.fire-requires c).In-Past in
+    let p = (goal.at.fire-requires c).In-Ok in
+    let t = (read p).step in
+    let r = right p in
     let m = c.args.m.now in
-    let sized = c.rule_of.ensures.sized in (
+    let sized = c.rule_of.ensures.sized in
+    let held = both_model _ _ c.requires.1 in (
       c.requires.0,
-      rule_is_sound m sized (both_model _ _ c.requires.1) t r _ _ c.rule_of.ensures.made (read (goal.at.fire-requires c).In-Past).event-is,
-      rows-placed m sized (both_model _ _ c.requires.1) t.taken r.taken r.take-few _ _ (read (goal.at.fire-requires c).In-Past).take-is (search rules) (read (goal.at.fire-requires c).In-Past).taken_are,
-      rows-placed m sized (both_model _ _ c.requires.1) t.given r.given r.give_few _ _ (read (goal.at.fire-requires c).In-Past).give_is (search rules) (read (goal.at.fire-requires c).In-Past).given_are,
+      rule_is_sound m sized held t r _ _ c.rule_of.ensures.made (read p).event-is,
+      read_placed m sized held t.taken r.taken r.take-few _ (read p).taken_are,
+      read_placed m sized held t.given r.given r.give_few _ (read p).given_are,
       (both_stands _ _ c.requires.4 c.requires.1).kept,
     )
 
 pub returns : goal.returns
 returns c =
-    c.fire.ensures ∙ step-ruled c.args.m.now (record { len = c.args.len; rows = c.args.rows.now }) c.args.s.now c.args.room c.rule_of.ensures.sized (both_model _ _ c.requires.1) (both_stands _ _ c.requires.4 c.requires.1) _ _ _ _ (read (goal.at.returns c).In-Past) _ c.rule_of.ensures.made
+    let a = c.args in
+    c.fire.ensures
+    ∙ step-ruled a.m.now a.k.now a.s.now a.room c.rule_of.ensures.sized (both_model _ _ c.requires.1) (both_stands _ _ c.requires.4 c.requires.1) _ _ _ _
+    (read (goal.at.returns c).In-Ok) _ c.rule_of.ensures.made

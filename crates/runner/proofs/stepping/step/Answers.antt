@@ -1,4 +1,4 @@
--- `step` meets its contract: 1, then 14, then the step on the marking's rows.
+-- `step` meets its contract: 1, then 14, then the step on the marking.
 use native.Mathlib.Omega.{arith}
 use mathlib.Core.Path.{◌≡◌, sym, ◌∙◌}
 use mathlib.Core.Bool.{true}
@@ -19,17 +19,17 @@ returns-then-s-gt-LONGEST c = step-long _ _ _ c.if-s-gt-LONGEST.true
 pub returns-then-not-test_marking : goal.returns-then-not-test_marking
 returns-then-not-test_marking c = step-unheld _ _ _ c.if-s-gt-LONGEST.false (sym c.test_marking.ensures ∙ c.if-not-test_marking.true)
 
-pub sizes-requires : goal.sizes-requires
-sizes-requires c = both_model _ _ (passed (goal.at.sizes-requires c).Else-not-test_marking)
+pub place_sizes-requires : goal.place_sizes-requires
+place_sizes-requires c = both_model _ _ (passed (goal.at.place_sizes-requires c).Else-not-test_marking)
 
-pub step_on-end-requires : goal.step_on-end-requires
-step_on-end-requires c = (
+pub step_on-answer-requires : goal.step_on-answer-requires
+step_on-answer-requires c = (
   omega arith,
-  passed (goal.at.step_on-end-requires c).Else-not-test_marking,
-  c.sizes.ensures,
+  passed (goal.at.step_on-answer-requires c).Else-not-test_marking,
+  c.place_sizes.ensures,
   c.if-s-gt-LONGEST.false,
   (marking_sized c.args.k _ c.well_formed.1.0).long,
 )
 
 pub returns : goal.returns
-returns c = c.step_on-end.ensures ∙ step-held _ _ _ c.if-s-gt-LONGEST.false (passed (goal.at.returns c).Else-not-test_marking)
+returns c = c.step_on-answer.ensures ∙ step-held _ _ _ c.if-s-gt-LONGEST.false (passed (goal.at.returns c).Else-not-test_marking)

@@ -1,31 +1,15 @@
-use Prim.Native.Nat.{ℕ, ◌*◌}
-use mathlib.Core.Path.{◌≡◌, refl, ap, ◌∙◌}
-use native.Mathlib.Omega.{arith}
-use borrow.Author.Rules.{rules}
-use lib.ListN.{take, drop}
-use Rattle.eos.specs.Multiset.{bit}
-use Rattle.eos.specs.Vector.{eq_v}
-use Rattle.eos.specs.Multiset as M
-use Rattle.marking.specs.Rows.{rows_in}
-use Rattle.step.proofs.LackLaws.{rows_next}
+use Rattle.std.proofs.Common.{rules, ◌∙◌}
+use Rattle.std.proofs.lemmas.Iterator.{YieldsList-from_slice}
+use Rattle.std.proofs.lemmas.Iterator.Consumers.{count_from_yields_List, YieldsList-from_filter}
+use Rattle.marking.specs.Tokens.{like}
+use Rattle.marking.proofs.TokenOrder.{eq_like}
+use Rattle.step.proofs.LackLaws.{count_filtered}
 use Rattle.step_projections.proofs.containment.seen.Goals as goal
-use Rattle.step_projections.proofs.containment.seen.Goals.{then-like, else-like}
-
-pub loop-i-init : goal.loop-i-init
-loop-i-init c = (search rules, search rules, refl)
-
-pub loop-i-preserved : goal.loop-i-preserved
-loop-i-preserved c =
-    let a = c.args in
-    let k = c.like in
-    let b : bit k.result ≡ bit (eq_v a.row (take 33 (drop (c.loop-i.i * 33) a.rows.now))) = ap bit k.ensures in
-    elim c.if-like.branch [
-      | then-like w ↦ let t : bit k.result ≡ 1 = ap bit w.if-like.true in (omega arith, omega arith, omega (arith, rows_next c.loop-i.i a.rows.now a.row))
-      | else-like w ↦ let t : bit k.result ≡ 0 = ap bit w.if-like.false in (omega arith, omega arith, omega (arith, rows_next c.loop-i.i a.rows.now a.row))
-    ]
 
 pub returns : goal.returns
 returns c =
-    let a = c.args in
-    let e : c.loop-i.i ≡ a.n = omega arith in
-    c.loop-i.invariant.2 ∙ ap (λ (k : ℕ). M.count eq_v a.row (rows_in k a.rows.now)) e
+    let t = c.args.t.now in
+    let ts = c.args.tokens.now in
+    count_from_yields_List c.filter.result _ c.count.ensures.ran
+    (YieldsList-from_filter _ (like t) (YieldsList-from_slice ts (cc)) c.filter.ensures.closure (λ x b q k. search (rules, eq_like)))
+    ∙ count_filtered t ts

@@ -1,5 +1,4 @@
 -- `enough` compares a row of one table with that of another. The loop's invariant: all before k were enough, and what stands from k on decides.
-use Prim.Native.Nat.{◌-◌, ◌≤◌}
 use mathlib.Core.Path.{◌≡◌}
 use mathlib.Core.Bool.{◌&&◌}
 use lib.ListN.{drop}
@@ -9,7 +8,4 @@ use Rattle.step_projections.proofs.nets.enough.Given as goal
 
 abbrev pub invariant-loop-k : goal.invariant-loop-k
 invariant-loop-k l =
-    (l.k ≤ 32) × (le_v (row_in 32 l.asked l.n) (row_in 32 l.held l.n) ≡ (l.all && le_v (drop l.k (row_in 32 l.asked l.n)) (drop l.k (row_in 32 l.held l.n))))
-
-abbrev pub decreases-loop-k : goal.decreases-loop-k
-decreases-loop-k l = 32 - l.k
+    le_v (row_in 32 l.asked l.n) (row_in 32 l.held l.n) ≡ (l.all && le_v (drop l.k (row_in 32 l.asked l.n)) (drop l.k (row_in 32 l.held l.n)))

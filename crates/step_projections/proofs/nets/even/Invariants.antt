@@ -1,5 +1,4 @@
 -- `even` compares what is made of a net with what is left and given. The loop's invariant: all before k were equal, and what stands from k on decides.
-use Prim.Native.Nat.{◌-◌, ◌≤◌}
 use mathlib.Core.Path.{◌≡◌}
 use mathlib.Core.Bool.{◌&&◌}
 use lib.ListN.{drop}
@@ -10,7 +9,4 @@ use Rattle.step_projections.proofs.nets.even.Given as goal
 
 abbrev pub invariant-loop-k : goal.invariant-loop-k
 invariant-loop-k l =
-    (l.k ≤ 32) × (eq_v (row_in 32 l.made l.n) (moved l.held l.pre l.post l.n) ≡ (l.all && eq_v (drop l.k (row_in 32 l.made l.n)) (drop l.k (moved l.held l.pre l.post l.n))))
-
-abbrev pub decreases-loop-k : goal.decreases-loop-k
-decreases-loop-k l = 32 - l.k
+    eq_v (row_in 32 l.made l.n) (moved l.held l.pre l.post l.n) ≡ (l.all && eq_v (drop l.k (row_in 32 l.made l.n)) (drop l.k (moved l.held l.pre l.post l.n)))

@@ -1,5 +1,5 @@
 -- `short_net` looks for the first net that fails. The loop's invariant: it is the first from `net` on.
-use Prim.Native.Nat.{ℕ, ◌-◌, ◌≤◌}
+use Prim.Native.Nat.{ℕ, ◌-◌}
 use mathlib.Core.Path.{◌≡◌}
 use mathlib.Core.Bool.{Bool}
 use mathlib.Core.List.{List}
@@ -13,8 +13,4 @@ abbrev pub test : List ℕ → List ℕ → ℕ → Bool
 test asked held n = le_v (row_in 32 asked n) (row_in 32 held n)
 
 abbrev pub invariant-loop-net : goal.invariant-loop-net
-invariant-loop-net l =
-    (l.net ≤ l.nets) × (failing l.nets 0 (test l.asked l.held) ≡ failing (l.nets - l.net) l.net (test l.asked l.held))
-
-abbrev pub decreases-loop-net : goal.decreases-loop-net
-decreases-loop-net l = l.nets - l.net
+invariant-loop-net l = failing l.nets 0 (test l.asked l.held) ≡ failing (l.nets - l.net) l.net (test l.asked l.held)

@@ -1,0 +1,15 @@
+use Rattle.std.proofs.Common.{rules, not}
+use Rattle.std.proofs.lemmas.List.Sorted.{IsPartitionPoint-from_clause}
+use Rattle.marking.specs.Tokens.{before}
+use Rattle.marking.proofs.TokenOrder.{lt_before}
+use Rattle.marking.proofs.PlaceFor.{parted, place_is}
+use Rattle.marking_find.proofs.place_for.Goals as goal
+
+pub returns : goal.returns
+returns c =
+    let t = c.args.t.now in
+    let ts = c.args.tokens.now in
+    let e = place_is t ts _ c.requires c.partition_point.ensures.bound
+    (IsPartitionPoint-from_clause (λ s. not (before t s)) ts _ c.partition_point.ensures.partitioned (parted t ts c.requires)
+    (λ a r f e. search (rules, lt_before))) in
+    (e, c.partition_point.ensures.bound)

@@ -1,0 +1,31 @@
+-- `event` reads the lines of an event: one of them is refused, or it is held.
+use native.Mathlib.Omega.{arith}
+use Rattle.std.proofs.lemmas.Result.{err_from_is_err_and}
+use Rattle.model.specs.Test.{frame_in}
+use Rattle.model_text.proofs.EventLaws.{act_refused, act_in, counts_refused, event_read}
+use Rattle.model_events.proofs.event.Goals as goal
+
+pub returns-in_err-act : goal.returns-in_err-act
+returns-in_err-act c =
+    let a = c.args in
+    let p = err_from_is_err_and c.from_residual.result c.from_residual.ensures.1 in
+    rw (p.1, p.2) (act_refused (frame_in a.m.now) a.r.now _ c.in_err-act.ensures)
+
+pub own_net-requires : goal.own_net-requires
+own_net-requires c = let a = c.args in act_in (frame_in a.m.now) a.r.now _ c.in_ok-act.ensures c.requires.places c.requires.moves
+
+pub returns-in_err-sync : goal.returns-in_err-sync
+returns-in_err-sync c =
+    let a = c.args in
+    let p = err_from_is_err_and c.from_residual-in_err-sync.result c.from_residual-in_err-sync.ensures.1 in
+    rw (p.1, p.2) (counts_refused (frame_in a.m.now) a.r.now _ c.in_ok-act.ensures _ c.own_net.ensures _ c.in_err-sync.ensures)
+
+pub new-requires : goal.new-requires
+new-requires c =
+    let a = c.args in
+    omega (arith, act_in (frame_in a.m.now) a.r.now _ c.in_ok-act.ensures c.requires.places c.requires.moves)
+
+pub returns : goal.returns
+returns c =
+    let a = c.args in
+    rw c.new.ensures (event_read (frame_in a.m.now) a.r.now _ c.in_ok-act.ensures _ c.own_net.ensures _ c.in_ok-sync.ensures)

@@ -1,0 +1,55 @@
+use Prim.Native.Nat.{ℕ}
+use mathlib.Core.List.{List}
+use mathlib.Core.Path.{refl, ◌∙◌}
+use native.Mathlib.Omega.{arith}
+use Rattle.std.proofs.lemmas.Result.{err_from_is_err_and}
+use Rattle.text.specs.Bytes.{Text}
+use Rattle.text.specs.Lines.{Outcome}
+use Rattle.text_reader.proofs.LoopLaws.{filling, begins, ends, stops, turns, as_held, of_many}
+use Rattle.eos.specs.Model.{Transition}
+use Rattle.model.specs.Rules.{nth, monotonous}
+use Rattle.model_text.specs.Reading.{read_sides}
+use Rattle.model_text.specs.Answers.{hold_sides, hold_tables}
+use Rattle.model_text.proofs.TransitionLines.{lay_sides, no_tables, tables_held}
+use Rattle.model_nets.proofs.tables.Goals as goal
+
+-- the reading of one transition, by its index
+abbrev one : ℕ → ℕ → List ℕ → Text → ℕ → ℕ → Outcome Transition
+one size nets types s i at = read_sides size (λ t. monotonous nets size (nth types) (nth t.pre) (nth t.post)) s at
+
+pub loop-i-init : goal.loop-i-init
+loop-i-init c = (refl, refl, begins hold_sides lay_sides _ c.args.n c.args.r.now no_tables)
+
+pub returns-in_err-row : goal.returns-in_err-row
+returns-in_err-row c =
+    let a = c.args in
+    let l = c.loop-i in
+    let f = one a.size a.nets a.types.now in
+    let p = err_from_is_err_and c.from_residual.result c.from_residual.ensures.1 in
+    rw (p.1, p.2)
+    (of_many hold_tables (f a.r.now.src.now 0) a.n a.r.now.at
+    (as_held (filling hold_sides lay_sides no_tables) hold_tables _ tables_held
+    (stops hold_sides lay_sides f a.n a.r.now no_tables l.i l.table l.r l.invariant.2 c.loop-i-test.true _ _ c.in_err-row.ensures)))
+
+pub put_row-requires : goal.put_row-requires
+put_row-requires c = omega (arith, c.loop-i.invariant.0, c.loop-i-test.true, c.requires.0)
+
+pub loop-i-preserved : goal.loop-i-preserved
+loop-i-preserved c =
+    let a = c.args in
+    let l = c.loop-i in
+    let f = one a.size a.nets a.types.now in (
+      c.put_row.auto.table ∙ l.invariant.0,
+      c.put_row-in-loop-i.auto.table ∙ l.invariant.1,
+      turns hold_sides lay_sides f a.n a.r.now no_tables l.i l.table l.r l.invariant.2 c.loop-i-test.true _ c.in_ok-row.row _ c.in_ok-row.ensures
+          (rw (c.put_row.ensures, c.put_row-in-loop-i.ensures)),
+    )
+
+pub returns : goal.returns
+returns c =
+    let a = c.args in
+    let l = c.loop-i in
+    let f = one a.size a.nets a.types.now in
+    of_many hold_tables (f a.r.now.src.now 0) a.n a.r.now.at
+    (as_held (filling hold_sides lay_sides no_tables) hold_tables _ tables_held
+    (ends hold_sides lay_sides f a.n a.r.now no_tables l.i l.table l.r l.invariant.2 c.loop-i-test.false))

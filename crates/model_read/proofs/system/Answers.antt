@@ -1,0 +1,36 @@
+-- `system` reads the lines from `moves` to the last object net: one of them is refused, or it is held.
+use mathlib.Core.Bool.{Bool}
+use Rattle.std.proofs.lemmas.Result.{err_from_is_err_and}
+use Rattle.eos.specs.Model.{Transition}
+use Rattle.model.specs.Rules.{nth, monotonous}
+use Rattle.model.specs.declared.Model.{Model}
+use Rattle.model_text.proofs.PartLaws.{moves_refused, moves_few, rows_refused, objects_refused, system_read}
+use Rattle.model_read.proofs.system.Goals as goal
+
+-- the test of a move
+abbrev fine : Model → Transition → Bool
+fine m t = monotonous m.nets m.places (nth m.types) (nth t.pre) (nth t.post)
+
+pub returns-in_err-moves : goal.returns-in_err-moves
+returns-in_err-moves c =
+    let m = c.args.m.now in
+    let p = err_from_is_err_and c.from_residual.result c.from_residual.ensures.1 in
+    rw (p.1, p.2) (moves_refused m (fine m) c.args.r.now _ c.in_err-moves.ensures)
+
+pub tables-requires : goal.tables-requires
+tables-requires c = let m = c.args.m.now in (moves_few m (fine m) c.args.r.now _ c.in_ok-moves.ensures, c.requires.1)
+
+pub returns-in_err-pre : goal.returns-in_err-pre
+returns-in_err-pre c =
+    let m = c.args.m.now in
+    let p = err_from_is_err_and c.from_residual-in_err-pre.result c.from_residual-in_err-pre.ensures.1 in
+    rw (p.1, p.2) (rows_refused m (fine m) c.args.r.now _ c.in_ok-moves.ensures _ c.in_err-pre.ensures)
+
+pub returns-in_err-nets : goal.returns-in_err-nets
+returns-in_err-nets c =
+    let m = c.args.m.now in
+    let p = err_from_is_err_and c.from_residual-in_err-nets.result c.from_residual-in_err-nets.ensures.1 in
+    rw (p.1, p.2) (objects_refused m (fine m) c.args.r.now _ c.in_ok-moves.ensures _ c.in_ok-pre.ensures _ c.in_err-nets.ensures)
+
+pub returns : goal.returns
+returns c = let m = c.args.m.now in system_read m (fine m) c.args.r.now _ c.in_ok-moves.ensures _ c.in_ok-pre.ensures _ c.in_ok-nets.ensures

@@ -1,0 +1,13 @@
+-- `steps` meets its contract. The loop's invariant: the run goes on at the place that the reader has reached; the measure: the bytes that
+-- are left.
+use Prim.Native.Nat.{◌-◌}
+use mathlib.Core.Path.{◌≡◌}
+use lib.ListN.{length}
+use Rattle.runner_trace.proofs.TurnLaws.{Going}
+use Rattle.runner_trace.proofs.steps.Given as goal
+
+abbrev pub invariant-loop-bytes : goal.invariant-loop-bytes
+invariant-loop-bytes l = (l.r.src.now ≡ l.fn.r.src.now) × Going l.m l.fn.k l.fn.r.src.now l.fn.r.at l.fired l.r.at l.k
+
+abbrev pub decreases-loop-bytes : goal.decreases-loop-bytes
+decreases-loop-bytes l = length l.r.src.now - l.r.at
