@@ -1,10 +1,10 @@
-// What the act of an event says: whether it may be a model's, which net is its own, which move it has, and what it takes or gives outside.
+// What the act of an event says: whether it may be a model's, which net is its own, and what it takes or gives outside.
 #![tactic(auto)]
 
 ghost use Rattle.std.specs.Prelude.{◌≡◌, List, ℕ, ◌+◌, ◌*◌, ◌≤◌, ◌<◌, length};
 ghost use Rattle.eos.specs.Firing.{act_side};
 ghost use Rattle.model.specs.Rules.{nth, own_net};
-ghost use Rattle.model.specs.Acts.{as_act, index_of, held_act, move_in};
+ghost use Rattle.model.specs.Acts.{as_act, index_of, held_act};
 ghost use Rattle.model.specs.Held.{row_in};
 ghost use Rattle.model.specs.Test.{framed};
 
@@ -32,17 +32,6 @@ pub fn own_net(types: &[u8; 32], act: Act) -> u8
     match act {
         Act::Move { .. } => 0,
         Act::Idle { place } => types[place],
-    }
-}
-
-// The move of an event, from 1; 0 where it has none.
-pub fn move_of(kind: u8, index: u8) -> u8
-    requires { 1 ≤ index }
-    ensures { result ≡ move_in kind index }
-{
-    match Act::of(kind, index) {
-        Act::Move { .. } => index,
-        Act::Idle { .. } => 0,
     }
 }
 
