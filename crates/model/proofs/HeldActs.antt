@@ -50,14 +50,6 @@ index_back zero i h = omega (arith, sub-one i)
 index_back (suc zero) i h = omega (arith, sub-one i)
 index_back (suc (suc k)) i h = omega (arith, sub-one i)
 
--- a move's index is the move
-pub move-few : (kind i : ℕ) → 1 ≤ i → move_in kind i ≤ i
-move-few kind i h = omega (arith, go (act_of kind i), index_back kind i h)
-  where
-    go : (a : Act) → move_of a ≤ index_of a
-    go (move k) = omega arith
-    go (idle p) = omega arith
-
 module _ (f : Frame) where
   -- the test of what an act is held as is the rule
   pub act_same : (a : Act) → held_act f (kind_of a) (index_of a) ≡ right_act f a

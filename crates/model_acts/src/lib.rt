@@ -1,10 +1,10 @@
-// What the act of an event says: whether it may be a model's, which net is its own, which move it has, and what it takes or gives outside.
+// What the act of an event says: whether it may be a model's, which net is its own, and what it takes or gives outside.
 #![tactic(auto)]
 
 ghost use Rattle.std.specs.Prelude.{◌≡◌, List, ℕ, ◌+◌, ◌*◌, ◌≤◌, ◌<◌, length};
 ghost use Rattle.eos.specs.Firing.{act_side};
 ghost use Rattle.model.specs.Rules.{nth, own_net};
-ghost use Rattle.model.specs.Acts.{as_act, index_of, held_act, move_in};
+ghost use Rattle.model.specs.Acts.{as_act, index_of, held_act};
 ghost use Rattle.model.specs.Held.{row_in};
 ghost use Rattle.model.specs.Test.{framed};
 
@@ -35,25 +35,16 @@ pub fn own_net(types: &[u8; 32], act: Act) -> u8
     }
 }
 
-// The move of an event, from 1; 0 where it has none.
-pub fn move_of(kind: u8, index: u8) -> u8
-    requires { 1 ≤ index }
-    ensures { result ≡ move_in kind index }
-{
-    match Act::of(kind, index) {
-        Act::Move { .. } => index,
-        Act::Idle { .. } => 0,
-    }
-}
-
-// Row i of a table of arcs.
+// Row i of a table of arcs. A loop over the places: `map` of an array is slower.
 fn arcs_at(table: &[u8; 1024], i: usize) -> [u64; 32]
     requires { i < 32 }
     ensures { result ≡ row_in 32 table.now i }
 {
-    let mut row = [0u8; 32];
-    row.copy_from_slice(&table[i * 32..i * 32 + 32]);
-    row.map(|arc| arc as u64)
+    let mut row = [0u64; 32];
+    for k in 0..32 {
+        row[k] = table[i * 32 + k] as u64;
+    }
+    row
 }
 
 // The outer side of an event: its move's row of the table, or one net-token on the place at which it idles.

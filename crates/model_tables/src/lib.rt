@@ -4,10 +4,6 @@
 ghost use Rattle.std.specs.Prelude.{◌≡◌, ◌+◌, ◌≤◌, length};
 ghost use Rattle.std.proofs.lemmas.List.Edits.{sets};
 
-pub mod bytes;
-pub mod counts;
-pub mod sums;
-
 // Lays a row into a table, from `at` on.
 pub fn put_row<T: Copy>(table: &mut [T], at: usize, values: &[T; 32])
     requires { at + 32 ≤ length table.old }

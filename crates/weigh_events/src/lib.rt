@@ -4,11 +4,11 @@
 ghost use Rattle.std.specs.Prelude.{◌≡◌, ℕ, ◌≤◌, ◌<◌, length, get_or, pos, neg_ℤ, nat_abs, ◌-ℤ◌, ◌*ℤ◌, ◌≤ℤ◌};
 ghost use Rattle.eos.specs.Causes.{failing};
 ghost use Rattle.eos.specs.Weights.{dot};
+ghost use Rattle.model.specs.Acts.{as_act, index_of, move_of};
 ghost use Rattle.model.specs.Held.{no_event};
 ghost use Rattle.weigh.specs.Sums.{GainRow, Gains, Small, row_of, move_gain, event_gain, balanced_at, ActIn, found};
 
-use model::{Event, Model};
-use model_acts::move_of;
+use model::{Act, Event, Model};
 use weigh::dot;
 
 // What a transition gains by a row of weights: its post weighed, less its pre weighed.
@@ -50,15 +50,15 @@ pub fn gains(m: &Model, weights: &[[i16; 32]; 9]) -> [[i64; 32]; 9]
     table
 }
 
-// What move k gains, numbered from 1; 0 is no move.
-fn move_gain(k: u8, gains: &[i64; 32]) -> i64
-    requires { k ≤ 32 }
-    ensures { result ≡ move_gain gains.now k }
+// What an act gains: its move does, and idling gains nothing.
+fn act_gain(act: Act, gains: &[i64; 32]) -> i64
+    requires { index_of (as_act act) ≤ 32 }
+    ensures { result ≡ move_gain gains.now (move_of (as_act act)) }
 {
-    if k == 0 {
-        return 0;
+    match act {
+        Act::Move { index } => gains[index],
+        Act::Idle { .. } => 0,
     }
-    gains[k as usize - 1]
 }
 
 // A gain, as often as it is counted.
@@ -90,7 +90,7 @@ fn event_gain(e: &Event, nets: usize, gains: &[[i64; 32]; 9]) -> i64
     requires { (nets ≤ 8) × ActIn e.now × ((r : ℕ) → Small (row_of gains.now r)) }
     ensures { result ≡ event_gain nets e.now gains.now }
 {
-    let mut sum = move_gain(move_of(e.kind, e.index), &gains[0]);
+    let mut sum = act_gain(e.act(), &gains[0]);
     for n in 0..nets {
         sum += counts_gain(&gains[n + 1], &e.sync[n * 32..n * 32 + 32]);
     }

@@ -1,35 +1,34 @@
-use Prim.Native.Nat.{ℕ, suc, ◌+◌, ◌*◌}
+use Prim.Native.Nat.{suc, ◌+◌, ◌*◌}
 use mathlib.Core.Path.{◌≡◌, ap, ◌∙◌}
 use borrow.Author.Rules.{rules}
 use native.Mathlib.Omega.{arith}
 use native.Mathlib.Numerals.{add-one}
-use lib.IntN.{ℤ, pos, neg_ℤ, ◌+ℤ◌}
 use mir.Syntax.{w64}
 use mir.Val.{to_z, of_z}
 use Rattle.std.proofs.lemmas.Int.{ints}
-use Rattle.eos.specs.Weights.{dot}
-use Rattle.model.specs.Held.{row_in}
-use Rattle.model.proofs.HeldActs.{move-few}
+use Rattle.eos.specs.Model.{Act}
+use Rattle.model.specs.Acts.{as_act, index_of, move_of}
+use Rattle.model.proofs.HeldActs.{index_back}
 use Rattle.weigh.specs.Sums.{row_of, move_gain, event_gain}
 use Rattle.weigh.proofs.TotalLaws.{total_begins, total_further}
 use Rattle.weigh.proofs.DotLaws.{sum_step, within}
 use Rattle.weigh.proofs.GainLaws.{move_small, counts_part}
 use Rattle.weigh_events.proofs.event_gain.Goals as goal
 
-pub move_gain-sum-requires : goal.move_gain-sum-requires
-move_gain-sum-requires c =
+pub act_gain-sum-requires : goal.act_gain-sum-requires
+act_gain-sum-requires c =
     let e = c.args.e.now in
-    omega (arith, c.move_of.ensures, move-few e.kind e.index c.requires.1.least, c.requires.1.most)
+    omega (arith, ap index_of c.act.ensures, index_back e.kind e.index c.requires.1.least, c.requires.1.most)
 
 pub loop-n-init : goal.loop-n-init
 loop-n-init c =
-    let r = c.move_gain-sum.result in
+    let r = c.act_gain-sum.result in
     let row = row_of c.args.gains.now 0 in
     let held : to_z w64 (of_z w64 r) ≡ r = omega (arith, ints) in
-    let p = within (move_gain row c.move_of.result) 137436856320 (move_small row (c.requires.2 0) c.move_of.result) in (
-      rw held (c.move_gain-sum.ensures ∙ ap (move_gain row) c.move_of.ensures ∙ total_begins _ _),
-      rw (held, c.move_gain-sum.ensures) p.0,
-      rw (held, c.move_gain-sum.ensures) p.1,
+    let p = within (move_gain row (move_of (as_act c.act.result))) 137436856320 (move_small row (c.requires.2 0) (move_of (as_act c.act.result))) in (
+      rw held (c.act_gain-sum.ensures ∙ ap (λ (a : Act). move_gain row (move_of a)) c.act.ensures ∙ total_begins _ _),
+      rw (held, c.act_gain-sum.ensures) p.0,
+      rw (held, c.act_gain-sum.ensures) p.1,
     )
 
 pub counts_gain-sum-requires : goal.counts_gain-sum-requires
