@@ -119,13 +119,13 @@ pub fn fp_read_marking(model: Model, text: &[u8]) -> MarkingRead
 pub fn fp_test_model(model: Model) -> bool
     ensures { result ≡ held_model model }
 {
-    engine::test_model(model)
+    engine::test_model(&model)
 }
 
 pub fn fp_test_marking(model: Model, marking: Marking) -> bool
     ensures { result ≡ held_both model marking }
 {
-    engine::test_marking(model, marking)
+    engine::test_marking(&model, marking)
 }
 
 // A text written, as its answer says.
@@ -165,7 +165,7 @@ pub fn fp_check_weights(model: Model, marking: Marking, text: &[u8]) -> Weighed
 pub fn fp_step(model: Model, marking: Marking, text: &[u8]) -> StepDone
     ensures { result ≡ step_done (stepping model marking text.now) }
 {
-    let step = engine::step(model, marking, text);
+    let step = engine::step(&model, marking, text);
     let answer = step.answer;
     let pair = Pair::from(answer);
     let after = step.marking;
@@ -180,7 +180,7 @@ pub fn fp_step(model: Model, marking: Marking, text: &[u8]) -> StepDone
 pub fn fp_run(model: Model, marking: Marking, text: &[u8]) -> RunDone
     ensures { result ≡ run_done (running model marking text.now) }
 {
-    let ran = engine::run(model, marking, text);
+    let ran = engine::run(&model, marking, text);
     let stop = ran.stop;
     let pair = Pair::from(stop);
     let after = ran.marking;

@@ -30,7 +30,7 @@ fn put_step(rt: &impl Print, answer: StepAnswer) -> io::Result<()> {
 
 // Answers the marking after the step.
 pub fn step(rt: &impl Print, m: Model, k: Marking, text: &[u8]) -> io::Result<Marking> {
-    let r = engine::step(m, k, text);
+    let r = engine::step(&m, k, text);
     let answer = r.answer;
     put_step(rt, answer)?;
     Ok(r.marking)
@@ -52,7 +52,7 @@ pub fn write(rt: &impl Print, m: Model, k: Marking, text: &[u8]) -> io::Result<(
 }
 
 pub fn run(rt: &impl Print, m: Model, k: Marking, text: &[u8]) -> io::Result<()> {
-    let r = engine::run(m, k, text);
+    let r = engine::run(&m, k, text);
     print!(rt; "fired {}, at {}, stop ", r.fired, r.at)?;
     let stop = r.stop;
     put_pair(rt, Pair::from(stop))?;

@@ -167,7 +167,7 @@ pub fn check_weights(m: Model, k: Marking, s: &[u8]) -> WeightCheck
     if Model::LONGEST < s.len() {
         return weights_refused(WeightAnswer::TooLong);
     }
-    if !test_marking(m, k) {
+    if !test_marking(&m, k) {
         return weights_refused(WeightAnswer::NotHeld);
     }
     let read = weight_lines(shape_of(m), s);

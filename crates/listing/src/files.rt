@@ -35,5 +35,5 @@ pub fn trace_file(m: Model, k: Marking, s: &[u8]) -> Ran
     if LONGEST < s.len() {
         return runner_trace::run_refused(Stop::TooLong, k);
     }
-    run(m, k, s)
+    run(&m, k, s)
 }

@@ -1,20 +1,20 @@
 -- What the test and the rules say of an event's act, held as a kind and an index.
 use Prim.Native.Nat.{ℕ, zero, suc, ◌-◌, ◌≤◌, ◌<◌}
 use mathlib.Core.Path.{◌≡◌, refl, ap, sym, ◌∙◌}
-use mathlib.Core.Bool.{true, false, ◌&&◌}
+use mathlib.Core.Bool.{Bool, true, false, ◌&&◌}
 use mathlib.Core.List.{List, ◌∷◌}
 use native.Mathlib.Omega.{arith}
 use native.Mathlib.Numerals.{sub-one}
 use lib.Dec.{leb, ltb, eqb}
 use borrow.Author.Tests.{eq-eqb, eqb-true, ltb-true}
-use Rattle.text.proofs.Basics.{by_test, and_true}
+use Rattle.text.proofs.Basics.{and_true}
 use lib.ListN.{length, set, replicate}
 use Rattle.eos.specs.Vector.{◌⊕◌, zeros, unit}
 use Rattle.eos.specs.Model.{Act, move, idle}
 use Rattle.eos.specs.Firing.{act_side}
 use Rattle.eos.proofs.VectorSums.{length-one}
 use Rattle.model.specs.Rules.{Frame, right_act, own_net}
-use Rattle.model.specs.Acts.{kind_of, index_of, act_of, move_of, held_act, own_in, move_in, outer_in}
+use Rattle.model.specs.Acts.{kind_of, index_of, act_of, is_act, move_of, held_act, own_in, move_in, outer_in}
 use Rattle.model.specs.Held.{row_in}
 use Rattle.model.proofs.TableLaws.{length-row}
 
@@ -90,25 +90,23 @@ module _ (f : Frame) where
       let a = act_of kind index in
       (omega (arith, is.same_index, index-positive a), omega (arith, is.same_index, index-most a is.right m p))
 
-  -- the test, kind by kind
-  pub held_move : (i : ℕ) → 1 ≤ i → ltb (i - 1) f.moves ≡ held_act f 1 i
-  unfolding right_act
-  held_move i h = let e : i ≡ suc (i - 1) = omega arith in sym (ap (held_act f 1) e ∙ act_same (move (i - 1)))
-
-  pub held-idle : (i : ℕ) → 1 ≤ i → (ltb (i - 1) f.places && leb 1 (f.type (i - 1))) ≡ held_act f 2 i
-  unfolding right_act
-  held-idle i h = let e : i ≡ suc (i - 1) = omega arith in sym (ap (held_act f 2) e ∙ act_same (idle (i - 1)))
-
-  pub held_other : (kind i : ℕ) → (kind ≡ 1 → ⊥) → (kind ≡ 2 → ⊥) → false ≡ held_act f kind i
-  held_other kind i p q = by_test (held_act f kind i) (λ t. absurd (go (act_of kind i) (act-is kind i t).same_kind)) (λ t. sym t)
+  -- the test, for the act that is meant
+  pub held_no : (kind index : ℕ) → is_act kind index ≡ false → false ≡ held_act f kind index
+  unfolding held_act
+  held_no kind index h =
+      let a = act_of kind index in
+      sym (assoc (eqb (kind_of a) kind) (eqb (index_of a) index) (right_act f a) ∙ rw h)
     where
-      go : (a : Act) → kind_of a ≡ kind → ⊥
-      go (move k) e = p (sym e)
-      go (idle k) e = q (sym e)
+      assoc : (x y z : Bool) → (x && (y && z)) ≡ ((x && y) && z)
+      assoc true y z = refl
+      assoc false y z = refl
 
-  -- no index is 0
-  pub held_none : (kind : ℕ) → false ≡ held_act f kind 0
-  held_none kind = by_test (held_act f kind 0) (λ t. absurd (omega (arith, (act-is kind 0 t).same_index, index-positive (act_of kind 0)))) (λ t. sym t)
+  pub held_yes : (kind index : ℕ) (a : Act) → is_act kind index ≡ true → a ≡ act_of kind index → right_act f a ≡ held_act f kind index
+  unfolding held_act
+  held_yes kind index a h e =
+      let b = act_of kind index in
+      let p = and_true (eqb (kind_of b) kind) (eqb (index_of b) index) h in
+      ap (right_act f) e ∙ rw (p.0, p.1)
 
 -- ---- the outer side
 

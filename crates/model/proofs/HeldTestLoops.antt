@@ -4,14 +4,14 @@ use mathlib.Core.Path.{◌≡◌, refl, sym, ap, ◌∙◌}
 use mathlib.Core.List.{List, [], ◌∷◌, ◌++◌}
 use mathlib.Core.Bool.{Bool, true, false, cond, ◌&&◌, and-true, and-false, and_assoc, and_comm}
 use native.Mathlib.Omega.{arith}
-use native.Mathlib.Nat.{zero-add, add-zero, add-suc}
-use native.Mathlib.Numerals.{add-one}
+use native.Mathlib.Nat.{add-zero, add-suc}
 use lib.Dec.{leb, eqb, ltb}
-use borrow.Author.Tests.{leb-true, ltb-true, ltb-false, eqb-true, eqb-false, lt-ltb, le-ltb}
-use lib.ListN.{length, take, drop, get_or, set, replicate, get_or-replicate, take-append-drop, length-drop, drop_of_length-le, get_or-eq_default}
-use lib.Seq.{get_or-set_same, get_or-set_other, drop-cons, get_or-drop, drop-drop, paste, paste-suc}
+use borrow.Author.Tests.{leb-true, eqb-true, eqb-false, lt-ltb, le-ltb}
+use lib.ListN.{length, take, drop, get_or, set, replicate, get_or-replicate, take-append-drop, drop_of_length-le}
+use lib.Seq.{get_or-set_same, get_or-set_other, drop-drop}
 use Rattle.eos.specs.Firing.{all_below}
-use Rattle.text.specs.Lines.{in_range}
+use Rattle.std.specs.List.{fold}
+use Rattle.text.specs.Lines.{in_range, every}
 use Rattle.text.proofs.Basics as T
 use Rattle.text.proofs.Basics.{by_test}
 use Rattle.model.specs.Rules.{nth, Frame, takes_part}
@@ -37,33 +37,11 @@ module _ {A : Type 0} (i n : ℕ) (a b : A) where
   pub past : n ≤ i → b ≡ cond (ltb i n) a b
   past h = rw (le-ltb i n h)
 
--- ---- a loop that conjoins a test at each index
+-- ---- a test of each element, to the end
 
-pub turn : (f : ℕ → Bool) (i : ℕ) (x all t : Bool) → all ≡ (x && all_below i f) → t ≡ f i → (all && t) ≡ (x && all_below (i + 1) f)
-turn f i x all t e h = rw (add-one i, e, h) (and_assoc x (all_below i f) (f i) ∙ rw (and_comm (all_below i f) (f i)))
-
--- ---- a loop over a list that is to be 0
-
-module _ (s : List ℕ) (all : Bool) where
-  pub empty_turn : (i : ℕ) → i < length s → (all && eqb (get_or s i 0) 0 && empty (drop (i + 1) s)) ≡ (all && empty (drop i s))
-  empty_turn i h = rw (add-one i, drop-cons s i 0 h) (and_assoc all (eqb (get_or s i 0) 0) (empty (drop (suc i) s)))
-
-  pub empty_end : (i : ℕ) → length s ≤ i → all ≡ (all && empty (drop i s))
-  empty_end i h = rw (drop_of_length-le s h, and-true all)
-
--- ---- a row that is copied
-
--- d with its first k numbers replaced by those of l
-abbrev pub over : List ℕ → List ℕ → ℕ → List ℕ
-over d l k = take k l ++ drop k d
-
-module _ (d s : List ℕ) (at k : ℕ) where
-  pub over_turn : k < length d → at + k < length s → set (over d (drop at s) k) k (get_or s (at + k) 0) ≡ over d (drop at s) (k + 1)
-  over_turn h m =
-      let g : 0 + k < length d = rw (zero-add k) h in
-      let l : k < length (drop at s) = rw (length-drop at s) (omega arith) in
-      let e : set (paste d 0 (drop at s) k) (0 + k) (get_or (drop at s) k 0) ≡ paste d 0 (drop at s) (suc k) = paste-suc d 0 (drop at s) k 0 g l in
-      rw (add-one k, ← get_or-drop at s k 0) (simp zero-add at e)
+pub all_folded : {A : Type 0} (f : A → Bool) (l : List A) (all : Bool) → fold (λ (b : Bool) (a : A). b && f a) all l ≡ (all && every f l)
+all_folded f [] all = sym (and-true all)
+all_folded f (a ∷ l) all = all_folded f l (all && f a) ∙ and_assoc all (f a) (every f l)
 
 -- ---- tables with unused room
 
@@ -129,13 +107,6 @@ filled_turn f l k v h m e n b =
     by_test (eqb n k)
     (λ t. let q = eqb-true n k t in rw q (get_or-set_same l k v 0 h ∙ e))
     (λ t. let q = eqb-false n k t in get_or-set_other l k n v 0 q ∙ m n (omega arith))
-
-pub filled_end : (f : ℕ → ℕ) (l : List ℕ) (k : ℕ) → length l ≡ k → ((n : ℕ) → n < k → nth l n ≡ f n) → ((n : ℕ) → k ≤ n → f n ≡ 0)
-    → (n : ℕ) → nth l n ≡ f n
-filled_end f l k h m z n =
-    by_test (ltb n k)
-    (λ t. m n (ltb-true n k t))
-    (λ t. let b = ltb-false n k t in get_or-eq_default l 0 {n = n} (omega arith) ∙ sym (z n b))
 
 -- ---- object nets
 

@@ -8,6 +8,7 @@ pub mod HeldActs
 pub mod HeldTests
 pub mod UsedLaws
 pub mod RoomLaws
+pub mod ModelSized
 pub mod HeldTestLoops
 pub mod HoldModel
 pub mod HeldBack

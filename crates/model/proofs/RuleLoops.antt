@@ -1,62 +1,74 @@
--- The rules by one step of the loops that test them: a place, a net, a count.
-use Prim.Native.Nat.{ℕ, zero, suc, ◌+◌, ◌-◌, ◌≤◌, ◌<◌}
-use mathlib.Core.Path.{◌≡◌, refl}
-use mathlib.Core.List.{List}
-use mathlib.Core.Bool.{Bool, true, false, not, ◌||◌, and-false, true≢false, beq}
-use mathlib.Core.Logic.{◌⊎◌, inl, inr}
+-- The rules, asked of each number of a range in turn.
+use Prim.Native.Nat.{ℕ, zero, suc, ◌+◌, ◌-◌}
+use mathlib.Core.Path.{◌≡◌, refl, ap, sym, ◌∙◌}
+use mathlib.Core.List.{List, [], ◌∷◌}
+use mathlib.Core.Bool.{Bool, true, false, not, ◌&&◌, ◌||◌, beq}
 use native.Mathlib.Omega.{arith}
-use native.Mathlib.Numerals.{add-one}
+use native.Mathlib.Nat.{add-zero}
 use lib.Dec.{eqb}
-use borrow.Author.Tests.{eq-eqb, ne_eqb, lt-ltb, le-ltb}
-use lib.ListN.{length, drop, get_or, drop_of_length-le}
-use lib.Seq.{drop-cons}
+use lib.ListN.{length, get_or}
+use Rattle.std.specs.List.{list_all, list_any, range_with_len, enumerate_from}
 use Rattle.text.specs.Lines.{every}
-use Rattle.model.specs.Rules.{touches, monotonous, takes_part}
+use Rattle.eos.specs.Firing.{all_below}
+use Rattle.model.specs.Rules.{some_below, takes_part}
 
--- ---- places of a type with an arc
+-- ---- numbers from 0 on
 
-module _ (type : ℕ → ℕ) (d : ℕ) (side : ℕ → ℕ) where
-  pub touch_zero : touches 0 type d side ≡ false
-  unfolding touches
-  touch_zero = refl
+and_across : (a b c : Bool) → (a && (b && c)) ≡ (b && (a && c))
+and_across true b c = refl
+and_across false true c = refl
+and_across false false c = refl
 
-  pub touch_here : (i : ℕ) → 0 < i → type (i - 1) ≡ d → 0 < side (i - 1) → touches i type d side ≡ true
-  unfolding touches
-  touch_here zero p a b = absurd (omega arith)
-  touch_here (suc i) p a b = let e : suc i - 1 ≡ i = omega arith in rw (eq-eqb _ _ (rw e at a), lt-ltb _ _ (rw e at b))
+or_across : (a b c : Bool) → (a || (b || c)) ≡ (b || (a || c))
+or_across false b c = refl
+or_across true true c = refl
+or_across true false c = refl
 
-  pub touch_other : (i : ℕ) → 0 < i → (type (i - 1) ≡ d → ⊥) → touches i type d side ≡ touches (i - 1) type d side
-  unfolding touches
-  touch_other zero p a = absurd (omega arith)
-  touch_other (suc i) p a = let e : suc i - 1 ≡ i = omega arith in rw (e, ne_eqb _ _ (rw e at a))
+all_first : (n : ℕ) (f : ℕ → Bool) → all_below (suc n) f ≡ (f 0 && all_below n (λ k. f (suc k)))
+all_first zero f = refl
+all_first (suc n) f = ap (λ (b : Bool). f (suc n) && b) (all_first n f) ∙ and_across (f (suc n)) (f 0) (all_below n (λ k. f (suc k)))
 
-  pub touch_none : (i : ℕ) → 0 < i → side (i - 1) ≤ 0 → touches i type d side ≡ touches (i - 1) type d side
-  unfolding touches
-  touch_none zero p a = absurd (omega arith)
-  touch_none (suc i) p a = let e : suc i - 1 ≡ i = omega arith in rw (e, le-ltb _ _ (rw e at a), and-false)
+some_first : (n : ℕ) (f : ℕ → Bool) → some_below (suc n) f ≡ (f 0 || some_below n (λ k. f (suc k)))
+some_first zero f = refl
+some_first (suc n) f = ap (λ (b : Bool). f (suc n) || b) (some_first n f) ∙ or_across (f (suc n)) (f 0) (some_below n (λ k. f (suc k)))
 
--- ---- nets that are kept
+all_from : (n i : ℕ) (f : ℕ → Bool) (g : ℕ → Bool) → ((k : ℕ) → f (i + k) ≡ g k) → list_all f (range_with_len i n) ≡ all_below n g
+all_from zero i f g h = refl
+all_from (suc n) i f g h =
+    let first : f i ≡ g 0 = rw (add-zero i) at (h 0) in
+    let rest = all_from n (i + 1) f (λ k. g (suc k)) (λ k. let e : i + 1 + k ≡ i + suc k = omega arith in rw e (h (suc k))) in
+    rw (first, rest) (sym (all_first n g))
 
-or_kept : (a b : Bool) → (a ≡ false) ⊎ (b ≡ true) → (not a || b) ≡ true
-or_kept true b (inl e) = absurd (true≢false e)
-or_kept true b (inr e) = e
-or_kept false b h = refl
+some_from : (n i : ℕ) (f : ℕ → Bool) (g : ℕ → Bool) → ((k : ℕ) → f (i + k) ≡ g k) → list_any f (range_with_len i n) ≡ some_below n g
+some_from zero i f g h = refl
+some_from (suc n) i f g h =
+    let first : f i ≡ g 0 = rw (add-zero i) at (h 0) in
+    let rest = some_from n (i + 1) f (λ k. g (suc k)) (λ k. let e : i + 1 + k ≡ i + suc k = omega arith in rw e (h (suc k))) in
+    rw (first, rest) (sym (some_first n g))
 
-module _ (n : ℕ) (type pre post : ℕ → ℕ) where
-  pub mono_zero : monotonous 0 n type pre post ≡ true
-  unfolding monotonous
-  mono_zero = refl
+pub all_same : (n : ℕ) (f g : ℕ → Bool) → ((k : ℕ) → f k ≡ g k) → list_all f (range_with_len 0 n) ≡ all_below n g
+all_same n f g h = all_from n 0 f g (λ k. let e : 0 + k ≡ k = omega arith in ap f e ∙ h k)
 
-  pub mono_bad : (k : ℕ) → 0 < k → touches n type k pre ≡ true → touches n type k post ≡ false → monotonous k n type pre post ≡ false
-  unfolding monotonous
-  mono_bad zero p a b = absurd (omega arith)
-  mono_bad (suc k) p a b = rw (a, b, monotonous)
+pub some_in_range : (n : ℕ) (f : ℕ → Bool) → list_any f (range_with_len 0 n) ≡ some_below n f
+some_in_range n f = some_from n 0 f f (λ k. let e : 0 + k ≡ k = omega arith in ap f e)
 
-  pub mono_kept : (k : ℕ) → 0 < k → (touches n type k pre ≡ false) ⊎ (touches n type k post ≡ true)
-      → monotonous k n type pre post ≡ monotonous (k - 1) n type pre post
-  unfolding monotonous
-  mono_kept zero p h = absurd (omega arith)
-  mono_kept (suc k) p h = let e : suc k - 1 ≡ k = omega arith in rw (e, or_kept (touches n type (suc k) pre) (touches n type (suc k) post) h)
+array_from : {A : Type 0} (d : A) (f : ℕ → A → Bool) (l : List A) (i : ℕ) (g : ℕ → Bool) → ((k : ℕ) → f (i + k) (get_or l k d) ≡ g k)
+    → list_all (λ (p : ℕ × A). f p.0 p.1) (enumerate_from i l) ≡ all_below (length l) g
+array_from d f [] i g h = refl
+array_from {A = A} d f (a ∷ l) i g h =
+    let first : f i a ≡ g 0 = rw (add-zero i) at (h 0) in
+    let rest = array_from d f l (i + 1) (λ k. g (suc k)) (λ k. let e : i + 1 + k ≡ i + suc k = omega arith in rw e (h (suc k))) in
+    rw (first, rest) (sym (all_first (length l) g))
+
+-- each element with its index
+pub all_in_array : {A : Type 0} (d : A) (f : ℕ → A → Bool) (l : List A) (n : ℕ) → length l ≡ n
+    → list_all (λ (p : ℕ × A). f p.0 p.1) (enumerate_from 0 l) ≡ all_below n (λ k. f k (get_or l k d))
+all_in_array d f l n e =
+    array_from d f l 0 (λ k. f k (get_or l k d)) (λ k. let z : 0 + k ≡ k = omega arith in rw z) ∙ rw e
+
+pub every_in_list : {A : Type 0} (f : A → Bool) (l : List A) → list_all f l ≡ every f l
+every_in_list f [] = refl
+every_in_list f (a ∷ l) = ap (λ (b : Bool). f a && b) (every_in_list f l)
 
 -- ---- counts
 
@@ -64,38 +76,21 @@ module _ (n : ℕ) (type pre post : ℕ → ℕ) where
 abbrev pub zeros : List ℕ → Bool
 zeros l = every (λ c. eqb c 0) l
 
-module _ (l : List ℕ) (i : ℕ) where
-  pub zeros_other : i < length l → (get_or l i 0 ≡ 0 → ⊥) → zeros (drop i l) ≡ false
-  zeros_other h e = rw (drop-cons l i 0 h, ne_eqb _ _ e)
-
-  pub zeros_more : i < length l → get_or l i 0 ≡ 0 → zeros (drop i l) ≡ zeros (drop (i + 1) l)
-  zeros_more h e = rw (add-one i, drop-cons l i 0 h, eq-eqb _ _ e)
-
-  pub zeros_end : length l ≤ i → zeros (drop i l) ≡ true
-  zeros_end h = rw (drop_of_length-le l h)
-
-beq_true : (t : Bool) → t ≡ beq true t
-beq_true true = refl
-beq_true false = refl
-
-beq_false : (t : Bool) → not t ≡ beq false t
-beq_false true = refl
-beq_false false = refl
+beq_across : (a b : Bool) → beq a b ≡ beq b a
+beq_across true true = refl
+beq_across true false = refl
+beq_across false true = refl
+beq_across false false = refl
 
 module _ (n : ℕ) (v : List ℕ) where
   pub part_move : (own : ℕ) → own ≡ 0 → true ≡ takes_part own n v
   unfolding takes_part
   part_move own e = rw e
 
-  pub part_own : (own : ℕ) → (own ≡ 0 → ⊥) → own - 1 ≡ n → (t : Bool) → t ≡ not (zeros v) → t ≡ takes_part own n v
+  pub part_idle : (own : ℕ) → (own ≡ 0 → ⊥) → (some : Bool) → some ≡ not (zeros v) → beq some (eqb (own - 1) n) ≡ takes_part own n v
   unfolding takes_part
-  part_own zero p e t h = absurd (p refl)
-  part_own (suc own) p e t h = let k : own ≡ n = omega arith in rw (eq-eqb _ _ k, h) (beq_true (not (zeros v)))
-
-  pub part_other : (own : ℕ) → (own ≡ 0 → ⊥) → (own - 1 ≡ n → ⊥) → (t : Bool) → t ≡ not (zeros v) → not t ≡ takes_part own n v
-  unfolding takes_part
-  part_other zero p e t h = absurd (p refl)
-  part_other (suc own) p e t h = let k : own ≡ n → ⊥ = (λ q. e (omega arith)) in rw (ne_eqb _ _ k, h) (beq_false (not (zeros v)))
+  part_idle zero p some h = absurd (p refl)
+  part_idle (suc own) p some h = let e : suc own - 1 ≡ own = omega arith in rw (e, h) (beq_across (not (zeros v)) (eqb own n))
 
   -- only whether there are counts matters
   pub part_same : (w : List ℕ) → zeros w ≡ zeros v → (own : ℕ) → takes_part own n w ≡ takes_part own n v

@@ -5,6 +5,8 @@ use Rattle.std.specs.Prelude.{ℕ, zero, suc, pred, Bool, ◌&&◌, List, eqb}
 use Rattle.eos.specs.Model.{Act, move, idle}
 use Rattle.eos.specs.Firing.{act_side}
 use Rattle.model.specs.Rules.{Frame, right_act, own_net}
+use Rattle.model.specs.declared.Act as code
+use Rattle.model.specs.declared.Act.TheVariants.{Move, Idle}
 
 -- ---- by cases
 
@@ -23,6 +25,11 @@ act_of zero i = move (pred i)
 act_of (suc zero) i = move (pred i)
 act_of (suc (suc k)) i = idle (pred i)
 
+-- the act of the theory that one of the code is
+abbrev pub as_act : code.Act → Act
+as_act (Move k) = move k
+as_act (Idle p) = idle p
+
 -- the move of an event, from 1; 0 where it has none
 abbrev pub move_of : Act → ℕ
 move_of (move k) = suc k
@@ -30,7 +37,11 @@ move_of (idle p) = 0
 
 -- ---- of a kind and an index
 
--- they are those of the act that they stand for, and it is one of the model's
+-- they are those of the act that they stand for
+abbrev pub is_act : ℕ → ℕ → Bool
+is_act kind index = let a = act_of kind index in eqb (kind_of a) kind && eqb (index_of a) index
+
+-- they are, and it is one of the model's
 unfoldable pub held_act : Frame → ℕ → ℕ → Bool
 held_act f kind index = let a = act_of kind index in eqb (kind_of a) kind && (eqb (index_of a) index && right_act f a)
 

@@ -2,7 +2,8 @@
 // test of a held model: definitions and laws.
 #![tactic(auto)]
 
-ghost use Rattle.std.specs.Prelude.{◌≡◌};
+ghost use Rattle.std.specs.Prelude.{◌≡◌, ◌≤◌};
+ghost use Rattle.model.specs.Acts.{as_act, kind_of, index_of, act_of, is_act};
 ghost use Rattle.model.specs.Held.{no_net, no_event, no_model};
 
 // An object net; arcs at transition * 32 + place. Unused room is 0.
@@ -28,8 +29,28 @@ impl ObjectNet {
     }
 }
 
-// An event: of kind 1 a move, of kind 2 idling at a place; the index is the move's or the place's number, from 1. The count of a
-// transition stands at net * 32 + transition. Unused room is 0.
+// The system net's part of an event: a move, or idling at a place; moves and places are numbered from 0.
+#[derive(Clone, Copy, PartialEq, Eq)]
+pub enum Act {
+    Move { index: usize },
+    Idle { place: usize },
+}
+
+impl Act {
+    // The act that a kind and an index stand for. A kind and an index of no act stand for one too: a held model has none of them.
+    pub fn of(kind: u8, index: u8) -> Act
+        ensures { as_act result ≡ act_of kind index }
+    {
+        let number = (index as usize).saturating_sub(1);
+        if kind < Event::IDLE {
+            return Act::Move { index: number };
+        }
+        Act::Idle { place: number }
+    }
+}
+
+// An event: of kind 1 a move, of kind 2 idling at a place; the index is the move's or the place's number, from 1. A caller in C may store
+// any byte as either. The count of a transition stands at net * 32 + transition. Unused room is 0.
 #[repr(C)]
 #[derive(Clone, Copy)]
 pub struct Event {
@@ -41,6 +62,43 @@ pub struct Event {
 impl Event {
     // The counts of 32 transitions for each of 8 nets.
     pub const SYNC: usize = 8 * 32;
+
+    pub const MOVE: u8 = 1;
+
+    pub const IDLE: u8 = 2;
+
+    // An event of an act.
+    pub fn new(act: Act, sync: [u8; Event::SYNC]) -> Event
+        requires { index_of (as_act act) ≤ 255 }
+        ensures { result ≡ record { kind = kind_of (as_act act); index = index_of (as_act act); sync = sync } }
+    {
+        match act {
+            Act::Move { index } => Event {
+                kind: Event::MOVE,
+                index: index as u8 + 1,
+                sync,
+            },
+            Act::Idle { place } => Event {
+                kind: Event::IDLE,
+                index: place as u8 + 1,
+                sync,
+            },
+        }
+    }
+
+    // What the kind and the index stand for.
+    pub fn act(&self) -> Act
+        ensures { as_act result ≡ act_of self.now.kind self.now.index }
+    {
+        Act::of(self.kind, self.index)
+    }
+
+    // Whether the kind and the index are those of an act.
+    pub fn is_act(&self) -> bool
+        ensures { result ≡ is_act self.now.kind self.now.index }
+    {
+        (self.kind == Event::MOVE || self.kind == Event::IDLE) && self.index != 0
+    }
 
     pub fn empty() -> Event
         ensures { result ≡ no_event }

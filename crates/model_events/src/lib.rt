@@ -8,7 +8,7 @@ ghost use Rattle.model.specs.Held.{no_event};
 ghost use Rattle.model_text.specs.Reading.{read_idle, read_move, read_act, read_sync, read_event};
 ghost use Rattle.model_text.specs.Answers.{as_frame, Fitting, acting_of, counts_of, syncs_of, event_lines_of, events_of};
 
-use model::{Event, Model};
+use model::{Act, Event, Model};
 use model_acts::own_net;
 use model_nets::narrow;
 use model_rules::takes_part;
@@ -88,7 +88,7 @@ fn sync_at(s: &[u8], at: usize, f: Frame, own: u8, n: usize) -> Counts
     };
     let values = a.values;
     let counts = narrow(values);
-    if !takes_part(own, n, counts) {
+    if !takes_part(own, n, &counts) {
         return Counts {
             ended: Ended::Stopped {
                 fault: fault_at(5, at),
@@ -148,7 +148,7 @@ fn event_at(s: &[u8], at: usize, f: Frame) -> EventLines
     match a {
         Acting::Acts { kind, index, next } => {
             let types = f.types;
-            let own = own_net(types, kind, index);
+            let own = own_net(&types, Act::of(kind, index));
             let b = syncs_at(s, next, f, own);
             let e = b.ended;
             let Ended::Past { next: last } = e else {

@@ -69,7 +69,7 @@ fn sides_at(s: &[u8], at: usize, size: usize, nets: u8, types: [u8; 32]) -> Side
     let y = b.values;
     let pre = narrow(x);
     let post = narrow(y);
-    if !monotonous(nets, size, types, pre, post) {
+    if !monotonous(nets, size, &types, &pre, &post) {
         return no_sides(fault_at(4, next));
     }
     Sides {

@@ -10,7 +10,7 @@ use Rattle.text.specs.Bytes.{Text}
 use Rattle.model.specs.Test.{held_model}
 use Rattle.model.specs.declared.Model.{Model}
 use Rattle.model.specs.contracts.Model as model
-use Rattle.model_packed.proofs.ModelSized.{model-sized}
+use Rattle.model.proofs.ModelSized.{model-sized}
 use Rattle.marking.specs.declared.Marking.{Marking}
 use Rattle.marking.specs.contracts.Marking as marking
 use Rattle.marking.proofs.SizedLaws.{marking_sized}

@@ -121,7 +121,7 @@ pub fn read_marking(m: Model, s: &[u8]) -> MarkingReading
     if Model::LONGEST < s.len() {
         return no_tokens(ReadAnswer::TooLong);
     }
-    if !model_test::is_held(m) {
+    if !model_test::is_held(&m) {
         return no_tokens(ReadAnswer::NotHeld);
     }
     let lines = marking_lines(place_sizes(m), s);
@@ -134,20 +134,20 @@ pub fn read_marking(m: Model, s: &[u8]) -> MarkingReading
 }
 
 // Whether m is held as a model is.
-pub fn test_model(m: Model) -> bool
-    ensures { result ≡ held_model m }
+pub fn test_model(m: &Model) -> bool
+    ensures { result ≡ held_model m.now }
 {
     model_test::is_held(m)
 }
 
 // Whether m is held as a model is, and k as a marking of it.
-pub fn test_marking(m: Model, k: Marking) -> bool
-    ensures { result ≡ held_both m k }
+pub fn test_marking(m: &Model, k: Marking) -> bool
+    ensures { result ≡ held_both m.now k }
 {
     if !model_test::is_held(m) {
         return false;
     }
-    marking_test::is_held(k, m.places as u16, sizes(m))
+    marking_test::is_held(k, m.places as u16, sizes(*m))
 }
 
 // The answer for how the writing of a text ended.
@@ -164,7 +164,7 @@ fn written_as(wrote: Result<usize, TooSmall>) -> WriteAnswer
 pub fn write_marking(m: Model, k: Marking, out: &mut [u8]) -> WriteAnswer
     ensures { record { answer = result; bytes = out.new } ≡ marking_writing m k out.old }
 {
-    if !test_marking(m, k) {
+    if !test_marking(&m, k) {
         return WriteAnswer::Unheld;
     }
     written_as(write(k, m.places as u16, sizes(m), b"start=", out, 0))

@@ -36,7 +36,8 @@ use Rattle.reader.specs.Reading.{bounds}
 use Rattle.reader.proofs.HeldExactly.{length-canonical}
 use Rattle.marking.specs.Sizes.{sizes_for}
 use Rattle.marking.proofs.SizeLaws.{held_roomy, sizes_same}
-use Rattle.step.specs.Rule.{Rule, hold_rule}
+use Rattle.step.specs.Rule.{hold_rule}
+use Rattle.step.specs.declared.Rule.{Rule}
 use Rattle.step.specs.Reading.{read_step, right_step}
 use Rattle.step.proofs.StepExactly.{step_exactly}
 use Rattle.step.proofs.ChangeLaws.{change_is}

@@ -28,7 +28,8 @@ use Rattle.reader.specs.Reading.{bounds}
 use Rattle.marking.specs.Sizes.{sizes_in, sizes_for}
 use Rattle.reader.specs.Answers.{held_both, held_in}
 use Rattle.marking.proofs.SizeLaws.{held_roomy}
-use Rattle.step.specs.Rule.{Rule, hold_rule}
+use Rattle.step.specs.Rule.{hold_rule}
+use Rattle.step.specs.declared.Rule.{Rule}
 use Rattle.step.specs.Reading.{read_step}
 use Rattle.step.specs.declared.StepLines.{StepLines}
 use Rattle.step.specs.declared.Verdict.{Verdict}

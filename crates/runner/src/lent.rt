@@ -4,11 +4,7 @@ ghost use Rattle.eos.specs.Causes.{first};
 ghost use Rattle.model.specs.Limits.{room_limit, longest, rows_room};
 ghost use Rattle.marking.specs.Rows.{rows_in, Kept};
 ghost use Rattle.step.specs.Verdict.{causes_in, verdict_of};
-ghost use Rattle.model.specs.Held.{SizedModel};
-ghost use Rattle.model_packed.specs.Packed.{model_in};
-ghost use Rattle.model_packed.specs.Layout.{packed_long};
-ghost use Rattle.step.specs.Rule.{rule_in};
-ghost use Rattle.step.specs.VerdictParts.{SidesLent, Placed};
+ghost use Rattle.step.specs.VerdictParts.{Sound, Placed};
 ghost use Rattle.marking.specs.Sizes.{sizes_in};
 ghost use Rattle.reader.specs.Answers.{held_both};
 ghost use Rattle.runner.specs.Parts.{answered, ruled};
@@ -16,7 +12,8 @@ ghost use Rattle.runner.specs.Answers.{held_step};
 
 use super::{StepAnswer, StepEnd};
 use marking::Marking;
-use step::Verdict;
+use model::Model;
+use step::{Rule, Verdict};
 use step_change::change;
 use step_read::read_step;
 use step_rule::rule_of;
@@ -37,11 +34,9 @@ fn answer_of(s: &[u8], ended: Ended) -> StepAnswer
 }
 
 // A step whose lines were read, up to `next`: it is turned down, or the rows are changed.
-fn fire<'a>(
+fn fire(
     room: usize,
-    plan: &[u8],
-    pre: &'a [u64],
-    post: &'a [u64],
+    rule: &Rule,
     rows: &mut [u16; Marking::ROWS],
     len: usize,
     taken: &[u16],
@@ -50,12 +45,12 @@ fn fire<'a>(
     give: usize,
     next: usize,
 ) -> StepEnd
-    requires { (room ≤ room_limit) × SidesLent plan.now pre.now post.now × Placed take taken.now × Placed give given.now × Kept len rows.old }
+    requires { (room ≤ room_limit) × Sound rule.now × Placed take taken.now × Placed give given.now × Kept len rows.old }
     ensures { record { answer = result.answer; marking = record { len = result.len; rows = rows.new } }
         ≡ ruled next (record { len = len; rows = rows.old }) (rows_in take taken.now) (rows_in give given.now)
-        (verdict_of take (first (causes_in room (rule_in plan.now pre.now post.now) (rows_in take taken.now) (rows_in give given.now) (rows_in len rows.old)))) }
+        (verdict_of take (first (causes_in room rule.now (rows_in take taken.now) (rows_in give given.now) (rows_in len rows.old)))) }
 {
-    let judged = verdict(room, plan, pre, post, taken, take, given, give, rows, len);
+    let judged = verdict(room, rule, taken, take, given, give, rows, len);
     let Verdict::Turned { cause, beside } = judged else {
         change(rows, len, taken, take, given, give);
         return StepEnd {
@@ -69,11 +64,11 @@ fn fire<'a>(
     }
 }
 
-// A step on the lent rows of a held marking, with its room, of a held model that is packed: for a run over many steps, the held test and the laying stand
-// once in front of the run. `taken` and `given` are room for the step's net-tokens.
+// A step on the lent rows of a held marking, with its room, of a held model: for a run over many steps, the held test stands once in front
+// of the run. `taken` and `given` are room for the step's net-tokens.
 pub fn step_on(
     room: usize,
-    plan: &[u8],
+    m: &Model,
     sizes: [u8; 32],
     rows: &mut [u16; Marking::ROWS],
     len: usize,
@@ -81,11 +76,11 @@ pub fn step_on(
     taken: &mut [u16; Marking::ROWS],
     given: &mut [u16; Marking::ROWS],
 ) -> StepEnd
-    requires { (room ≤ room_limit) × (length plan.now ≡ packed_long) × SizedModel (model_in plan.now) × (held_both (model_in plan.now) (record { len = len; rows = rows.old }) ≡ true)
-        × (sizes ≡ sizes_in (model_in plan.now)) × (length s.now ≤ longest) × (length rows.old ≡ rows_room) }
-    ensures { record { answer = result.answer; marking = record { len = result.len; rows = rows.new } } ≡ held_step room (model_in plan.now) (record { len = len; rows = rows.old }) s.now }
+    requires { (room ≤ room_limit) × (held_both m.now (record { len = len; rows = rows.old }) ≡ true) × (sizes ≡ sizes_in m.now)
+        × (length s.now ≤ longest) × (length rows.old ≡ rows_room) }
+    ensures { record { answer = result.answer; marking = record { len = result.len; rows = rows.new } } ≡ held_step room m.now (record { len = len; rows = rows.old }) s.now }
 {
-    let lines = read_step(s, plan[3] as u16, plan[1] as u16, sizes, taken, given);
+    let lines = read_step(s, m.listed as u16, m.places as u16, sizes, taken, given);
     let ended = lines.ended;
     let Ended::Past { next } = ended else {
         return StepEnd {
@@ -93,10 +88,9 @@ pub fn step_on(
             len,
         };
     };
-    let mut pre = [0u64; 288];
-    let mut post = [0u64; 288];
-    rule_of(plan, lines.event, &mut pre, &mut post);
+    let mut rule = Rule::empty();
+    rule_of(m, lines.event, &mut rule);
     fire(
-        room, plan, &pre, &post, rows, len, taken, lines.take, given, lines.give, next,
+        room, &rule, rows, len, taken, lines.take, given, lines.give, next,
     )
 }

@@ -7,12 +7,11 @@ use super::{StepAnswer, Stepped};
 use marking::Marking;
 use marking_test::sizes;
 use model::Model;
-use model_packed::{PACKED, pack};
 use reader::test_marking;
 
 // The step call: the step that the text begins with, tried on a marking of a model.
-pub fn step(m: Model, k: Marking, s: &[u8]) -> Stepped
-    ensures { result ≡ stepping m k s.now }
+pub fn step(m: &Model, k: Marking, s: &[u8]) -> Stepped
+    ensures { result ≡ stepping m.now k s.now }
 {
     if Model::LONGEST < s.len() {
         return Stepped {
@@ -29,12 +28,10 @@ pub fn step(m: Model, k: Marking, s: &[u8]) -> Stepped
     let mut rows = k.rows;
     let mut taken = [0u16; Marking::ROWS];
     let mut given = [0u16; Marking::ROWS];
-    let mut plan = [0u8; PACKED];
-    pack(m, &mut plan);
     let end = step_on(
         Model::ROOM as usize,
-        &plan,
-        sizes(m),
+        m,
+        sizes(*m),
         &mut rows,
         k.len,
         s,

@@ -5,10 +5,7 @@ use Rattle.text.specs.Lines.{spot_of}
 use Rattle.text.specs.declared.Ended.{Ended}
 use Rattle.text.specs.declared.Ended.TheVariants.{Past, Stopped}
 use Rattle.model.specs.Limits.{room_limit, rows_room, longest}
-use Rattle.model.specs.Held.{SizedModel}
 use Rattle.model.specs.declared.Model.{Model}
-use Rattle.model_packed.specs.Packed.{model_in}
-use Rattle.model_packed.specs.Layout.{packed_long}
 use Rattle.marking.specs.declared.Marking.{Marking}
 use Rattle.marking.specs.Sizes.{sizes_in}
 use Rattle.reader.specs.Answers.{held_both}
@@ -70,12 +67,10 @@ unfoldable pub turn_at : Model → Text → ℕ → Come → Come
 turn_at m s at c =
     elim (leb (length s) at) [ true ↦ turned at c.far.fired (marking_in c) (Off AtEnd) | false ↦ step_turned at c.far.fired (held_step room_limit m (marking_in c) (drop at s)) ]
 
--- what a turn at `at` asks: a held marking of a held model that is packed, the model's sizes, and no more steps fired than bytes used
-pub record Ready (plan sizes : List ℕ) (s : Text) (at : ℕ) (c : Come) : Type 0 where
-  pub plan_long : length plan ≡ packed_long
-  pub sized : SizedModel (model_in plan)
-  pub held : held_both (model_in plan) (marking_in c) ≡ true
-  pub sizes-are : sizes ≡ sizes_in (model_in plan)
+-- what a turn at `at` asks: a held marking of a held model, the model's sizes, and no more steps fired than bytes used
+pub record Ready (m : Model) (sizes : List ℕ) (s : Text) (at : ℕ) (c : Come) : Type 0 where
+  pub held : held_both m (marking_in c) ≡ true
+  pub sizes-are : sizes ≡ sizes_in m
   pub within : length s ≤ longest
   pub rows_long : length c.rows ≡ rows_room
   pub behind : c.far.fired ≤ at

@@ -3,9 +3,6 @@
 
 ghost use Rattle.std.specs.Prelude.{◌≡◌, true, ◌≤◌, length, drop};
 ghost use Rattle.model.specs.Limits.{longest};
-ghost use Rattle.model.specs.Held.{SizedModel};
-ghost use Rattle.model_packed.specs.Packed.{model_in};
-ghost use Rattle.model_packed.specs.Layout.{packed_long};
 ghost use Rattle.marking.specs.Sizes.{sizes_in};
 ghost use Rattle.reader.specs.Answers.{held_both};
 ghost use Rattle.runner_trace.specs.Parts.{stop_in, turn_of, TurnFits, progress_of, Ready, turn_at, reached};
@@ -14,7 +11,6 @@ ghost use Rattle.runner_trace.specs.Running.{ran, run_from, running};
 use marking::Marking;
 use marking_test::sizes;
 use model::Model;
-use model_packed::{PACKED, pack};
 use reader::test_marking;
 use runner::StepAnswer;
 use runner::lent::step_on;
@@ -105,7 +101,7 @@ fn progress_of(at: usize, fired: usize, len: usize, turn: Turn) -> Progress
 
 // One turn of a run at `at`: at the end of the text it stops; else the next step is tried, and the run goes on behind its bytes or stops.
 fn turn_at<'s>(
-    plan: &[u8],
+    m: &Model,
     sizes: [u8; 32],
     rows: &'s mut [u16; Marking::ROWS],
     taken: &'s mut [u16; Marking::ROWS],
@@ -114,9 +110,9 @@ fn turn_at<'s>(
     at: usize,
     p: Progress,
 ) -> Progress
-    requires { Ready plan.now sizes s.now at (record { far = p; rows = rows.old }) }
+    requires { Ready m.now sizes s.now at (record { far = p; rows = rows.old }) }
     ensures { record { far = result; rows = rows.new }
-        ≡ turn_at (model_in plan.now) s.now at (record { far = p; rows = rows.old }) }
+        ≡ turn_at m.now s.now at (record { far = p; rows = rows.old }) }
 {
     if s.len() <= at {
         let end = Turn::Off { stop: Stop::AtEnd };
@@ -124,7 +120,7 @@ fn turn_at<'s>(
     }
     let end = step_on(
         Model::ROOM as usize,
-        plan,
+        m,
         sizes,
         rows,
         p.len,
@@ -138,7 +134,7 @@ fn turn_at<'s>(
 
 // The turn at the place of a reader.
 fn turn_from<'s, 'a>(
-    plan: &[u8],
+    m: &Model,
     sizes: [u8; 32],
     rows: &'s mut [u16; Marking::ROWS],
     taken: &'s mut [u16; Marking::ROWS],
@@ -146,16 +142,16 @@ fn turn_from<'s, 'a>(
     r: Reader<'a>,
     p: Progress,
 ) -> Progress
-    requires { Ready plan.now sizes r.src.now r.at (record { far = p; rows = rows.old }) }
+    requires { Ready m.now sizes r.src.now r.at (record { far = p; rows = rows.old }) }
     ensures { record { far = result; rows = rows.new }
-        ≡ turn_at (model_in plan.now) r.entry.src.now r.entry.at (record { far = p; rows = rows.old }) }
+        ≡ turn_at m.now r.entry.src.now r.entry.at (record { far = p; rows = rows.old }) }
 {
-    turn_at(plan, sizes, rows, taken, given, r.src, r.at, p)
+    turn_at(m, sizes, rows, taken, given, r.src, r.at, p)
 }
 
 // The turns of a run that has just begun, up to its stop: the reader is moved from step to step by the bytes used.
 fn steps_at(
-    plan: &[u8],
+    m: &Model,
     sizes: [u8; 32],
     rows: &mut [u16; Marking::ROWS],
     taken: &mut [u16; Marking::ROWS],
@@ -163,24 +159,23 @@ fn steps_at(
     s: &[u8],
     from: Progress,
 ) -> Progress
-    requires { Ready plan.now sizes s.now from.at (record { far = from; rows = rows.old }) × (from.on ≡ true) × (from.fired ≡ 0) }
+    requires { Ready m.now sizes s.now from.at (record { far = from; rows = rows.old }) × (from.on ≡ true) × (from.fired ≡ 0) }
     ensures { reached (record { far = result; rows = rows.new })
-        ≡ run_from (length s.now) (model_in plan.now) (record { len = from.len; rows = rows.old }) (drop from.at s.now) 0 from.at }
+        ≡ run_from (length s.now) m.now (record { len = from.len; rows = rows.old }) (drop from.at s.now) 0 from.at }
 {
     let mut p = from;
     let mut r = Reader { src: s, at: p.at };
     while p.on {
-        p = turn_from(plan, sizes, rows, taken, given, r, p);
+        p = turn_from(m, sizes, rows, taken, given, r, p);
         r = r.moved(p.at);
     }
     p
 }
 
-// The steps from `from` to the end of the text or the first stop, on a held marking of a held model that is packed.
-fn run_steps(plan: &[u8], sizes: [u8; 32], k: Marking, s: &[u8], from: usize) -> Ran
-    requires { (length plan.now ≡ packed_long) × SizedModel (model_in plan.now) × (held_both (model_in plan.now) k ≡ true)
-        × (sizes ≡ sizes_in (model_in plan.now)) × (length s.now ≤ longest) }
-    ensures { result ≡ run_from (length s.now) (model_in plan.now) k (drop from s.now) 0 from }
+// The steps from `from` to the end of the text or the first stop, on a held marking of a held model.
+fn run_steps(m: &Model, sizes: [u8; 32], k: Marking, s: &[u8], from: usize) -> Ran
+    requires { (held_both m.now k ≡ true) × (sizes ≡ sizes_in m.now) × (length s.now ≤ longest) }
+    ensures { result ≡ run_from (length s.now) m.now k (drop from s.now) 0 from }
 {
     let mut rows = k.rows;
     let mut taken = [0u16; Marking::ROWS];
@@ -192,7 +187,7 @@ fn run_steps(plan: &[u8], sizes: [u8; 32], k: Marking, s: &[u8], from: usize) ->
         len: k.len,
         stop: Stop::AtEnd,
     };
-    let end = steps_at(plan, sizes, &mut rows, &mut taken, &mut given, s, p);
+    let end = steps_at(m, sizes, &mut rows, &mut taken, &mut given, s, p);
     let stop = end.stop;
     Ran {
         fired: end.fired,
@@ -227,8 +222,8 @@ fn stop_of(s: &[u8], ended: Ended) -> Stop
 }
 
 // The run over a trace: the header, then steps, tried on a marking of a model.
-pub fn run(m: Model, k: Marking, s: &[u8]) -> Ran
-    ensures { result ≡ running m k s.now }
+pub fn run(m: &Model, k: Marking, s: &[u8]) -> Ran
+    ensures { result ≡ running m.now k s.now }
 {
     if Model::LONGEST < s.len() {
         return run_refused(Stop::TooLong, k);
@@ -240,7 +235,5 @@ pub fn run(m: Model, k: Marking, s: &[u8]) -> Ran
     let Ended::Past { next } = head else {
         return run_refused(stop_of(s, head), k);
     };
-    let mut plan = [0u8; PACKED];
-    pack(m, &mut plan);
-    run_steps(&plan, sizes(m), k, s, next)
+    run_steps(m, sizes(*m), k, s, next)
 }

@@ -11,7 +11,7 @@ use Rattle.eos.specs.Multiset as M
 use Rattle.eos.specs.Causes.{Cause, missing, crowded, first}
 use Rattle.eos.proofs.CauseLaws.{first_none, unless_yes, at_yes}
 use Rattle.marking.specs.Rows.{Row}
-use Rattle.step.specs.Rule.{Rule}
+use Rattle.step.specs.declared.Rule.{Rule}
 use Rattle.step.specs.declared.Verdict.TheVariants.{Fires}
 use Rattle.step.specs.Verdict.{lacking_rows, outer_causes, inner_causes, marking_causes, causes_in, cause_pair, verdict_of}
 use Rattle.step.proofs.LackLaws.{lacking-within}

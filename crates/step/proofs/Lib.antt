@@ -1,6 +1,6 @@
 pub mod ArcSums
 pub mod RuleHeld
-pub mod PlanLaws
+pub mod RuleMade
 pub mod VectorArrays
 pub mod RowProjections
 pub mod InsideLaws

@@ -32,7 +32,8 @@ use Rattle.model.proofs.HeldTests.{Held, moves_are, most-nets, most-places, most
 use Rattle.model.proofs.HeldTestLoops.{few-steps}
 use Rattle.model.proofs.HeldActs.{act-is, act_range}
 use Rattle.model.proofs.UsedLaws.{types-empty, count-is, net_used, net-held, event_used}
-use Rattle.step.specs.Rule.{Sides, hold_sides, hold_rule}
+use Rattle.step.specs.Rule.{hold_sides, hold_rule}
+use Rattle.step.specs.declared.Sides.{Sides}
 use Rattle.step.specs.RuleParts.{sum_rows, net_sum}
 
 -- ---- sums, number by number

@@ -11,7 +11,8 @@ use Rattle.eos.specs.Vector.{le_v, eq_v}
 use Rattle.eos.specs.Causes.{Cause, taking, giving, short, unequal, missing, crowded, first, unless, at, failing, numbered}
 use Rattle.marking.specs.Rows.{Row}
 use Rattle.model.specs.Held.{row_in}
-use Rattle.step.specs.Rule.{Sides, Rule}
+use Rattle.step.specs.declared.Sides.{Sides}
+use Rattle.step.specs.declared.Rule.{Rule}
 use Rattle.step.specs.declared.Verdict.{Verdict}
 use Rattle.step.specs.declared.Verdict.TheVariants.{Fires, Turned}
 use Rattle.step.specs.Verdict.{outer_rows, inner_taken_in, inner_given_in, lacking_rows, outer_causes, inner_causes, marking_causes, causes_in, cause_pair, verdict_of}

@@ -1,25 +1,12 @@
 -- How an event's sides are held, added up over the counts of its transitions; unused room 0.
-use Rattle.std.specs.Prelude.{ℕ, List, length, take, drop}
+use Rattle.std.specs.Prelude.{ℕ, List, length, replicate}
 use Rattle.text.specs.Answers.{padded}
 use Rattle.eos.specs.Model as eos
 use Rattle.eos.specs.Firing.{outer_of, inner_of, pre, post}
 use Rattle.model.specs.Limits.{inner_room}
-use Rattle.model.specs.Rules.{nth}
 use Rattle.model.specs.Held.{row, tabled, listed}
-use Rattle.model_packed.specs.Layout.{types_at}
-
--- one side of an event: how many net-tokens it has on each place, and how many tokens on each place of each object net; the number of
--- place i of net n stands at n * 32 + i
-pub record Sides : Type 0 where
-  pub outer : List ℕ
-  pub inner : List ℕ
-
--- what the firing rule asks of a step of one event: the types of the places, and the event's two sides
-pub record Rule : Type 0 where
-  pub nets : ℕ
-  pub types : List ℕ
-  pub pre : Sides
-  pub post : Sides
+use Rattle.step.specs.declared.Sides.{Sides}
+use Rattle.step.specs.declared.Rule.{Rule}
 
 -- pre(τ̂) or post(τ̂), and for each net pre_N(θ(N)) or post_N(θ(N))
 unfoldable pub hold_sides : (eos.Transition → List ℕ) → eos.Model → eos.Event → Sides
@@ -34,10 +21,9 @@ hold_rule m k = record {
   post = hold_sides post m (eos.event m k);
 }
 
--- a side in nine rows of 32, the first for the places, then one for each net
-abbrev pub rule_sides : List ℕ → Sides
-rule_sides l = record { outer = take 32 l; inner = take inner_room (drop 32 l) }
+-- room that is not used
+abbrev pub no_sides : Sides
+no_sides = record { outer = replicate 32 0; inner = replicate inner_room 0 }
 
--- the rule of two sides, with the number of nets and the types of a model that is packed
-abbrev pub rule_in : List ℕ → List ℕ → List ℕ → Rule
-rule_in plan pre post = record { nets = nth plan 0; types = take 32 (drop types_at plan); pre = rule_sides pre; post = rule_sides post }
+abbrev pub no_rule : Rule
+no_rule = record { nets = 0; types = replicate 32 0; pre = no_sides; post = no_sides }

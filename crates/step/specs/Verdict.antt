@@ -7,7 +7,8 @@ use Rattle.eos.specs.Model.{Marking}
 use Rattle.eos.specs.Causes.{Refusal, Cause, taking, giving, short, unequal, missing, crowded, unless, at, failing}
 use Rattle.marking.specs.Rows.{Row}
 use Rattle.model.specs.Held.{row_in}
-use Rattle.step.specs.Rule.{Sides, Rule}
+use Rattle.step.specs.declared.Sides.{Sides}
+use Rattle.step.specs.declared.Rule.{Rule}
 use Rattle.step.specs.declared.Verdict.{Verdict}
 use Rattle.step.specs.declared.Verdict.TheVariants.{Fires, Turned}
 

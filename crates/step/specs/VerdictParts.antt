@@ -4,8 +4,7 @@ use Rattle.eos.specs.Vector.{◌⊕◌, ◌⊖◌, eq_v}
 use Rattle.model.specs.Limits.{room_limit, count_limit, inner_room, rows_room}
 use Rattle.marking.specs.Rows.{Row, rows_in}
 use Rattle.model.specs.Held.{row_in}
-use Rattle.model_packed.specs.Layout.{packed_long}
-use Rattle.step.specs.Rule.{Rule, rule_in}
+use Rattle.step.specs.declared.Rule.{Rule}
 use Rattle.step.specs.Verdict.{inside_in, inner_rows}
 
 -- ---- what is required
@@ -16,13 +15,6 @@ pub record Sound (q : Rule) : Type 0 where
   pub types : (p : ℕ) → get_or q.types p 0 ≤ 8
   pub pre : (k : ℕ) → get_or q.pre.inner k 0 < 2 ^ 32
   pub post : (k : ℕ) → get_or q.post.inner k 0 < 2 ^ 32
-
--- an event's sides, beside the model that is packed
-pub record SidesLent (plan pre post : List ℕ) : Type 0 where
-  pub plan_long : length plan ≡ packed_long
-  pub pre-long : length pre ≡ 288
-  pub post-long : length post ≡ 288
-  pub sound : Sound (rule_in plan pre post)
 
 -- each row has a place, from 1 to 32
 abbrev pub OnPlaces : List Row → Type 0

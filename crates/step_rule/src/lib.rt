@@ -1,97 +1,81 @@
-// What an event asks and gives, added up: the sides of its move or of idling, and those of its object nets' transitions. The model is laid
-// packed (`model_packed`). A side is nine rows of 32: the net-tokens on each place, and then for each object net the tokens on its places; unused
-// room is 0.
+// What an event asks and gives, added up: the sides of its move or of idling, and those of its object nets' transitions.
 #![tactic(auto)]
 
-ghost use Rattle.std.specs.Prelude.{◌≡◌, true, ℕ, ◌+◌, ◌*◌, ◌≤◌, ◌<◌, length, replicate};
+ghost use Rattle.std.specs.Prelude.{◌≡◌, true, ℕ, ◌+◌, ◌*◌, ◌≤◌, ◌<◌, length, get_or, replicate};
 ghost use Rattle.eos.specs.Vector.{◌⊕◌, times, zeros};
-ghost use Rattle.text.specs.Repeat.{fill};
-ghost use Rattle.model.specs.Limits.{sync_room};
-ghost use Rattle.model.specs.Held.{row, row_in, put_row, listed, model_of};
+ghost use Rattle.model.specs.Limits.{inner_room};
+ghost use Rattle.model.specs.Held.{SizedModel, row_in, no_net, model_of};
 ghost use Rattle.model.specs.Rules.{nth};
 ghost use Rattle.model.specs.Test.{held_model};
-ghost use Rattle.model_packed.specs.Packed.{model_in};
-ghost use Rattle.model_packed.specs.Layout.{post_at, net_post, packed_long};
-ghost use Rattle.step.specs.Rule.{hold_rule, rule_in};
-ghost use Rattle.step.specs.RuleParts.{sum_rows, PackedEvent, net_sum_in, side_in};
+ghost use Rattle.step.specs.Rule.{hold_rule, no_rule};
+ghost use Rattle.step.specs.RuleParts.{sum_rows, pre_arcs, post_arcs, net_sums};
 
-use model::Event;
+use model::{Event, Model};
 use model_acts::outer_side;
-use model_packed::{
-    EVENT, EVENT_SYNC, EVENTS, OBJECT, OBJECT_POST, OBJECT_PRE, OBJECTS, POST, PRE,
-};
-use model_tables::sums::put_sums;
+use model_tables::put_row;
+use step::Rule;
 
 // Row t of a table of arcs added to the sum, as often as it is counted.
-fn plus_times(sum: &mut [u64; 32], count: u8, table: &[u8], t: usize)
-    requires { (length sum.old ≡ 32) × (t * 32 + 32 ≤ length table.now) × ((i : ℕ) → nth sum.old i ≤ 4294967296) }
+fn plus_times(sum: &mut [u64; 32], count: u8, table: &[u8; 1024], t: usize)
+    requires { (t < 32) × ((i : ℕ) → nth sum.old i ≤ 4294967296) }
     ensures { (sum.new ≡ sum.old ⊕ times count (row_in 32 table.now t)) × ((i : ℕ) → nth sum.new i ≤ nth sum.old i + 65025) }
 {
     if count == 0 {
         return;
     }
-    let at = t * 32;
-    let mut k = 0;
-    while k < 32 {
-        sum[k] = sum[k] + count as u64 * table[at + k] as u64;
-        k += 1;
+    for k in 0..32 {
+        sum[k] += count as u64 * table[t * 32 + k] as u64;
     }
 }
 
 // The rows of a net's transitions added up, each as often as it is counted; the net's counts begin at `from`.
-fn summed<'a>(sync: &'a [u8], from: usize, table: &'a [u8], transitions: usize) -> [u64; 32]
-    requires { (from + 32 ≤ length sync.now) × (length sync.now ≡ sync_room) × (transitions ≤ 32) × (length table.now ≡ 1024) }
+fn summed(
+    sync: &[u8; Event::SYNC],
+    from: usize,
+    table: &[u8; 1024],
+    transitions: usize,
+) -> [u64; 32]
+    requires { (from + 32 ≤ length sync.now) × (transitions ≤ 32) }
     ensures { result ≡ sum_rows (λ t. nth sync.now (from + t)) (row_in 32 table.now) 0 transitions (zeros 32) }
 {
     let mut sum = [0u64; 32];
-    let mut t = 0;
-    while t < transitions {
+    for t in 0..transitions {
         plus_times(&mut sum, sync[from + t], table, t);
-        t += 1;
     }
     sum
 }
 
-// The rows of the object nets laid behind the first row, for the counts of event e; a net's arcs of this side begin at `arcs`.
-fn inner_side(plan: &[u8], e: usize, arcs: usize, side: &mut [u64; 288])
-    requires { PackedEvent plan.now e × (arcs ≤ net_post) × (length side.old ≡ 288) }
-    ensures { side.new ≡ fill (put_row row) 1 (listed (net_sum_in plan.now e arcs) 0 (nth plan.now 0)) side.old }
+// The rows of the object nets on both sides, for the counts of an event.
+fn inner_sides(
+    m: &Model,
+    sync: &[u8; Event::SYNC],
+    pre: &mut [u64; Model::INSIDE],
+    post: &mut [u64; Model::INSIDE],
+)
+    requires { (m.now.nets ≤ 8) × ((n : ℕ) → (get_or m.now.objects n no_net).transitions ≤ 32)
+        × (pre.old ≡ replicate inner_room 0) × (post.old ≡ replicate inner_room 0) }
+    ensures { (pre.new ≡ net_sums pre_arcs m.now sync.now) × (post.new ≡ net_sums post_arcs m.now sync.now) }
 {
-    let sync = EVENTS + e * EVENT + EVENT_SYNC;
-    let nets = plan[0] as usize;
-    let mut n = 0;
-    while n < nets {
-        let net = OBJECTS + n * OBJECT;
-        let from = net + arcs;
-        let transitions = plan[net + 1] as usize;
-        let sum = summed(
-            &plan[sync..sync + Event::SYNC],
-            n * 32,
-            &plan[from..from + 1024],
-            transitions,
-        );
-        put_sums(side, (n + 1) * 32, sum);
-        n += 1;
+    for n in 0..m.nets {
+        let net = &m.objects[n];
+        let transitions = net.transitions;
+        put_row(pre, n * 32, &summed(sync, n * 32, &net.pre, transitions));
+        put_row(post, n * 32, &summed(sync, n * 32, &net.post, transitions));
     }
 }
 
-// A side of event e; the arcs of the moves of this side begin at `moves`.
-fn side_of(plan: &[u8], e: usize, moves: usize, arcs: usize, side: &mut [u64; 288])
-    requires { PackedEvent plan.now e × (moves ≤ post_at) × (arcs ≤ net_post) × (side.old ≡ replicate 288 0) }
-    ensures { side.new ≡ side_in plan.now e moves arcs }
+// What the firing rule asks of a step of event e, which is one of the held model's, into room that is all 0. The arrays of the model that
+// is lent have their room, and bytes in it.
+pub fn rule_of(m: &Model, e: usize, rule: &mut Rule)
+    requires { (held_model m.now ≡ true) × (e < m.now.listed) × (rule.old ≡ no_rule) }
+    ensures made { rule.new ≡ hold_rule (model_of m.now) e }
+    ensures sized { SizedModel m.now }
 {
-    let at = EVENTS + e * EVENT;
-    let outer = outer_side(plan[at], plan[at + 1], &plan[moves..moves + 1024]);
-    put_sums(side, 0, outer);
-    inner_side(plan, e, arcs, side);
-}
-
-// What the firing rule asks of a step of event e, which is one of the held model's, into room that is all 0.
-pub fn rule_of(plan: &[u8], e: usize, pre: &mut [u64; 288], post: &mut [u64; 288])
-    requires { (length plan.now ≡ packed_long) × (held_model (model_in plan.now) ≡ true) × (e < (model_in plan.now).listed) × (pre.old ≡ replicate 288 0) × (post.old ≡ replicate 288 0) }
-    ensures { (length pre.new ≡ 288) × (length post.new ≡ 288)
-        × (rule_in plan.now pre.new post.new ≡ hold_rule (model_of (model_in plan.now)) e) }
-{
-    side_of(plan, e, PRE, OBJECT_PRE, pre);
-    side_of(plan, e, POST, OBJECT_POST, post);
+    let event = &m.events[e];
+    let act = event.act();
+    rule.nets = m.nets;
+    rule.types = m.types;
+    rule.pre.outer = outer_side(act, &m.pre);
+    rule.post.outer = outer_side(act, &m.post);
+    inner_sides(m, &event.sync, &mut rule.pre.inner, &mut rule.post.inner);
 }

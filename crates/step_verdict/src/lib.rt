@@ -7,12 +7,10 @@ ghost use Rattle.model.specs.Limits.{room_limit, rows_room};
 ghost use Rattle.marking.specs.Rows.{rows_in, Kept};
 ghost use Rattle.step.specs.declared.Verdict.TheVariants.{Turned};
 ghost use Rattle.step.specs.Verdict.{outer_causes, inner_causes, marking_causes, causes_in, verdict_of};
-ghost use Rattle.step.specs.Rule.{rule_sides, rule_in};
-ghost use Rattle.step.specs.VerdictParts.{SidesLent, Placed};
+ghost use Rattle.step.specs.VerdictParts.{Sound, Placed};
 
 use model::Model;
-use model_packed::{PRE, TYPES};
-use step::Verdict;
+use step::{Rule, Sides, Verdict};
 use step_projections::containment::lacking;
 use step_projections::nets::{short_net, unbalanced_net};
 use step_projections::{inner_of, outer_of, same_places};
@@ -28,48 +26,39 @@ fn turned(cause: u8, beside: usize) -> Verdict
 
 // The tests on the places (8): the net-tokens taken are those that the event asks, and those given are those that it gives.
 pub fn on_places(
-    pre: &[u64],
-    post: &[u64],
+    pre: &Sides,
+    post: &Sides,
     taken: &[u16],
     take: usize,
     given: &[u16],
     give: usize,
 ) -> Verdict
-    requires { (length pre.now ≡ 288) × (length post.now ≡ 288) × Placed take taken.now × Placed give given.now }
-    ensures { result ≡ verdict_of take (first (outer_causes (rule_sides pre.now) (rule_sides post.now) (rows_in take taken.now) (rows_in give given.now))) }
+    requires { Placed take taken.now × Placed give given.now }
+    ensures { result ≡ verdict_of take (first (outer_causes pre.now post.now (rows_in take taken.now) (rows_in give given.now))) }
 {
-    if !same_places(outer_of(taken, take), &pre[0..32]) {
+    if !same_places(outer_of(taken, take), &pre.outer) {
         return turned(8, 2);
     }
-    if !same_places(outer_of(given, give), &post[0..32]) {
+    if !same_places(outer_of(given, give), &post.outer) {
         return turned(8, take + 3);
     }
     Verdict::Fires
 }
 
 // The tests on the nets (9 and 10): the tokens inside the net-tokens taken are enough, and those inside the net-tokens given are what is left.
-pub fn on_nets<'a>(
-    plan: &[u8],
-    pre: &'a [u64],
-    post: &'a [u64],
-    taken: &[u16],
-    take: usize,
-    given: &[u16],
-    give: usize,
-) -> Verdict
-    requires { SidesLent plan.now pre.now post.now × Placed take taken.now × Placed give given.now }
-    ensures { result ≡ verdict_of take (first (inner_causes (rule_in plan.now pre.now post.now) (rows_in take taken.now) (rows_in give given.now))) }
+pub fn on_nets(rule: &Rule, taken: &[u16], take: usize, given: &[u16], give: usize) -> Verdict
+    requires { Sound rule.now × Placed take taken.now × Placed give given.now }
+    ensures { result ≡ verdict_of take (first (inner_causes rule.now (rows_in take taken.now) (rows_in give given.now))) }
 {
-    let nets = plan[0] as usize;
     let mut held = [0u64; Model::INSIDE];
-    inner_of(taken, take, &plan[TYPES..PRE], &mut held);
-    let short = short_net(nets, &pre[32..288], &held);
+    inner_of(taken, take, &rule.types, &mut held);
+    let short = short_net(rule.nets, &rule.pre.inner, &held);
     if short != 0 {
         return turned(9, short);
     }
     let mut made = [0u64; Model::INSIDE];
-    inner_of(given, give, &plan[TYPES..PRE], &mut made);
-    let unbalanced = unbalanced_net(nets, &made, &held, &pre[32..288], &post[32..288]);
+    inner_of(given, give, &rule.types, &mut made);
+    let unbalanced = unbalanced_net(rule.nets, &made, &held, &rule.pre.inner, &rule.post.inner);
     if unbalanced != 0 {
         return turned(10, unbalanced);
     }
@@ -98,13 +87,11 @@ pub fn on_marking(
     Verdict::Fires
 }
 
-// Why a step is turned down, or that it fires: an event with the sides `pre` and `post`, of a model that is packed; `take` rows of `taken`
-// and `give` rows of `given`, on a marking of `len` rows with its room. The three parts are asked in turn.
-pub fn verdict<'a>(
+// Why a step is turned down, or that it fires: what the rule asks of its event; `take` rows of `taken` and `give` rows of `given`, on a
+// marking of `len` rows with its room. The three parts are asked in turn.
+pub fn verdict(
     room: usize,
-    plan: &[u8],
-    pre: &'a [u64],
-    post: &'a [u64],
+    rule: &Rule,
     taken: &[u16],
     take: usize,
     given: &[u16],
@@ -112,14 +99,14 @@ pub fn verdict<'a>(
     rows: &[u16],
     len: usize,
 ) -> Verdict
-    requires { (room ≤ room_limit) × SidesLent plan.now pre.now post.now × Placed take taken.now × Placed give given.now × Kept len rows.now }
-    ensures { result ≡ verdict_of take (first (causes_in room (rule_in plan.now pre.now post.now) (rows_in take taken.now) (rows_in give given.now) (rows_in len rows.now))) }
+    requires { (room ≤ room_limit) × Sound rule.now × Placed take taken.now × Placed give given.now × Kept len rows.now }
+    ensures { result ≡ verdict_of take (first (causes_in room rule.now (rows_in take taken.now) (rows_in give given.now) (rows_in len rows.now))) }
 {
-    let outer = on_places(pre, post, taken, take, given, give);
+    let outer = on_places(&rule.pre, &rule.post, taken, take, given, give);
     let Verdict::Fires = outer else {
         return outer;
     };
-    let inner = on_nets(plan, pre, post, taken, take, given, give);
+    let inner = on_nets(rule, taken, take, given, give);
     let Verdict::Fires = inner else {
         return inner;
     };

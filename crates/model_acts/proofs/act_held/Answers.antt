@@ -1,30 +1,28 @@
--- `act_held` is `held_act`, by the kind of the event.
-use Prim.Native.Nat.{◌≤◌}
-use mathlib.Core.Path.{refl, ◌∙◌}
-use native.Mathlib.Omega.{arith}
+-- `act_held` is `held_act`, case by case of the act.
+use mathlib.Core.Path.{refl, ap, sym, ◌∙◌}
 use borrow.Author.Tests.{lt-ltb, le-ltb}
+use Rattle.model.specs.Rules.{right_act}
+use Rattle.model.specs.Acts.{as_act}
+use Rattle.model.specs.Test.{framed}
 use Rattle.model.proofs.HeldTestLoops.{and_no, and_yes}
-use Rattle.model.proofs.HeldActs.{held_move, held-idle, held_other, held_none}
+use Rattle.model.proofs.HeldActs.{held_no, held_yes}
 use Rattle.model_acts.proofs.act_held.Goals as goal
-use Rattle.model_acts.proofs.act_held.Goals.{Else-index-eq0}
 
--- the index is not 0
-some : (c : Else-index-eq0) → 1 ≤ c.args.index
-some c = omega (arith, c.if-index-eq0.false)
+pub returns-then-not-is_act : goal.returns-then-not-is_act
+returns-then-not-is_act c = λ nets steps. let a = c.args in held_no _ _ _ (sym c.is_act.ensures ∙ c.if-not-is_act.true)
 
-pub returns-then-index-eq0 : goal.returns-then-index-eq0
-returns-then-index-eq0 c = λ _ _. rw c.if-index-eq0.true (held_none _ c.args.kind)
+pub returns-in-Move : goal.returns-in-Move
+unfolding right_act
+returns-in-Move c = λ nets steps. let a = c.args in held_yes (framed a.places a.moves nets a.types.now steps) _ _ _ (sym c.is_act.ensures ∙ c.if-not-is_act.false) (ap as_act (sym c.in-Move.is) ∙ c.act.ensures)
 
-pub returns-then-kind-eq1 : goal.returns-then-kind-eq1
-returns-then-kind-eq1 c = λ _ _. rw c.if-kind-eq1.true (held_move _ _ (some (goal.at.returns-then-kind-eq1 c).Else-index-eq0))
+pub returns-then-place-places : goal.returns-then-place-places
+unfolding right_act
+returns-then-place-places c = λ nets steps. let a = c.args in
+    and_yes _ _ _ (lt-ltb _ _ c.if-place-places.true) refl
+    ∙ held_yes (framed a.places a.moves nets a.types.now steps) _ _ _ (sym c.is_act.ensures ∙ c.if-not-is_act.false) (ap as_act (sym c.in-Idle.is) ∙ c.act.ensures)
 
-pub returns-then-i-places : goal.returns-then-i-places
-returns-then-i-places c =
-    λ _ _. rw c.if-kind-eq2.true (and_yes _ _ _ (lt-ltb _ _ c.if-i-places.true) refl ∙ held-idle _ _ (some (goal.at.returns-then-i-places c).Else-index-eq0))
-
-pub returns-else-i-places : goal.returns-else-i-places
-returns-else-i-places c =
-    λ _ _. rw c.if-kind-eq2.true (and_no _ _ (le-ltb _ _ c.if-i-places.false) ∙ held-idle _ _ (some (goal.at.returns-else-i-places c).Else-index-eq0))
-
-pub returns-else-kind-eq2 : goal.returns-else-kind-eq2
-returns-else-kind-eq2 c = λ _ _. held_other _ _ _ c.if-kind-eq1.false c.if-kind-eq2.false
+pub returns-else-place-places : goal.returns-else-place-places
+unfolding right_act
+returns-else-place-places c = λ nets steps. let a = c.args in
+    le-ltb _ _ c.if-place-places.false ∙ and_no _ _ (le-ltb _ _ c.if-place-places.false)
+    ∙ held_yes (framed a.places a.moves nets a.types.now steps) _ _ _ (sym c.is_act.ensures ∙ c.if-not-is_act.false) (ap as_act (sym c.in-Idle.is) ∙ c.act.ensures)

@@ -1,27 +1,17 @@
+-- `arcs_at` is a row of the table.
+use Prim.Native.Nat.{◌*◌, ◌+◌, ◌-◌}
 use borrow.Author.Rules.{rules}
-use Prim.Native.Nat.{◌<◌, ◌+◌, ◌*◌}
-use mathlib.Core.Path.{◌≡◌, refl, ◌∙◌}
-use mathlib.Core.List.{append-nil}
+use mathlib.Core.Path.{◌≡◌, sym, ◌∙◌}
 use native.Mathlib.Omega.{arith}
-use lib.ListN.{length, take, drop, replicate}
-use Rattle.model.proofs.HeldTestLoops.{over_turn}
+use lib.ListN.{length}
+use lib.Seq.{ext_get_or}
 use Rattle.model_acts.proofs.arcs_at.Goals as goal
-
-pub loop-k-init : goal.loop-k-init
-loop-k-init c = (search rules, refl)
-
-pub overflow_cast-row : goal.overflow_cast-row
-overflow_cast-row c =
-    omega (arith, c.type_inv.table (c.args.i * 32 + c.loop-k.k))
-
-pub loop-k-preserved : goal.loop-k-preserved
-loop-k-preserved c =
-    let a = c.args in
-    let h : a.i * 32 + c.loop-k.k < length a.table.now = search rules in
-    (omega arith, rw c.loop-k.invariant.1 (over_turn (replicate 32 0) a.table.now (a.i * 32) c.loop-k.k c.loop-k-test.true h))
 
 pub returns : goal.returns
 returns c =
-    let a = c.args in
-    let e : c.loop-k.k ≡ 32 = omega arith in
-    c.loop-k.invariant.1 ∙ rw e (append-nil (take 32 (drop (a.i * 32) a.table.now)))
+    let m = c.map.ensures.items in
+    let n : length c.map.result ≡ 32 = m.long in
+    let e : length c.copy_from_slice.new.self ≡ 32 = c.copy_from_slice.ensures.len in
+    let same : c.map.result ≡ c.copy_from_slice.new.self =
+    ext_get_or 0 c.map.result c.copy_from_slice.new.self (n ∙ sym e) (λ k h. let u = m.at k 0 0 (omega arith) in search rules) in
+    same ∙ c.copy_from_slice.ensures.after ∙ (let w : c.args.i * 32 + 32 - c.args.i * 32 ≡ 32 = omega arith in rw w)

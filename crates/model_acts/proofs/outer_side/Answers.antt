@@ -1,12 +1,9 @@
--- `outer_side` is `outer_in`, by the kind of the event.
-use Prim.Native.Nat.{◌-◌}
+-- `outer_side` is the act's side.
 use native.Mathlib.Omega.{arith}
-use Rattle.model.proofs.HeldActs.{act-move, act-idle, set-unit}
+use Rattle.model.proofs.HeldActs.{set-unit}
 use Rattle.model_acts.proofs.outer_side.Goals as goal
 
-pub returns-then-kind-lt2 : goal.returns-then-kind-lt2
-returns-then-kind-lt2 c = let a = c.args in rw (act-move a.kind a.index c.if-kind-lt2.true) c.arcs_at.ensures
-
-pub returns : goal.returns
-returns c =
-    rw (act-idle c.args.kind c.args.index c.if-kind-lt2.false) (set-unit 32 (c.args.index - 1) (omega (arith, c.requires)))
+pub returns-in-Idle : goal.returns-in-Idle
+returns-in-Idle c =
+    let few = rw c.in-Idle.is at c.requires in
+    rw c.in-Idle.is (set-unit 32 c.in-Idle.place (omega (arith, few)))

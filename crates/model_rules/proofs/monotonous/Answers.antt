@@ -1,21 +1,20 @@
-use mathlib.Core.Path.{◌≡◌, sym, ◌∙◌}
-use mathlib.Core.Logic.{inl, inr}
-use native.Mathlib.Omega.{arith}
-use Rattle.model.proofs.RuleLoops.{mono_bad, mono_kept, mono_zero}
+use borrow.Author.Rules.{rules}
+use Prim.Native.Nat.{ℕ, suc, ◌+◌}
+use mathlib.Core.Path.{refl, ap, ◌∙◌}
+use mathlib.Core.Bool.{Bool, not, ◌||◌}
+use native.Mathlib.Nat.{sub-zero}
+use native.Mathlib.Numerals.{add-one}
+use Rattle.std.proofs.lemmas.Iterator.{YieldsList-from_range}
+use Rattle.std.proofs.lemmas.Iterator.Search.{all_from_yields_List}
+use Rattle.model.specs.Rules.{nth, touches, monotonous}
+use Rattle.model.proofs.RuleLoops.{all_same}
 use Rattle.model_rules.proofs.monotonous.Goals as goal
 
-pub returns-then-not-touches : goal.returns-then-not-touches
-returns-then-not-touches c =
-    sym (c.loop-k.invariant.1
-    ∙ mono_bad _ _ _ _ _ c.loop-k-test.true (sym c.touches.ensures ∙ c.if-touches.true) (sym c.touches-then-touches.ensures ∙ c.if-not-touches.true))
-
-pub loop-k-preserved-else-not-touches : goal.loop-k-preserved-else-not-touches
-loop-k-preserved-else-not-touches c =
-    (omega arith, c.loop-k.invariant.1 ∙ mono_kept _ _ _ _ _ c.loop-k-test.true (inr (sym c.touches-then-touches.ensures ∙ c.if-not-touches.false)))
-
-pub loop-k-preserved : goal.loop-k-preserved
-loop-k-preserved c =
-    (omega arith, c.loop-k.invariant.1 ∙ mono_kept _ _ _ _ _ c.loop-k-test.true (inl (sym c.touches.ensures ∙ c.if-touches.false)))
-
 pub returns : goal.returns
-returns c = let e : c.loop-k.k ≡ 0 = omega arith in sym (c.loop-k.invariant.1 ∙ rw e (mono_zero _ _ _ _))
+unfolding monotonous
+returns c =
+    let a = c.args in
+    let kept : ℕ → Bool = λ d. not (touches a.n (nth a.types.now) d (nth a.pre.now)) || touches a.n (nth a.types.now) d (nth a.post.now) in
+    all_from_yields_List (λ k. kept (k + 1)) _ _ _ c.all.ensures.ran
+    (YieldsList-from_range 0 a.nets a.nets refl (sub-zero a.nets)) (λ x b q k. search rules)
+    ∙ all_same a.nets (λ k. kept (k + 1)) (λ k. kept (suc k)) (λ k. ap kept (add-one k))

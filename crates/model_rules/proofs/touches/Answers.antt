@@ -1,19 +1,17 @@
-use mathlib.Core.Path.{◌≡◌, sym, ◌∙◌}
-use native.Mathlib.Omega.{arith}
-use Rattle.model.proofs.RuleLoops.{touch_here, touch_other, touch_none, touch_zero}
+use borrow.Author.Rules.{rules}
+use mathlib.Core.Path.{refl, ◌∙◌}
+use mathlib.Core.Bool.{◌&&◌}
+use lib.Dec.{eqb, ltb}
+use native.Mathlib.Nat.{sub-zero}
+use Rattle.std.proofs.lemmas.Iterator.{YieldsList-from_range}
+use Rattle.std.proofs.lemmas.Iterator.Search.{any_from_yields_List}
+use Rattle.model.specs.Rules.{nth, touches}
+use Rattle.model.proofs.RuleLoops.{some_in_range}
 use Rattle.model_rules.proofs.touches.Goals as goal
 
-pub returns-then-side-i-gt0 : goal.returns-then-side-i-gt0
-returns-then-side-i-gt0 c =
-    sym (c.loop-i.invariant.1 ∙ touch_here _ _ _ _ c.loop-i-test.true c.if-types-i.true c.if-side-i-gt0.true)
-
-pub loop-i-preserved-else-side-i-gt0 : goal.loop-i-preserved-else-side-i-gt0
-loop-i-preserved-else-side-i-gt0 c =
-    (omega arith, c.loop-i.invariant.1 ∙ touch_none _ _ _ _ c.loop-i-test.true c.if-side-i-gt0.false)
-
-pub loop-i-preserved : goal.loop-i-preserved
-loop-i-preserved c =
-    (omega arith, c.loop-i.invariant.1 ∙ touch_other _ _ _ _ c.loop-i-test.true c.if-types-i.false)
-
 pub returns : goal.returns
-returns c = let e : c.loop-i.i ≡ 0 = omega arith in sym (c.loop-i.invariant.1 ∙ rw e (touch_zero _ _ _))
+unfolding touches
+returns c =
+    let a = c.args in
+    any_from_yields_List (λ p. eqb (nth a.types.now p) a.d && ltb 0 (nth a.side.now p)) _ _ _ c.any.ensures.ran (YieldsList-from_range 0 a.n a.n refl (sub-zero a.n)) (λ x b q k. search rules)
+    ∙ some_in_range a.n _

@@ -1,14 +1,17 @@
-use mathlib.Core.Path.{refl, ◌∙◌}
-use Rattle.model.proofs.HeldTestLoops.{empty_turn, empty_end}
+-- `empty_bytes` says whether a list is 0 from an index on.
+use borrow.Author.Rules.{rules}
+use mathlib.Core.Path.{◌∙◌}
+use mathlib.Core.Bool.{Bool, true, ◌&&◌}
+use lib.Dec.{eqb}
+use lib.ListN.{drop}
+use Rattle.std.proofs.lemmas.Iterator.{YieldsList-from_slice}
+use Rattle.std.proofs.lemmas.Iterator.Adapters.{YieldsList-from_skip}
+use Rattle.std.proofs.lemmas.Iterator.Consumers.{fold_from_yields_List}
+use Rattle.model.proofs.HeldTestLoops.{all_folded}
 use Rattle.model_test.proofs.empty_bytes.Goals as goal
-
-pub loop-i-init : goal.loop-i-init
-loop-i-init c = refl
-
-pub loop-i-preserved : goal.loop-i-preserved
-loop-i-preserved c =
-    empty_turn c.args.s.now c.loop-i.all c.loop-i.i c.loop-i-test.true ∙ c.loop-i.invariant
 
 pub returns : goal.returns
 returns c =
-    empty_end c.args.s.now c.loop-i.all c.loop-i.i c.loop-i-test.false ∙ c.loop-i.invariant
+    let s = c.args.s.now in
+    fold_from_yields_List _ (λ (all : Bool) v. all && eqb v 0) true _ c.fold.ensures.ran (YieldsList-from_skip c.args.from (YieldsList-from_slice s cc) cc) (λ a x b q k. search rules)
+    ∙ all_folded (λ v. eqb v 0) (drop c.args.from s) true

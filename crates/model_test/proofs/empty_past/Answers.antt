@@ -1,30 +1,34 @@
+-- `empty_past` is `empty_past`: the part behind the used rows as one part, and the unused room of each row before it.
 use borrow.Author.Rules.{rules}
 use Prim.Native.Nat.{ℕ, ◌-◌, ◌+◌, ◌*◌}
-use mathlib.Core.Path.{◌≡◌, sym, ap, ◌∙◌}
-use mathlib.Core.Bool.{and-true}
+use mathlib.Core.Path.{◌≡◌, refl, sym, ◌∙◌}
+use mathlib.Core.List.{List}
 use native.Mathlib.Omega.{arith}
+use native.Mathlib.Nat.{sub-zero}
 use lib.ListN.{take, drop}
+use Rattle.std.proofs.lemmas.Iterator.{YieldsList-from_range}
+use Rattle.std.proofs.lemmas.Iterator.Search.{all_from_yields_List}
 use Rattle.model.specs.Rules.{nth}
 use Rattle.model.specs.Test.{empty, empty_at}
-use Rattle.model.proofs.HeldTestLoops.{turn, past_rows}
+use Rattle.model.proofs.RuleLoops.{all_same}
+use Rattle.model.proofs.HeldTestLoops.{and_no, and_yes, past_rows}
 use Rattle.model_test.proofs.empty_past.Goals as goal
 
-pub loop-i-init : goal.loop-i-init
-loop-i-init c = (search rules, c.empty_bytes-all.ensures ∙ sym (and-true _))
+-- a part is lent with its end
+part : (widths table : List ℕ) (i : ℕ) → empty (drop (nth widths i) (take (i * 32 + 32 - i * 32) (drop (i * 32) table))) ≡ empty_at (nth widths) table i
+part widths table i = let e : i * 32 + 32 - i * 32 ≡ 32 = omega arith in rw e
 
-pub loop-i-preserved : goal.loop-i-preserved
-loop-i-preserved c =
+pub returns-then-empty_bytes : goal.returns-then-empty_bytes
+returns-then-empty_bytes c =
     let a = c.args in
-    let q : c.loop-i.i * 32 + 32 - c.loop-i.i * 32 ≡ 32 = omega arith in (
-      omega arith,
-      turn (empty_at (nth a.widths.now) a.table.now) c.loop-i.i (empty (drop (a.n * 32) a.table.now)) c.loop-i.all
-          c.empty_bytes-all-in-loop-i.result c.loop-i.invariant.1
-          (c.empty_bytes-all-in-loop-i.ensures
-          ∙ ap (λ (n : ℕ). empty (drop (nth a.widths.now c.loop-i.i) (take n (drop (c.loop-i.i * 32) a.table.now)))) q),
-    )
+    let rows = all_from_yields_List (λ i. empty (drop (nth a.widths.now i) (take (i * 32 + 32 - i * 32) (drop (i * 32) a.table.now)))) _ _ _ c.all.ensures.ran
+    (YieldsList-from_range 0 a.n a.n refl (sub-zero a.n)) (λ x b q k. search rules)
+    ∙ all_same a.n _ (empty_at (nth a.widths.now) a.table.now) (part a.widths.now a.table.now) in
+    and_yes _ _ _ (sym c.empty_bytes.ensures ∙ c.if-empty_bytes.true) rows
+    ∙ past_rows (nth a.widths.now) a.table.now a.n a.rows (omega arith) (omega arith)
 
-pub returns : goal.returns
-returns c =
+pub returns-else-empty_bytes : goal.returns-else-empty_bytes
+returns-else-empty_bytes c =
     let a = c.args in
-    let e : c.loop-i.i ≡ a.n = omega arith in
-    c.loop-i.invariant.1 ∙ rw e (past_rows (nth a.widths.now) a.table.now a.n a.rows (omega arith) (omega arith))
+    c.if-empty_bytes.false ∙ and_no _ _ (sym c.empty_bytes.ensures ∙ c.if-empty_bytes.false)
+    ∙ past_rows (nth a.widths.now) a.table.now a.n a.rows (omega arith) (omega arith)

@@ -1,25 +1,40 @@
 -- `event_held` is `held_event`: kind and index first, so that the place's type can be looked up.
-use mathlib.Core.Path.{sym, ◌∙◌}
+use mathlib.Core.Path.{◌≡◌, sym, ap, ◌∙◌}
+use mathlib.Core.Bool.{true}
+use native.Mathlib.Omega.{arith}
+use Rattle.model.specs.Acts.{index_of, held_act}
 use Rattle.model.specs.Test.{held_event, framed}
 use Rattle.model.proofs.HeldTestLoops.{and_no, and_yes}
-use Rattle.model.proofs.HeldActs.{act_range}
+use Rattle.model.proofs.HeldActs.{act-is, act_range}
 use Rattle.model_test.proofs.event_held.Goals as goal
+use Rattle.model_test.proofs.event_held.Goals.{Then-act_held}
 
-pub returns-then-not-act_held : goal.returns-then-not-act_held
+-- the act is one of the model's
+right : (c : Then-act_held) → let m = c.args.m.now in let e = c.args.e.now in held_act (framed m.places m.moves m.nets m.types c.args.steps.now) e.kind e.index ≡ true
+right c = let m = c.args.m.now in sym (c.act_held.ensures m.nets c.args.steps.now) ∙ c.if-act_held.true
+
+pub own_net-requires : goal.own_net-requires
+own_net-requires c =
+    let m = c.args.m.now in
+    let e = c.args.e.now in
+    let f = framed m.places m.moves m.nets m.types c.args.steps.now in
+    let h = right (goal.at.own_net-requires c).Then-act_held in
+    omega (arith, ap index_of c.act.ensures, (act-is f e.kind e.index h).same_index, act_range f e.kind e.index h c.requires.1 c.requires.0)
+
+pub returns-then-empty_past : goal.returns-then-empty_past
 unfolding held_event
-returns-then-not-act_held c =
-    let a = c.args in
-    and_no _ _ (sym (c.act_held.ensures a.nets a.steps) ∙ c.if-not-act_held.true)
+returns-then-empty_past c =
+    and_yes _ _ _ (right (goal.at.returns-then-empty_past c).Then-act_held)
+    (and_yes _ _ _ (sym c.empty_past.ensures ∙ c.if-empty_past.true) (c.parts_held.ensures ∙ rw (c.own_net.ensures, c.act.ensures)))
 
-pub own_net-own-requires : goal.own_net-own-requires
-own_net-own-requires c =
-    let a = c.args in
-    act_range (framed a.places a.moves a.nets a.types a.steps) a.e.kind a.e.index
-    (sym (c.act_held.ensures a.nets a.steps) ∙ c.if-not-act_held.false) c.requires.1 c.requires.0
-
-pub returns : goal.returns
+pub returns-else-empty_past : goal.returns-else-empty_past
 unfolding held_event
-returns c =
+returns-else-empty_past c =
+    and_yes _ _ _ (right (goal.at.returns-else-empty_past c).Then-act_held)
+    (c.if-empty_past.false ∙ and_no _ _ (sym c.empty_past.ensures ∙ c.if-empty_past.false))
+
+pub returns-else-act_held : goal.returns-else-act_held
+unfolding held_event
+returns-else-act_held c =
     let a = c.args in
-    and_yes _ _ _ (sym (c.act_held.ensures a.nets a.steps) ∙ c.if-not-act_held.false)
-    (rw (c.empty_past-room.ensures, c.parts_held-parts.ensures, c.own_net-own.ensures))
+    c.if-act_held.false ∙ and_no _ _ (sym (c.act_held.ensures a.m.now.nets a.steps.now) ∙ c.if-act_held.false)

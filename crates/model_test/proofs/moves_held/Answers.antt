@@ -1,5 +1,21 @@
 -- `moves_held` is the test of the moves, by its three parts.
+use mathlib.Core.Path.{sym, ◌∙◌}
+use Rattle.model.specs.Test.{held_moves}
+use Rattle.model.proofs.HeldTestLoops.{and_no, and_yes}
 use Rattle.model_test.proofs.moves_held.Goals as goal
 
-pub returns : goal.returns
-returns c = rw (c.empty_behind-first.ensures, c.empty_behind-second.ensures, c.typing_held-kept.ensures)
+pub returns-then-empty_behind-2 : goal.returns-then-empty_behind-2
+unfolding held_moves
+returns-then-empty_behind-2 c =
+    and_yes _ _ _ (sym c.empty_behind.ensures ∙ c.if-empty_behind.true)
+    (and_yes _ _ _ (sym c.empty_behind-then-empty_behind.ensures ∙ c.if-empty_behind-2.true) c.typing_held.ensures)
+
+pub returns-else-empty_behind-2 : goal.returns-else-empty_behind-2
+unfolding held_moves
+returns-else-empty_behind-2 c =
+    and_yes _ _ _ (sym c.empty_behind.ensures ∙ c.if-empty_behind.true)
+    (c.if-empty_behind-2.false ∙ and_no _ _ (sym c.empty_behind-then-empty_behind.ensures ∙ c.if-empty_behind-2.false))
+
+pub returns-else-empty_behind : goal.returns-else-empty_behind
+unfolding held_moves
+returns-else-empty_behind c = c.if-empty_behind.false ∙ and_no _ _ (sym c.empty_behind.ensures ∙ c.if-empty_behind.false)

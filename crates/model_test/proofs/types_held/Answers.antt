@@ -1,20 +1,17 @@
+-- `types_held` is the test of all types.
 use borrow.Author.Rules.{rules}
-use mathlib.Core.Path.{◌≡◌, refl, ◌∙◌}
-use mathlib.Core.Bool.{true}
-use native.Mathlib.Omega.{arith}
-use Rattle.model.specs.Test.{type_at}
-use Rattle.model.proofs.HeldTestLoops.{turn}
+use mathlib.Core.Path.{◌∙◌}
+use Rattle.std.proofs.lemmas.Iterator.{YieldsList-from_slice}
+use Rattle.std.proofs.lemmas.Iterator.Consumers.{YieldsList-from_enumerate}
+use Rattle.std.proofs.lemmas.Iterator.Search.{all_from_yields_List}
+use Prim.Native.Nat.{ℕ}
+use mathlib.Core.Bool.{cond}
+use lib.Dec.{leb, ltb, eqb}
+use Rattle.model.proofs.RuleLoops.{all_in_array}
 use Rattle.model_test.proofs.types_held.Goals as goal
-
-pub loop-p-init : goal.loop-p-init
-loop-p-init c = (search rules, refl)
-
-pub loop-p-preserved : goal.loop-p-preserved
-loop-p-preserved c =
-    let a = c.args in
-    (omega arith, turn (type_at a.nets a.places a.types) c.loop-p.p true c.loop-p.all c.type_held-all.result c.loop-p.invariant.1 c.type_held-all.ensures)
 
 pub returns : goal.returns
 returns c =
-    let e : c.loop-p.p ≡ 32 = omega arith in
-    c.loop-p.invariant.1 ∙ rw e
+    let a = c.args in
+    all_from_yields_List _ _ _ _ c.all.ensures.ran (YieldsList-from_enumerate (YieldsList-from_slice a.types.now cc) cc) (λ x b q k. search rules)
+    ∙ all_in_array 0 (λ (p t : ℕ). cond (ltb p a.places) (leb t a.nets) (eqb t 0)) a.types.now 32 c.told-types

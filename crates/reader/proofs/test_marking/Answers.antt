@@ -9,7 +9,7 @@ use Rattle.reader.proofs.test_marking.Goals as goal
 use Rattle.reader.proofs.test_marking.Goals.{Else-not-is_held}
 
 -- the model passed its test
-passed : (c : Else-not-is_held) → held_model c.args.m ≡ true
+passed : (c : Else-not-is_held) → held_model c.args.m.now ≡ true
 passed c = sym c.is_held.ensures ∙ c.if-not-is_held.false
 
 pub returns-then-not-is_held : goal.returns-then-not-is_held

@@ -1,27 +1,19 @@
 -- `run` meets its contract: 1, then 14, then the header, then the steps.
-use mathlib.Core.Path.{◌≡◌, ap, sym, subst, ◌∙◌}
+use mathlib.Core.Path.{◌≡◌, ap, sym, ◌∙◌}
 use mathlib.Core.Bool.{true}
-use lib.ListN.{length, drop}
 use Rattle.text.specs.declared.Ended.{Ended}
 use Rattle.text.proofs.Loops.{head_got, bad_of}
-use Rattle.model.specs.Held.{SizedModel}
-use Rattle.model.specs.declared.Model.{Model}
-use Rattle.model.proofs.HeldTests.{held-is}
-use Rattle.model_packed.specs.Packed.{model_in}
-use Rattle.model_packed.proofs.ModelSized.{model-sized}
-use Rattle.model_packed.proofs.PackedLaws.{packed_again}
-use Rattle.marking.specs.Sizes.{sizes_in}
 use Rattle.reader.specs.Answers.{held_both}
 use Rattle.reader.proofs.ReadingLaws.{both_model}
 use Rattle.runner_trace.specs.declared.Stop.{Stop}
 use Rattle.runner_trace.specs.Parts.{stop_in}
-use Rattle.runner_trace.specs.Running.{ran, run_from}
+use Rattle.runner_trace.specs.Running.{ran}
 use Rattle.runner_trace.proofs.TraceLaws.{trace_long, trace_unheld, trace_unheaded, trace_headed}
 use Rattle.runner_trace.proofs.run.Goals as goal
 use Rattle.runner_trace.proofs.run.Goals.{Else-not-test_marking}
 
 -- the two passed the held test
-passed : (c : Else-not-test_marking) → held_both c.args.m c.args.k ≡ true
+passed : (c : Else-not-test_marking) → held_both c.args.m.now c.args.k ≡ true
 passed c = sym c.test_marking.ensures ∙ c.if-not-test_marking.false
 
 pub returns-then-s-gt-LONGEST : goal.returns-then-s-gt-LONGEST
@@ -42,21 +34,9 @@ pub sizes-requires : goal.sizes-requires
 sizes-requires c = both_model _ _ (passed (goal.at.sizes-requires c).Else-not-test_marking)
 
 pub run_steps-requires : goal.run_steps-requires
-run_steps-requires c =
-    let p = passed (goal.at.run_steps-requires c).Else-not-test_marking in
-    let e : model_in c.pack.new.packed ≡ c.args.m =
-    ap model_in c.pack.ensures.1 ∙ packed_again c.args.m (model-sized c.args.m _ c.well_formed.0) (held-is c.args.m (both_model c.args.m _ p)) in (
-      c.pack.ensures.0,
-      subst SizedModel (sym e) (model-sized c.args.m _ c.well_formed.0),
-      ap (λ (x : Model). held_both x c.args.k) e ∙ p,
-      c.sizes.ensures ∙ ap sizes_in (sym e),
-      c.if-s-gt-LONGEST.false,
-    )
+run_steps-requires c = (passed (goal.at.run_steps-requires c).Else-not-test_marking, c.sizes.ensures, c.if-s-gt-LONGEST.false)
 
 pub returns : goal.returns
 returns c =
     let p = passed (goal.at.returns c).Else-not-test_marking in
-    let e : model_in c.pack.new.packed ≡ c.args.m =
-    ap model_in c.pack.ensures.1 ∙ packed_again c.args.m (model-sized c.args.m _ c.well_formed.0) (held-is c.args.m (both_model c.args.m _ p)) in
-    c.run_steps.ensures ∙ ap (λ (x : Model). run_from (length c.args.s.now) x c.args.k (drop c.in-Past.next c.args.s.now) 0 c.in-Past.next) e
-    ∙ trace_headed _ _ _ c.if-s-gt-LONGEST.false p _ (head_got _ _ (sym c.in-Past.is ∙ c.head_line-head.ensures))
+    c.run_steps.ensures ∙ trace_headed _ _ _ c.if-s-gt-LONGEST.false p _ (head_got _ _ (sym c.in-Past.is ∙ c.head_line-head.ensures))

@@ -1,7 +1,6 @@
 -- `steps_at` meets its contract. The loop's invariant: how the run stands, with the reader at the place that it has reached; the measure: how
 -- many turns are left at most.
 use Rattle.std.proofs.Common.{◌≡◌}
-use Rattle.model_packed.specs.Packed.{model_in}
 use Rattle.runner_trace.proofs.TurnLaws.{Standing, turns_left}
 use Rattle.runner_trace.proofs.steps_at.Given as goal
 
@@ -9,7 +8,7 @@ abbrev pub invariant-loop-p : goal.invariant-loop-p
 invariant-loop-p l = record {
   src_kept : l.r.src.now ≡ l.s;
   at_reached : l.r.at ≡ l.p.at;
-  stands : Standing (model_in l.plan) (record { len = l.fn.from.len; rows = l.fn.rows }) l.s l.fn.from.at (record { far = l.p; rows = l.rows });
+  stands : Standing l.m (record { len = l.fn.from.len; rows = l.fn.rows }) l.s l.fn.from.at (record { far = l.p; rows = l.rows });
 }
 
 abbrev pub decreases-loop-p : goal.decreases-loop-p

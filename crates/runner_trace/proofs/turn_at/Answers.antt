@@ -4,7 +4,6 @@ use mathlib.Core.List.{List}
 use mathlib.Core.Path.{◌≡◌, ap, ◌∙◌}
 use lib.ListN.{drop}
 use Rattle.model.specs.Limits.{room_limit}
-use Rattle.model_packed.specs.Packed.{model_in}
 use Rattle.runner.specs.declared.Stepped.{Stepped}
 use Rattle.runner.specs.Answers.{held_step}
 use Rattle.runner_trace.specs.declared.Progress.{Progress}
@@ -25,9 +24,9 @@ abbrev after : After-step_on-end → Stepped
 after c = record { answer = c.step_on-end.result.answer; marking = record { len = c.step_on-end.result.len; rows = c.step_on-end.new.rows } }
 
 -- the step was tried on what is left of the text
-said : (c : After-step_on-end) → after c ≡ held_step room_limit (model_in c.args.plan.now) (marking_in (before c)) (drop c.args.at c.args.s.now)
+said : (c : After-step_on-end) → after c ≡ held_step room_limit c.args.m.now (marking_in (before c)) (drop c.args.at c.args.s.now)
 said c =
-    c.step_on-end.ensures ∙ ap (held_step room_limit (model_in c.args.plan.now) (marking_in (before c))) (rest-left c.args.s.now c.args.at)
+    c.step_on-end.ensures ∙ ap (held_step room_limit c.args.m.now (marking_in (before c))) (rest-left c.args.s.now c.args.at)
 
 pub returns-then-s-at : goal.returns-then-s-at
 returns-then-s-at c =

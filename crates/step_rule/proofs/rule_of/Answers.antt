@@ -1,21 +1,57 @@
--- `rule_of` meets its contract: on a held model that is packed, the two sides are the event's.
-use mathlib.Core.Path.{ap, ◌∙◌}
-use lib.ListN.{length}
-use native.Mathlib.Omega.{arith}
-use Rattle.step.proofs.PlanLaws.{length_side, packed_of, rule_in_lem}
+-- `rule_of` meets its contract: on a held model, the two sides are the event's.
+use borrow.Author.Rules.{rules}
+use mathlib.Core.Path.{refl, ap, ◌∙◌}
+use mathlib.Core.List.{[]}
+use Rattle.eos.specs.Firing.{act_side}
+use Rattle.model.specs.Held.{row_in}
+use Rattle.model.specs.declared.Event.{Event}
+use Rattle.model.proofs.ModelSized.{told-sized}
+use Rattle.step.specs.declared.Rule.{Rule}
+use Rattle.step.specs.RuleParts.{net_sums, pre_arcs, post_arcs}
+use Rattle.step.proofs.RuleMade.{few_nets, few_steps, few_events, act_read, act_few, counts_read, rule_made}
 use Rattle.step_rule.proofs.rule_of.Goals as goal
 
-pub side_of-requires : goal.side_of-requires
-side_of-requires c =
-    (packed_of c.args.plan.now c.args.e c.requires.0 c.requires.1 c.requires.2, omega arith, omega arith, c.requires.3)
+-- no event
+abbrev none : Event
+none = record { kind = 0; index = 0; sync = [] }
 
-pub side_of-requires-2 : goal.side_of-requires-2
-side_of-requires-2 c =
-    (packed_of c.args.plan.now c.args.e c.requires.0 c.requires.1 c.requires.2, omega arith, omega arith, c.requires.4)
+pub offset_bounds-m-e : goal.offset_bounds-m-e
+offset_bounds-m-e c = let h = few_events c.args.m.now c.requires.0 c.args.e c.requires.1 in search rules
 
-pub returns : goal.returns
-returns c =
-    let p = c.side_of.ensures in
-    let q = c.side_of-2.ensures in
-    let a = c.args in
-    (ap length p ∙ length_side a.plan.now a.e 36 2, ap length q ∙ length_side a.plan.now a.e 1060 1026, rule_in_lem a.plan.now a.e c.requires.0 c.requires.1 c.requires.2 _ _ p q)
+pub bounds-m-e : goal.bounds-m-e
+bounds-m-e c = few_events c.args.m.now c.requires.0 c.args.e c.requires.1
+
+pub outer_side-rule-requires : goal.outer_side-rule-requires
+outer_side-rule-requires c =
+    let m = c.args.m.now in
+    let sized = told-sized m c.type_inv.m in
+    act_few m c.requires.0 sized c.args.e c.requires.1 _ (act_read m c.requires.0 sized c.args.e c.requires.1 none _ c.act-act.ensures)
+
+pub outer_side-rule-requires-2 : goal.outer_side-rule-requires-2
+outer_side-rule-requires-2 c =
+    let m = c.args.m.now in
+    let sized = told-sized m c.type_inv.m in
+    act_few m c.requires.0 sized c.args.e c.requires.1 _ (act_read m c.requires.0 sized c.args.e c.requires.1 none _ c.act-act.ensures)
+
+pub inner_sides-requires : goal.inner_sides-requires
+inner_sides-requires c =
+    let m = c.args.m.now in (
+      few_nets m c.requires.0,
+      few_steps m c.requires.0 (told-sized m c.type_inv.m),
+      ap (λ (r : Rule). r.pre.inner) c.requires.2,
+      ap (λ (r : Rule). r.post.inner) c.requires.2,
+    )
+
+pub returns-clause-sized : goal.returns-clause-sized
+returns-clause-sized c = told-sized c.args.m.now c.type_inv.m
+
+pub returns-clause-made : goal.returns-clause-made
+returns-clause-made c =
+    let m = c.args.m.now in
+    let e = c.args.e in
+    let sized = told-sized m c.type_inv.m in
+    let act = act_read m c.requires.0 sized e c.requires.1 none _ c.act-act.ensures in
+    let counts = counts_read m c.requires.0 sized e c.requires.1 none in
+    rule_made m c.requires.0 sized e c.requires.1 _ refl refl
+    (c.outer_side-rule.ensures ∙ ap (act_side (row_in 32 m.pre) 32) act) (c.inner_sides.ensures.0 ∙ ap (net_sums pre_arcs m) counts)
+    (c.outer_side-rule-2.ensures ∙ ap (act_side (row_in 32 m.post) 32) act) (c.inner_sides.ensures.1 ∙ ap (net_sums post_arcs m) counts)

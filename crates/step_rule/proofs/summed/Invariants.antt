@@ -12,6 +12,3 @@ abbrev pub invariant-loop-t : goal.invariant-loop-t
 invariant-loop-t l =
     (l.t ≤ l.transitions) × (length l.sum ≡ 32) × ((i : ℕ) → nth l.sum i ≤ l.t * 65025)
     × (sum_rows (λ t. nth l.sync (l.from + t)) (row_in 32 l.table) l.t (l.transitions - l.t) l.sum ≡ sum_rows (λ t. nth l.sync (l.from + t)) (row_in 32 l.table) 0 l.transitions (zeros 32))
-
-abbrev pub decreases-loop-t : goal.decreases-loop-t
-decreases-loop-t l = l.transitions - l.t

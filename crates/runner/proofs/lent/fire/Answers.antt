@@ -6,7 +6,6 @@ use Rattle.eos.specs.Causes.{first}
 use Rattle.marking.specs.Rows.{rows_in}
 use Rattle.marking.proofs.RowLaws.{length-rows}
 use Rattle.step.proofs.MoveLaws.{taken-few}
-use Rattle.step.specs.Rule.{rule_in}
 use Rattle.step.specs.declared.Verdict.TheVariants.{Fires}
 use Rattle.step.specs.Verdict.{causes_in, verdict_of}
 use Rattle.step.proofs.FiresLaws.{fires-within, fires-room}
@@ -15,14 +14,14 @@ use Rattle.runner.proofs.lent.fire.Goals as goal
 use Rattle.runner.proofs.lent.fire.Goals.{In_default}
 
 -- the step meets no cause
-fires : (c : In_default) → verdict_of c.args.take (first (causes_in c.args.room ((rule_in c.args.plan.now c.args.pre.now c.args.post.now)) ((rows_in c.args.take c.args.taken.now)) ((rows_in c.args.give c.args.given.now)) ((rows_in c.args.len c.args.rows.now)))) ≡ Fires
+fires : (c : In_default) → verdict_of c.args.take (first (causes_in c.args.room c.args.rule.now ((rows_in c.args.take c.args.taken.now)) ((rows_in c.args.give c.args.given.now)) ((rows_in c.args.len c.args.rows.now)))) ≡ Fires
 fires c = sym c.verdict-judged.ensures ∙ c.in_default.is
 
 pub change-requires : goal.change-requires
 change-requires c =
     let a = c.args in
-    let w = fires-within a.room a.take ((rule_in c.args.plan.now c.args.pre.now c.args.post.now)) ((rows_in c.args.take c.args.taken.now)) ((rows_in c.args.give c.args.given.now)) ((rows_in c.args.len c.args.rows.now)) (fires (goal.at.change-requires c).In_default) in
-    let r = fires-room a.room a.take ((rule_in c.args.plan.now c.args.pre.now c.args.post.now)) ((rows_in c.args.take c.args.taken.now)) ((rows_in c.args.give c.args.given.now)) ((rows_in c.args.len c.args.rows.now)) (fires (goal.at.change-requires c).In_default) in
+    let w = fires-within a.room a.take c.args.rule.now ((rows_in c.args.take c.args.taken.now)) ((rows_in c.args.give c.args.given.now)) ((rows_in c.args.len c.args.rows.now)) (fires (goal.at.change-requires c).In_default) in
+    let r = fires-room a.room a.take c.args.rule.now ((rows_in c.args.take c.args.taken.now)) ((rows_in c.args.give c.args.given.now)) ((rows_in c.args.len c.args.rows.now)) (fires (goal.at.change-requires c).In_default) in
     let n = length-rows a.take a.taken.now in
     let g = length-rows a.give a.given.now in
     let k = length-rows a.len a.rows.now in
@@ -31,7 +30,7 @@ change-requires c =
 pub overflow_sub-result : goal.overflow_sub-result
 overflow_sub-result c =
     let a = c.args in
-    taken-few a.rows.now a.len a.taken.now a.take (fires-within a.room a.take ((rule_in c.args.plan.now c.args.pre.now c.args.post.now)) ((rows_in c.args.take c.args.taken.now)) ((rows_in c.args.give c.args.given.now)) ((rows_in c.args.len c.args.rows.now)) (fires (goal.at.overflow_sub-result c).In_default))
+    taken-few a.rows.now a.len a.taken.now a.take (fires-within a.room a.take c.args.rule.now ((rows_in c.args.take c.args.taken.now)) ((rows_in c.args.give c.args.given.now)) ((rows_in c.args.len c.args.rows.now)) (fires (goal.at.overflow_sub-result c).In_default))
 
 pub returns-in_default : goal.returns-in_default
 returns-in_default c =

@@ -2,6 +2,7 @@
 use Prim.Native.Nat.{ℕ, zero, suc, ◌≤◌, ◌<◌}
 use mathlib.Core.List.{List, [], ◌∷◌}
 use native.Mathlib.Omega.{arith}
+use mathlib.Core.Path.{◌≡◌}
 use lib.ListN.{length, get_or}
 use mir.Val.{Val}
 use mir.Syntax.{w8}
@@ -9,6 +10,7 @@ use denote.Laws.{Is}
 use denote.Shadow.{shadow}
 use denote.Plain.{UInt}
 use denote.Array.{Array, each}
+use denote.Struct.Loose.{Facts}
 use Rattle.model.specs.Held.{Bytes, SizedNet, SizedModel, no_net, no_event}
 use Rattle.model.specs.declared.ObjectNet.{ObjectNet}
 use Rattle.model.specs.declared.Event.{Event}
@@ -16,6 +18,7 @@ use Rattle.model.specs.declared.Model.{Model}
 use Rattle.model.specs.contracts.ObjectNet as net
 use Rattle.model.specs.contracts.Event as event
 use Rattle.model.specs.contracts.Model as model
+use Rattle.model.proofs.Model.TheLaws.{the_maybe}
 use Rattle.model.proofs.RoomLaws.{objects-room, events-room, types-room}
 
 -- an array of bytes
@@ -60,4 +63,20 @@ model-sized m vs p =
       nets = λ i h. each-net m.objects _ a.1.1.1.0.1.1 i (omega arith);
       events = events;
       sync = λ i h. each-event m.events _ a.1.1.1.1.0.1.1 i (omega arith);
+    }
+
+-- the same of a model that is lent, from what reading it tells
+pub told-sized : (m : Model) → Facts model.the_type.parts the_maybe (model.the_type.to m) → SizedModel m
+told-sized m p =
+    let t = p.1.1.1.1 in
+    let nets : length m.objects ≡ 8 = t.1.1.1.0.1.0.1 in
+    let events : length m.events ≡ 64 = t.1.1.1.1.0.1.0.1 in
+    record {
+      types = t.0.1.0.1;
+      pre = bytes_in 1024 m.pre _ t.1.0;
+      post = bytes_in 1024 m.post _ t.1.1.0;
+      objects = nets;
+      nets = λ i h. each-net m.objects _ t.1.1.1.0.1.1 i (omega arith);
+      events = events;
+      sync = λ i h. each-event m.events _ t.1.1.1.1.0.1.1 i (omega arith);
     }

@@ -1,3 +1,0 @@
-pub mod ModelSized
-pub mod PartsLaid
-pub mod PackedLaws

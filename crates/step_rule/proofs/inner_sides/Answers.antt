@@ -1,0 +1,48 @@
+use borrow.Author.Rules.{rules}
+use Prim.Native.Nat.{◌*◌}
+use mathlib.Core.Path.{◌≡◌, ap, sym, ◌∙◌}
+use mathlib.Core.List.{[]}
+use native.Mathlib.Omega.{arith}
+use native.Mathlib.Nat.{sub-zero}
+use lib.ListN.{length, get_or}
+use lib.Seq.{sets, length-sets}
+use Rattle.model.specs.Held.{no_net}
+use Rattle.model.specs.declared.ObjectNet.{ObjectNet}
+use Rattle.model.proofs.ModelSized.{told-sized}
+use Rattle.model.proofs.HeldTestLoops.{at_any}
+use Rattle.step.specs.RuleParts.{arc_sum, net_sum, pre_arcs, post_arcs}
+use Rattle.step.proofs.ArcSums.{nets_begin, nets_next, nets_done}
+use Rattle.step_rule.proofs.inner_sides.Goals as goal
+
+pub loop-n-init : goal.loop-n-init
+loop-n-init c = (omega arith, c.told-pre, c.told-post, rw sub-zero (nets_begin _ _ c.requires.2), rw sub-zero (nets_begin _ _ c.requires.3))
+
+pub loop-n-preserved : goal.loop-n-preserved
+loop-n-preserved c =
+    let m = c.args.m.now in
+    let sync = c.args.sync.now in
+    let n = c.loop-n.n in
+    let i = c.loop-n.invariant in
+    let sized = told-sized m c.type_inv.m in
+    let none : ObjectNet = record { places = 0; transitions = 0; pre = []; post = [] } in
+    let net : get_or m.objects n none ≡ get_or m.objects n no_net = at_any m.objects n none no_net (omega (arith, sized.objects)) in
+    let x = c.summed.ensures ∙ ap (λ (o : ObjectNet). arc_sum pre_arcs o sync (n * 32)) net in
+    let y = c.summed-in-loop-n.ensures ∙ ap (λ (o : ObjectNet). arc_sum post_arcs o sync (n * 32)) net in
+    let u : length c.summed.result ≡ 32 = search rules in
+    let v : length c.summed-in-loop-n.result ≡ 32 = search rules in (
+      omega arith,
+      ap length c.put_row.ensures ∙ length-sets c.loop-n.pre (n * 32) c.summed.result ∙ i.1,
+      ap length c.put_row-in-loop-n.ensures ∙ length-sets c.loop-n.post (n * 32) c.summed-in-loop-n.result ∙ i.2,
+      nets_next (net_sum pre_arcs m.objects sync) n m.nets c.loop-n.pre _ (omega arith) (sym (ap length x) ∙ u)
+          (c.put_row.ensures ∙ ap (sets c.loop-n.pre (n * 32)) x) ∙ i.3,
+      nets_next (net_sum post_arcs m.objects sync) n m.nets c.loop-n.post _ (omega arith) (sym (ap length y) ∙ v)
+          (c.put_row-in-loop-n.ensures ∙ ap (sets c.loop-n.post (n * 32)) y) ∙ i.4,
+    )
+
+pub returns : goal.returns
+returns c =
+    let m = c.args.m.now in
+    let n = c.loop-n.n in (
+      sym (nets_done (net_sum pre_arcs m.objects c.args.sync.now) n m.nets c.loop-n.pre (omega arith)) ∙ c.loop-n.invariant.3,
+      sym (nets_done (net_sum post_arcs m.objects c.args.sync.now) n m.nets c.loop-n.post (omega arith)) ∙ c.loop-n.invariant.4,
+    )
