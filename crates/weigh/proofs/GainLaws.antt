@@ -3,7 +3,7 @@ use Prim.Native.Nat.{ℕ, zero, suc, ◌+◌, ◌-◌, ◌*◌, ◌≤◌, ◌<�
 use mathlib.Core.Path.{◌≡◌, refl, ap, sym, ◌∙◌}
 use mathlib.Core.Bool.{Bool, true, false}
 use mathlib.Core.List.{List, [], ◌∷◌}
-use mathlib.Core.Option.{Option, none, some}
+use mathlib.Core.Option.{none, some}
 use native.Mathlib.Omega.{arith}
 use native.Mathlib.Nat.{add-zero, zero-add}
 use native.Mathlib.Numerals.{add-one}
@@ -14,7 +14,6 @@ use lib.Seq.{get_or-set_same, get_or-set_other, set_out}
 use Rattle.eos.specs.Causes.{failing}
 use Rattle.eos.specs.Weights.{dot, is_zero}
 use Rattle.model.specs.Held.{no_net, row_in}
-use Rattle.model.specs.declared.ObjectNet.{ObjectNet}
 use Rattle.model.specs.declared.Model.{Model}
 use Rattle.model.proofs.SlotLaws.{by_index}
 use Rattle.weigh.specs.Sums.{row_of, number_of, gain_of, Small, GainRow, Gains, move_gain, found}

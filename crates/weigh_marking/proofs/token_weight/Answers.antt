@@ -1,11 +1,10 @@
 -- `token_weight` is the weight of the place and that of the counts.
-use Prim.Native.Nat.{ℕ, ◌+◌, ◌-◌}
-use mathlib.Core.Path.{◌≡◌, ap, ap₂, ◌∙◌}
-use mathlib.Core.List.{List, [], map}
+use Prim.Native.Nat.{◌+◌, ◌-◌}
+use mathlib.Core.Path.{◌≡◌, ap, ◌∙◌}
 use native.Mathlib.Omega.{arith}
 use borrow.Author.Rules.{rules}
-use lib.IntN.{ℤ, pos, ◌+ℤ◌}
-use lib.ListN.{get_or, take, drop}
+use lib.IntN.{ℤ, ◌+ℤ◌}
+use lib.ListN.{get_or}
 use mir.Syntax.{w16, w64}
 use mir.Val.{SFits, to_z, of_z}
 use Rattle.std.proofs.lemmas.Int.{ints}
