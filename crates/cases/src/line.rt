@@ -1,7 +1,6 @@
 // The text of a case, in which \n stands for LF and \r for CR.
 ghost use Rattle.std.specs.Prelude.{◌≡◌, ◌≢◌, ◌≤◌, ◌<◌, length, take, slice_index, All};
 
-use text::Decimal;
 use text_scan::{number, starts};
 
 // The position of the first such byte of s; where there is none, the length of s.
@@ -76,8 +75,5 @@ pub fn decoded(s: &[u8], out: &mut [u8]) -> usize
 
 // The number at `at`, 0 where there is none.
 pub fn number_at(s: &[u8], at: usize) -> u32 {
-    let Decimal::Found { value, end: _ } = number(s, at) else {
-        return 0;
-    };
-    value
+    number(s, at).map_or(0, |read| read.value)
 }

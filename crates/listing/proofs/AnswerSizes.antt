@@ -10,7 +10,7 @@ use lib.Dec.{leb, eqb, lit<}
 use lib.ListN.{length, take, drop, length-drop, length-take}
 use borrow.Author.Tests.{leb-true}
 use Rattle.text.specs.Bytes.{Text, bytes, lf, newlines}
-use Rattle.text.specs.Lines.{Outcome, got, bad, spot_of, read_head}
+use Rattle.text.specs.Lines.{Outcome, got, bad, spot_of, read_head, cause_number}
 use Rattle.text.specs.declared.Fault.{Fault}
 use Rattle.text.proofs.Basics.{by_test}
 use Rattle.eos.specs.Multiset as M
@@ -53,7 +53,7 @@ newlines-few (b ∷ s) =
     (λ h. rw (h, newlines) (omega (arith, newlines-few s)))
     (λ h. rw (h, newlines) (omega (arith, newlines-few s)))
 
-spot_small : (s : Text) → length s ≤ file_longest → (e : Fault) → e.why < 10 → Small (record { number = (spot_of s e).why; beside = (spot_of s e).line })
+spot_small : (s : Text) → length s ≤ file_longest → (e : Fault) → cause_number e.cause < 10 → Small (record { number = cause_number (spot_of s e).cause; beside = (spot_of s e).line })
 spot_small s few e h = (omega arith, omega (arith, newlines-few (take e.at s), length-take e.at s))
 
 -- ---- a model's answer

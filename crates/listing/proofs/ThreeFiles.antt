@@ -9,7 +9,7 @@ use lib.ListN.{length, take}
 use borrow.Author.Tests.{le-leb, lt-leb, eqb-true}
 use Rattle.text.specs.Bytes.{Text, newlines}
 use Rattle.text.proofs.Basics.{by_test, and_true}
-use Rattle.text.specs.Lines.{Outcome, got, bad}
+use Rattle.text.specs.Lines.{Outcome, got, bad, cause_number}
 use Rattle.eos.specs.Model as eos
 use Rattle.eos.specs.Causes.{Refusal}
 use Rattle.eos.specs.Weights.{Weights, weigh, WeightCause, weightless, unbalanced, weight_refusal}
@@ -78,7 +78,7 @@ never a n h = absurd (omega (arith, eqb-true (suc n) 0 (and_true a _ h).1))
 loaded-accepted : (s : Text) (o : Outcome Loaded) → accepted (read_pair (loaded s o).answer) ≡ true → (loaded s o).answer ≡ read.Accepted
 unfolding loaded
 loaded-accepted s (got l x) h = refl
-loaded-accepted s (bad e) h = never (eqb e.why 0) (newlines (take e.at s)) h
+loaded-accepted s (bad e) h = never (eqb (cause_number e.cause) 0) (newlines (take e.at s)) h
 
 long_weights_refused : {A : Type 0} → accepted (read_pair read.TooLong) ≡ true → A
 long_weights_refused h = let z : ◌≡◌ {A = ℕ} 0 1 = cc in absurd (omega arith)
@@ -122,7 +122,7 @@ weighed-accepted : (most : ℕ) (m : eos.Model) (μ : eos.Marking) (s : Text) (o
 unfolding weighed judged_weights
 weighed-accepted most m μ s (got w x) h =
     turned-accepted (2 + length m.nets) (passed_weights most w (weigh m w μ)) (weight_refusal m w) refl h
-weighed-accepted most m μ s (bad e) h = never (eqb e.why 0) (newlines (take e.at s)) h
+weighed-accepted most m μ s (bad e) h = never (eqb (cause_number e.cause) 0) (newlines (take e.at s)) h
 
 none_weights_refused : {A : Type 0} (n : ℕ) → (eqb (suc n) 0 && true) ≡ true → A
 none_weights_refused n h = absurd (omega (arith, eqb-true (suc n) 0 (and_true (eqb (suc n) 0) true h).0))

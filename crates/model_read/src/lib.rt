@@ -5,7 +5,7 @@ ghost use Rattle.std.specs.Prelude.{◌≡◌, ◌≤◌, replicate};
 ghost use Rattle.text.specs.Answers.{kept};
 ghost use Rattle.text_reader.specs.Place.{Reads, lent};
 ghost use Rattle.model.specs.Rules.{nth, monotonous};
-ghost use Rattle.model.specs.Held.{no_net, no_model, hold_model};
+ghost use Rattle.model.specs.Held.{no_net, hold_model};
 ghost use Rattle.model_text.specs.Reading.{read_plant};
 ghost use Rattle.model_text.specs.Parts.{read_outline, read_system};
 ghost use Rattle.model_text.specs.Answers.{hold_outline, with_system};
@@ -46,13 +46,13 @@ fn system(r: &mut Reader, m: &mut Model) -> Result<(), Fault>
     Ok(())
 }
 
-// The lines of a model, in order, into the empty model: the first that is refused ends the reading, and what is in the model then is left
+// The lines of a model, in order, into the model lent: the first that is refused ends the reading, and what is in the model then is left
 // open.
 pub fn read_plant(r: &mut Reader, m: &mut Model) -> Result<(), Fault>
-    requires { m.old ≡ no_model }
     ensures { Reads (kept hold_model (read_plant r.old.src.now r.old.at)) r.old r.new (lent m.new result) }
 {
     let outline = outline(r)?;
+    *m = Model::empty();
     m.nets = outline.nets;
     m.places = outline.places;
     m.types = outline.types;

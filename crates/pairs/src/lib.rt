@@ -38,7 +38,7 @@ impl From<ReadAnswer> for Pair {
             ReadAnswer::Accepted => row(0, 0),
             ReadAnswer::TooLong => row(1, 0),
             ReadAnswer::NotHeld => row(14, 0),
-            ReadAnswer::Faulty { spot } => row(spot.why, spot.line),
+            ReadAnswer::Faulty { spot } => row(spot.cause.number(), spot.line),
         }
     }
 }
@@ -52,7 +52,7 @@ impl From<WeightAnswer> for Pair {
             WeightAnswer::Passed => row(0, 0),
             WeightAnswer::TooLong => row(1, 0),
             WeightAnswer::NotHeld => row(14, 0),
-            WeightAnswer::Faulty { spot } => row(spot.why, spot.line),
+            WeightAnswer::Faulty { spot } => row(spot.cause.number(), spot.line),
             WeightAnswer::Turned { cause, beside } => row(cause, beside),
         }
     }
@@ -67,7 +67,7 @@ impl From<Stop> for Pair {
             Stop::AtEnd => row(0, 0),
             Stop::TooLong => row(1, 0),
             Stop::NotHeld => row(14, 0),
-            Stop::Faulty { spot } => row(spot.why, spot.line),
+            Stop::Faulty { spot } => row(spot.cause.number(), spot.line),
             Stop::Turned { cause, beside } => row(cause, beside),
         }
     }
@@ -82,7 +82,7 @@ impl From<StepAnswer> for Pair {
             StepAnswer::Fired { bytes: _ } => row(0, 0),
             StepAnswer::TooLong => row(1, 0),
             StepAnswer::NotHeld => row(14, 0),
-            StepAnswer::Faulty { spot } => row(spot.why, spot.line),
+            StepAnswer::Faulty { spot } => row(spot.cause.number(), spot.line),
             StepAnswer::Turned { cause, beside } => row(cause, beside),
         }
     }

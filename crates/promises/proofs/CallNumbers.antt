@@ -9,7 +9,7 @@ use native.Mathlib.Omega.{arith}
 use lib.ListN.{length}
 use borrow.Author.Tests.{le-leb, lt-leb}
 use Rattle.text.specs.Bytes.{Text, line_at}
-use Rattle.text.specs.Lines.{Outcome, got, bad}
+use Rattle.text.specs.Lines.{Outcome, got, bad, cause_number}
 use Rattle.text.specs.declared.Fault.{Fault}
 use Rattle.eos.specs.Firing.{Step}
 use Rattle.eos.specs.Causes.{Refusal, Cause, first, refusal}
@@ -150,7 +150,7 @@ module _ (m : Model) (k : Marking) (s : Text) where
       ∙ step-judged t next (refusal (has_room room_limit) (model_of m) t (racks m k))
       ∙ ap or_good (sym (step-first (model_of m) (racks m k) t))
 
-  step-bad : (e : Fault) → lines ≡ bad e → step_pair (held_step room_limit m k s).answer ≡ pair e.why (line_at s e.at)
+  step-bad : (e : Fault) → lines ≡ bad e → step_pair (held_step room_limit m k s).answer ≡ pair (cause_number e.cause) (line_at s e.at)
   unfolding read_then stepped
   step-bad e b = ap (λ (r : Stepped). step_pair r.answer) (held_reads m k s room_limit ∙ ap (λ (o : Outcome Step). stepped k (read_then room_limit (model_of m) (racks m k) s o)) b)
 

@@ -8,7 +8,7 @@ use mathlib.Core.Option.{Option, none, some}
 use native.Mathlib.Omega.{arith}
 use lib.ListN.{length}
 use Rattle.text.specs.Bytes.{Text, newlines, line_at}
-use Rattle.text.specs.Lines.{Outcome, got, bad}
+use Rattle.text.specs.Lines.{Outcome, got, bad, cause_number}
 use Rattle.text.specs.declared.Fault.{Fault}
 use Rattle.text.proofs.Basics.{by_test, by_le}
 use Rattle.text.proofs.FaultLaws.{Faults}
@@ -44,7 +44,7 @@ module _ {A : Type 0} (ns : Numbers) (most : ℕ) (s : Text) (held : Bool) (read
   pub record Goes : Type 0 where
     pub long : most < length s → r ≡ pair 1 0
     pub unheld : length s ≤ most → held ≡ false → r ≡ pair 14 0
-    pub faulty : Open → (e : Fault) → reading ≡ bad e → r ≡ pair e.why (line_at s e.at)
+    pub faulty : Open → (e : Fault) → reading ≡ bad e → r ≡ pair (cause_number e.cause) (line_at s e.at)
     pub turned : Open → (a : A) (next : ℕ) → reading ≡ got a next → (c : Refusal) → first (tests a) ≡ some c → r ≡ c
     pub passed : Open → (a : A) (next : ℕ) → reading ≡ got a next → first (tests a) ≡ none → r ≡ pair 0 0
 
@@ -61,7 +61,7 @@ module _ {A : Type 0} (ns : Numbers) (most : ℕ) (s : Text) (held : Bool) (read
     by_way : {G : Type 0}
         → (most < length s → r ≡ pair 1 0 → G)
         → (length s ≤ most → held ≡ false → r ≡ pair 14 0 → G)
-        → (Open → (e : Fault) → reading ≡ bad e → r ≡ pair e.why (line_at s e.at) → Among ns.lines e.why → G)
+        → (Open → (e : Fault) → reading ≡ bad e → r ≡ pair (cause_number e.cause) (line_at s e.at) → Among ns.lines (cause_number e.cause) → G)
         → (Open → (a : A) (next : ℕ) → reading ≡ got a next → (c : Refusal) → first (tests a) ≡ some c → r ≡ c → Among ns.tests c.number → G)
         → (Open → (a : A) (next : ℕ) → reading ≡ got a next → first (tests a) ≡ none → r ≡ pair 0 0 → G)
         → G
@@ -83,7 +83,7 @@ module _ {A : Type 0} (ns : Numbers) (most : ℕ) (s : Text) (held : Bool) (read
         by_way
         (λ o q. inr (inl (num q)))
         (λ o h q. inr (inr (rw (num q) (among_left ns.unheld (ns.lines ++ ns.tests) 14 (k.unheld h)))))
-        (λ w e b q h. inr (inr (rw (num q) (among_right ns.unheld (ns.lines ++ ns.tests) e.why (among_left ns.lines ns.tests e.why h)))))
+        (λ w e b q h. inr (inr (rw (num q) (among_right ns.unheld (ns.lines ++ ns.tests) (cause_number e.cause) (among_left ns.lines ns.tests (cause_number e.cause) h)))))
         (λ w a n b c d q h.
         inr (inr (rw (num q) (among_right ns.unheld (ns.lines ++ ns.tests) c.number (among_right ns.lines ns.tests c.number h)))))
         (λ w a n b d q. inl (num q))
@@ -94,7 +94,7 @@ module _ {A : Type 0} (ns : Numbers) (most : ℕ) (s : Text) (held : Bool) (read
           by_way
           (λ o q. o)
           (λ o u q. absurd (omega (arith, h, num q)))
-          (λ w e b q i. absurd (omega (arith, h, num q, k.low e.why i)))
+          (λ w e b q i. absurd (omega (arith, h, num q, k.low (cause_number e.cause) i)))
           (λ w a n b c d q i. absurd (omega (arith, h, num q, k.high c.number i)))
           (λ w a n b d q. absurd (omega (arith, h, num q))),
       λ o. num (g.long o),
@@ -106,7 +106,7 @@ module _ {A : Type 0} (ns : Numbers) (most : ℕ) (s : Text) (held : Bool) (read
           by_way
           (λ o q. absurd (omega (arith, h, num q)))
           (λ o u q. (o, u))
-          (λ w e b q i. absurd (omega (arith, h, num q, k.low e.why i)))
+          (λ w e b q i. absurd (omega (arith, h, num q, k.low (cause_number e.cause) i)))
           (λ w a n b c d q i. absurd (omega (arith, h, num q, k.high c.number i)))
           (λ w a n b d q. absurd (omega (arith, h, num q))),
       λ (o, u). num (g.unheld o u),
@@ -118,14 +118,14 @@ module _ {A : Type 0} (ns : Numbers) (most : ℕ) (s : Text) (held : Bool) (read
           by_way
           (λ o q. absurd (omega (arith, h, num q)))
           (λ o u q. absurd (omega (arith, h, num q)))
-          (λ w e b q i. absurd (omega (arith, h, num q, k.low e.why i)))
+          (λ w e b q i. absurd (omega (arith, h, num q, k.low (cause_number e.cause) i)))
           (λ w a n b c d q i. absurd (omega (arith, h, num q, k.high c.number i)))
           (λ w a n b d q. (w, a, n, b, (clear_exactly (tests a)).0 d)),
       λ (w, a, n, b, d). num (g.passed w a n b ((clear_exactly (tests a)).1 d)),
     )
 
     line : (c : Refusal) → Among ns.lines c.number
-        → (r ≡ c) ↔ (Open × (e : Fault) × (reading ≡ bad e) × (c ≡ pair e.why (line_at s e.at)))
+        → (r ≡ c) ↔ (Open × (e : Fault) × (reading ≡ bad e) × (c ≡ pair (cause_number e.cause) (line_at s e.at)))
     line c h = (
       λ z.
           by_way
@@ -144,7 +144,7 @@ module _ {A : Type 0} (ns : Numbers) (most : ℕ) (s : Text) (held : Bool) (read
           by_way
           (λ o q. absurd (omega (arith, num q, num z, k.high c.number h)))
           (λ o u q. absurd (omega (arith, num q, num z, k.high c.number h)))
-          (λ w e b q i. absurd (omega (arith, num q, num z, k.high c.number h, k.low e.why i)))
+          (λ w e b q i. absurd (omega (arith, num q, num z, k.high c.number h, k.low (cause_number e.cause) i)))
           (λ w a n b d f q i. (w, a, n, b, (first_exactly (tests a) c).0 (f ∙ ap some (sym q ∙ z))))
           (λ w a n b d q. absurd (omega (arith, num q, num z, k.high c.number h))),
       λ (w, a, n, b, f). g.turned w a n b c ((first_exactly (tests a) c).1 f),
@@ -155,7 +155,7 @@ module _ {A : Type 0} (ns : Numbers) (most : ℕ) (s : Text) (held : Bool) (read
         by_way
         (λ o q. side q)
         (λ o u q. side q)
-        (λ w e b q i. absurd (other h (omega (arith, num q, k.low e.why i)) (omega (arith, num q, k.low e.why i))))
+        (λ w e b q i. absurd (other h (omega (arith, num q, k.low (cause_number e.cause) i)) (omega (arith, num q, k.low (cause_number e.cause) i))))
         (λ w a n b c d q i. absurd (other h (omega (arith, num q, k.high c.number i)) (omega (arith, num q, k.high c.number i))))
         (λ w a n b d q. side q)
       where

@@ -8,8 +8,9 @@ use native.Mathlib.Omega.{arith}
 use lib.ListN.{length, drop, length-drop}
 use borrow.Author.Tests.{le-leb, lt-leb}
 use Rattle.text.specs.Bytes.{Text, bytes, starts, line_at, newlines}
-use Rattle.text.specs.Lines.{Outcome, got, bad, need, read_head}
+use Rattle.text.specs.Lines.{Outcome, got, bad, need, read_head, cause_number}
 use Rattle.text.specs.declared.Fault.{Fault}
+use Rattle.text.specs.declared.Cause.TheVariants.{Syntax}
 use Rattle.text.proofs.Basics.{by_test, by_le}
 use Rattle.text.proofs.Exactly.{bad≢got}
 use Rattle.text.proofs.LinesExactly.{head_exactly}
@@ -49,12 +50,12 @@ stopped_pair (step.Faulty e) = refl
 stopped_pair (step.Turned cause beside) = refl
 
 -- a bad header is 2 beside line 1
-header-pair : (line s : Text) (e : Fault) → read_head line s 0 ≡ bad e → pair e.why (line_at s e.at) ≡ pair 2 1
+header-pair : (line s : Text) (e : Fault) → read_head line s 0 ≡ bad e → pair (cause_number e.cause) (line_at s e.at) ≡ pair 2 1
 unfolding read_head need newlines
 header-pair line s e h =
     by_test (starts line (drop 0 s))
     (λ t. absurd (bad≢got (sym (rw t at h))))
-    (λ t. let z = rw t at h in let w : e ≡ record { why = 2; at = 0; byte = 0 } = cc in rw w)
+    (λ t. let z = rw t at h in let w : e ≡ record { cause = Syntax; at = 0; byte = 0 } = cc in rw w)
 
 -- a run goes on from where it begins
 onward-behind : (rest : ℕ → eos.Marking → Ran) (n at : ℕ) (k : Marking) (s : Text) (t : Tried) → ((used : ℕ) (μ : eos.Marking) → at ≤ (rest used μ).at)
@@ -91,7 +92,7 @@ module _ (m : Model) (k : Marking) (s : Text) where
   run-header : Open → (e : Fault) → head ≡ bad e → r ≡ pair 2 1
   unfolding running run_where_held headed
   run-header w e b =
-      let z : r ≡ pair e.why (line_at s e.at) = rw (le-leb (length s) longest w.short, running, w.is_held, b) in
+      let z : r ≡ pair (cause_number e.cause) (line_at s e.at) = rw (le-leb (length s) longest w.short, running, w.is_held, b) in
       z ∙ header-pair (bytes "run=1\n") s e b
 
   header_at : Open → (e : Fault) → head ≡ bad e → (running m k s).at ≡ 0

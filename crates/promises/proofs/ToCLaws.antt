@@ -10,7 +10,7 @@ use lib.IntN.{nat_abs}
 use lib.ListN.{length}
 use borrow.Author.Tests.{ne_eqb, le-leb}
 use Rattle.text.specs.Bytes.{Text, bytes}
-use Rattle.text.specs.Lines.{got}
+use Rattle.text.specs.Lines.{got, cause_number}
 use Rattle.keeper.specs.Split.{above, below}
 use Rattle.text.proofs.Unique.{was_printed}
 use Rattle.eos.specs.Model as eos
@@ -193,7 +193,7 @@ said_zero m k s = go (stepping m k s).answer (λ z. let (w, n, e) = fired_zero m
     go (step.Fired n) h = refl
     go step.TooLong h = refl
     go step.NotHeld h = refl
-    go (step.Faulty e) h = ne_eqb e.why 0 (λ z. let y : ◌≡◌ {A = StepAnswer} (step.Faulty e) (step.Fired (h z).0) = (h z).1 in let w : ◌≡◌ {A = ℕ} 0 1 = cc in omega arith)
+    go (step.Faulty e) h = ne_eqb (cause_number e.cause) 0 (λ z. let y : ◌≡◌ {A = StepAnswer} (step.Faulty e) (step.Fired (h z).0) = (h z).1 in let w : ◌≡◌ {A = ℕ} 0 1 = cc in omega arith)
     go (step.Turned cause beside) h = ne_eqb cause 0 (λ z. let y : ◌≡◌ {A = StepAnswer} (step.Turned cause beside) (step.Fired (h z).0) = (h z).1 in let w : ◌≡◌ {A = ℕ} 0 1 = cc in omega arith)
 
 module _ (m : Model) where

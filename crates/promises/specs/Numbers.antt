@@ -3,7 +3,7 @@
 use Rattle.std.specs.Prelude.{ℕ, suc, ◌+◌, ◌≤◌, ◌<◌, ◌≡◌, ◌↔◌, ◌⊎◌, Bool, true, false, not, List, [], ◌∷◌, ◌++◌, leb, length, drop}
 use Rattle.std.proofs.Math.Option.{Option}
 use Rattle.text.specs.Bytes.{Text, bytes, newlines, line_at}
-use Rattle.text.specs.Lines.{Outcome, got, bad, read_head}
+use Rattle.text.specs.Lines.{Outcome, got, bad, read_head, cause_number}
 use Rattle.text.specs.Printed.{texts, number_text}
 use Rattle.text.specs.declared.Fault.{Fault}
 use Rattle.eos.specs.Model as eos
@@ -65,7 +65,7 @@ pub record Numbered {A : Type 0} (ns : Numbers) (most : ℕ) (s : Text) (held : 
   pub one : (r.number ≡ 1) ↔ (most < length s)
   pub fourteen : (r.number ≡ 14) ↔ ((length s ≤ most) × (held ≡ false))
   pub line : (c : Refusal) → Among ns.lines c.number
-      → (r ≡ c) ↔ (Lent most s held × (e : Fault) × (reading ≡ bad e) × (c ≡ pair e.why (line_at s e.at)))
+      → (r ≡ c) ↔ (Lent most s held × (e : Fault) × (reading ≡ bad e) × (c ≡ pair (cause_number e.cause) (line_at s e.at)))
   pub test : (c : Refusal) → Among ns.tests c.number
       → (r ≡ c) ↔ (Lent most s held × (a : A) × (next : ℕ) × (reading ≡ got a next) × First (tests a) c)
   pub good : (r.number ≡ 0) ↔ (Lent most s held × (a : A) × (next : ℕ) × (reading ≡ got a next) × Clear (tests a))
