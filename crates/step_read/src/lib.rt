@@ -21,13 +21,7 @@ use text_reader::{Reader, reached};
 use text_tokens::token_line;
 
 // The lines of n net-tokens, laid one after the other from the first on.
-fn tokens_at(
-    s: &[u8],
-    from: usize,
-    z: &PlaceSizes,
-    n: usize,
-    tokens: &mut [NetToken],
-) -> TokenLines
+fn tokens_at(s: &[u8], from: usize, z: &PlaceSizes, n: usize, tokens: &mut [NetToken]) -> TokenLines
     requires { (n ≤ line_limit) × (length tokens.old ≡ room_limit) × Roomy (as_sizes z.now) }
     ensures { record { lines = result; rows = take result.count tokens.new } ≡ token_rows (many (read_net_token (limits line_limit count_limit) (as_sizes z.now) s.now) n from) }
 {
