@@ -13,11 +13,18 @@ use model_acts::{act_held, own_net};
 use model_rules::{monotonous, takes_part};
 use std::array;
 
-// Whether s is 0 from index `from` on. It is looked at to its end, which is faster than a test of each number.
+// Whether s is nothing but 0. It is looked at to its end, which is faster than to stop at the first number that is not.
+fn all_empty(s: &[u8]) -> bool
+    ensures { result ≡ empty s.now }
+{
+    s.iter().fold(true, |all, v| all & (*v == 0))
+}
+
+// Whether s is 0 from index `from` on.
 fn empty_bytes(s: &[u8], from: usize) -> bool
     ensures { result ≡ empty (drop from s.now) }
 {
-    s.iter().skip(from).fold(true, |all, v| all & (*v == 0))
+    s.len() <= from || all_empty(&s[from..])
 }
 
 // Whether each of the first n rows of 32 is 0 behind the numbers that it uses, and the table behind them.

@@ -1,14 +1,11 @@
-use Prim.Native.Nat.{ℕ, suc, ◌+◌, ◌*◌}
+use Prim.Native.Nat.{suc, ◌+◌, ◌*◌}
 use mathlib.Core.Path.{◌≡◌, ap, ◌∙◌}
 use borrow.Author.Rules.{rules}
 use native.Mathlib.Omega.{arith}
 use native.Mathlib.Numerals.{add-one}
-use lib.IntN.{ℤ, pos, neg_ℤ, ◌+ℤ◌}
 use mir.Syntax.{w64}
 use mir.Val.{to_z, of_z}
 use Rattle.std.proofs.lemmas.Int.{ints}
-use Rattle.eos.specs.Weights.{dot}
-use Rattle.model.specs.Held.{row_in}
 use Rattle.model.proofs.HeldActs.{move-few}
 use Rattle.weigh.specs.Sums.{row_of, move_gain, event_gain}
 use Rattle.weigh.proofs.TotalLaws.{total_begins, total_further}

@@ -1,5 +1,5 @@
 -- `event_gain` is a sum. The loop's invariant: what is added up is the gain of the move and those of the first n nets.
-use Prim.Native.Nat.{◌+◌, ◌*◌, suc, ◌≤◌}
+use Prim.Native.Nat.{◌+◌, ◌*◌, suc}
 use mathlib.Core.Path.{◌≡◌}
 use lib.IntN.{pos, neg_ℤ, ◌+ℤ◌}
 use lib.Signed.{◌≤ℤ◌}

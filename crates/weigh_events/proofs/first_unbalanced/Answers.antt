@@ -1,6 +1,5 @@
-use Prim.Native.Nat.{ℕ, suc, ◌+◌, ◌<◌}
-use mathlib.Core.Path.{◌≡◌, ap, sym, ◌∙◌}
-use mathlib.Core.Bool.{Bool, true, false}
+use Prim.Native.Nat.{ℕ, ◌<◌}
+use mathlib.Core.Path.{◌≡◌, ap, ◌∙◌}
 use mathlib.Core.List.{List, []}
 use native.Mathlib.Omega.{arith}
 use lib.IntN.{ℤ, pos}
@@ -9,7 +8,6 @@ use mir.Syntax.{w64}
 use mir.Val.{of_z}
 use Rattle.std.proofs.Common.{below_more}
 use Rattle.std.proofs.lemmas.Int.{ints}
-use Rattle.eos.specs.Weights.{is_zero}
 use Rattle.model.specs.Held.{no_event}
 use Rattle.model.specs.declared.Event.{Event}
 use Rattle.model.proofs.HeldTestLoops.{at_any}
