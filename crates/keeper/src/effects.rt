@@ -20,5 +20,6 @@ pub fn unbalanced(m: &Model, held: &HeldWeights) -> Option<usize>
         → result ≡ found (failing m.now.listed 0 (λ k. is_zero (effect (model_of m.now) w (event (model_of m.now) k)))) }
     ensures within { IfSome result (λ k. k < 64) }
 {
-    first_unbalanced(&m.events[..m.listed], m.nets, &gains(m, &held.rows))
+    let listed = &m.events[..m.listed];
+    first_unbalanced(listed, m.nets, &gains(m, &held.rows))
 }

@@ -81,7 +81,13 @@ fn put_tokens(out: &mut [u8], at: usize, tokens: &[NetToken], z: &PlaceSizes)
 
 // The line of a key and the number of net-tokens of a held marking, and a line for each, from `at` on: whole, or no byte. The answer is
 // where the text ends, or would end.
-pub fn write(k: &Marking, z: &PlaceSizes, key: &[u8], out: &mut [u8], at: usize) -> Result<usize, TooSmall>
+pub fn write(
+    k: &Marking,
+    z: &PlaceSizes,
+    key: &[u8],
+    out: &mut [u8],
+    at: usize,
+) -> Result<usize, TooSmall>
     requires { (held_marking room_limit (as_sizes z.now) k.now ≡ true) × Roomy (as_sizes z.now) × (length key.now ≤ 32) × (at ≤ 1048576) }
     ensures { record { answer = result; bytes = out.new } ≡ lay (block_text key.now (tokens_of (as_sizes z.now) k.now)) out.old at }
 {

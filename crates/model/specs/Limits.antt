@@ -37,7 +37,3 @@ sync_room = 8 * 32
 -- the inner places: 8 nets of 32
 abbrev pub inner_room : ℕ
 inner_room = 8 * 32
-
--- the numbers of a marking: rows of 33, as many as it has room for
-abbrev pub rows_room : ℕ
-rows_room = room_limit * 33

@@ -56,13 +56,7 @@ pub fn on_nets(rule: &Rule, taken: &[NetToken], given: &[NetToken]) -> Result<()
     }
     let mut made = [0u64; Model::INSIDE];
     inner_of(given, &rule.types, &mut made);
-    if let Some(net) = unbalanced_net(
-        rule.nets,
-        &made,
-        &held,
-        &rule.pre.inner,
-        &rule.post.inner,
-    ) {
+    if let Some(net) = unbalanced_net(rule.nets, &made, &held, &rule.pre.inner, &rule.post.inner) {
         return Err(Refusal {
             cause: Cause::Unequal,
             beside: net + 1,
@@ -72,7 +66,12 @@ pub fn on_nets(rule: &Rule, taken: &[NetToken], given: &[NetToken]) -> Result<()
 }
 
 // The tests on the marking (11 and 12): it has the net-tokens taken, and of its room there is enough for those given.
-pub fn on_marking(room: usize, taken: &[NetToken], give: usize, held: &[NetToken]) -> Result<(), Refusal>
+pub fn on_marking(
+    room: usize,
+    taken: &[NetToken],
+    give: usize,
+    held: &[NetToken],
+) -> Result<(), Refusal>
     requires { (room ≤ room_limit) × (length taken.now ≤ room_limit) × (give ≤ room_limit) × (length held.now ≤ room_limit) × M.Sorted before held.now }
     ensures { result ≡ verdict_of (length taken.now) (first (marking_causes room taken.now give held.now)) }
 {

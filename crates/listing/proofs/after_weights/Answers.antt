@@ -1,5 +1,4 @@
 -- `after_weights` meets its contract: the lines before the net-tokens stand in the head, and the rest is laid behind them.
-use borrow.Author.Rules.{rules}
 use Prim.Native.Nat.{◌+◌, ◌≤◌}
 use mathlib.Core.Path.{◌≡◌, ap, sym, ◌∙◌}
 use mathlib.Core.Bool.{true}

@@ -14,8 +14,8 @@ use Rattle.keeper.proofs.effects.unbalanced.Goals as goal
 pub gains-requires : goal.gains-requires
 gains-requires c = most-nets _ (held-is _ c.requires.tested)
 
-pub shared_ref_as_front-first_unbalanced : goal.shared_ref_as_front-first_unbalanced
-shared_ref_as_front-first_unbalanced c = most-events _ (held-is _ c.requires.tested)
+pub shared_ref_as_front-listed : goal.shared_ref_as_front-listed
+shared_ref_as_front-listed c = omega (arith, most-events _ (held-is _ c.requires.tested))
 
 pub first_unbalanced-requires : goal.first_unbalanced-requires
 first_unbalanced-requires c =
