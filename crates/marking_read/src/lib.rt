@@ -36,7 +36,8 @@ fn net_tokens(r: &mut Reader, z: &PlaceSizes, n: usize, marking: &mut Marking) -
     Ok(())
 }
 
-// The line of key and a number up to `most`, and that many lines of net-tokens, in any order, put into a marking that has none.
+// The line of key and a number up to `most`, and that many lines of net-tokens, in any order, into the marking lent; what is in it where
+// one of them is refused is left open.
 pub fn block(
     r: &mut Reader,
     key: &[u8],
@@ -44,9 +45,10 @@ pub fn block(
     z: &PlaceSizes,
     marking: &mut Marking,
 ) -> Result<(), Fault>
-    requires { (most ≤ line_limit) × Roomy (as_sizes z.now) × (marking.old ≡ no_marking) }
+    requires { (most ≤ line_limit) × Roomy (as_sizes z.now) }
     ensures { Reads (kept hold_block (read_block key.now (limits most count_limit) (as_sizes z.now) r.old.src.now r.old.at)) r.old r.new (lent marking.new result) }
 {
     let n = r.number(key, 0, most)? as usize;
+    *marking = Marking::empty();
     net_tokens(r, z, n, marking)
 }

@@ -3,8 +3,7 @@
 ghost use Rattle.std.specs.Prelude.{◌≡◌};
 ghost use Rattle.text.specs.Answers.{kept, accepted};
 ghost use Rattle.text_reader.specs.Place.{lent};
-ghost use Rattle.model.specs.Held.{no_model};
-ghost use Rattle.marking.specs.Held.{as_sizes, Roomy, no_marking};
+ghost use Rattle.marking.specs.Held.{as_sizes, Roomy};
 ghost use Rattle.marking.specs.Answers.{hold_block};
 ghost use Rattle.reader.specs.Reading.{read_model, read_marking_at, read_marking};
 ghost use Rattle.reader.specs.Parts.{hold_loaded};
@@ -17,26 +16,25 @@ use model_read::read_plant;
 use text::Fault;
 use text_reader::Reader;
 
-// The lines of net-tokens from the place reached to the end of the text, into a marking that has none.
+// The lines of net-tokens from the place reached to the end of the text, into the marking lent.
 fn start_lines(r: &mut Reader, z: &PlaceSizes, marking: &mut Marking) -> Result<(), Fault>
-    requires { Roomy (as_sizes z.now) × (marking.old ≡ no_marking) }
+    requires { Roomy (as_sizes z.now) }
     ensures { lent marking.new result ≡ accepted (kept hold_block (read_marking_at (as_sizes z.now) r.old.src.now r.old.at)) }
 {
     block(r, b"start=", Model::LINES, z, marking)?;
     r.close()
 }
 
-// The lines of a marking, its whole text, into a marking that has no net-token.
+// The lines of a marking, its whole text.
 pub fn marking_lines(s: &[u8], z: &PlaceSizes, marking: &mut Marking) -> Result<(), Fault>
-    requires { Roomy (as_sizes z.now) × (marking.old ≡ no_marking) }
+    requires { Roomy (as_sizes z.now) }
     ensures { lent marking.new result ≡ accepted (kept hold_block (read_marking (as_sizes z.now) s.now)) }
 {
     start_lines(&mut Reader { src: s, at: 0 }, z, marking)
 }
 
-// The lines of a model with its start, its whole text, into the empty model and a marking that has no net-token.
+// The lines of a model with its start, its whole text.
 pub fn model_lines(s: &[u8], model: &mut Model, start: &mut Marking) -> Result<(), Fault>
-    requires { (model.old ≡ no_model) × (start.old ≡ no_marking) }
     ensures { lent (model.new, start.new) result ≡ accepted (kept hold_loaded (read_model s.now)) }
 {
     let r = &mut Reader { src: s, at: 0 };

@@ -16,7 +16,7 @@ pub net_tokens-requires : goal.net_tokens-requires
 net_tokens-requires c =
     let a = c.args in
     let p = c.requires in
-    (omega (arith, p.0, counted_few hold_block a.key.now a.most (as_sizes a.z.now) a.r.now _ c.in_ok-n.ensures), p.1, p.2)
+    (omega (arith, p.0, counted_few hold_block a.key.now a.most (as_sizes a.z.now) a.r.now _ c.in_ok-n.ensures), p.1, c.empty.ensures)
 
 pub returns : goal.returns
 returns c = let a = c.args in block_counted hold_block a.key.now a.most (as_sizes a.z.now) a.r.now _ c.in_ok-n.ensures _ c.net_tokens.ensures

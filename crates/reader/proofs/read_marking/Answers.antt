@@ -22,7 +22,7 @@ pub place_sizes-requires : goal.place_sizes-requires
 place_sizes-requires c = passed (goal.at.place_sizes-requires c).Else-not-is_held
 
 pub marking_lines-requires : goal.marking_lines-requires
-marking_lines-requires c = (sizes_roomy _ (passed (goal.at.marking_lines-requires c).Else-not-is_held) _ c.place_sizes.ensures, c.empty-marking.ensures)
+marking_lines-requires c = sizes_roomy _ (passed (goal.at.marking_lines-requires c).Else-not-is_held) _ c.place_sizes.ensures
 
 pub returns-in-Err : goal.returns-in-Err
 returns-in-Err c =

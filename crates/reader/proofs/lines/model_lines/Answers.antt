@@ -25,7 +25,7 @@ pub place_sizes-requires : goal.place_sizes-requires
 place_sizes-requires c = plant_held _ _ _ c.in_ok-read_plant.ensures
 
 pub start_lines-requires : goal.start_lines-requires
-start_lines-requires c = (sizes_roomy _ (plant_held _ _ _ c.in_ok-read_plant.ensures) _ c.place_sizes.ensures, c.requires.1)
+start_lines-requires c = sizes_roomy _ (plant_held _ _ _ c.in_ok-read_plant.ensures) _ c.place_sizes.ensures
 
 pub returns : goal.returns
 returns c =
