@@ -105,7 +105,7 @@ pub fn fp_read_model(text: &[u8]) -> ModelRead
 pub fn fp_read_marking(model: Model, text: &[u8]) -> MarkingRead
     ensures { result ≡ marking_read (marking_reading model text.now) }
 {
-    let read = engine::read_marking(model, text);
+    let read = engine::read_marking(&model, text);
     let answer = read.answer;
     let pair = Pair::from(answer);
     let marking = read.marking;
@@ -125,7 +125,7 @@ pub fn fp_test_model(model: Model) -> bool
 pub fn fp_test_marking(model: Model, marking: Marking) -> bool
     ensures { result ≡ held_both model marking }
 {
-    engine::test_marking(&model, marking)
+    engine::test_marking(&model, &marking)
 }
 
 // A text written, as its answer says.
@@ -143,7 +143,7 @@ fn text_written(answer: WriteAnswer) -> TextWritten
 pub fn fp_write_marking(model: Model, marking: Marking, out: &mut [u8]) -> TextWritten
     ensures { record { answer = result; bytes = out.new } ≡ written_to_c (marking_writing model marking out.old) }
 {
-    text_written(engine::write_marking(model, marking, out))
+    text_written(engine::write_marking(&model, &marking, out))
 }
 
 pub fn fp_check_weights(model: Model, marking: Marking, text: &[u8]) -> Weighed

@@ -15,7 +15,7 @@ pub fn model(rt: &impl Print, text: &[u8]) -> io::Result<()> {
 }
 
 pub fn marking(rt: &impl Print, m: Model, text: &[u8]) -> io::Result<()> {
-    let r = engine::read_marking(m, text);
+    let r = engine::read_marking(&m, text);
     let answer = r.answer;
     put_pair(rt, Pair::from(answer))
 }
@@ -38,7 +38,7 @@ pub fn step(rt: &impl Print, m: Model, k: Marking, text: &[u8]) -> io::Result<Ma
 
 // What writing a marking answers, and the lent bytes after it.
 pub fn written(rt: &impl Print, m: Model, k: Marking, out: &mut [u8]) -> io::Result<()> {
-    let answer = engine::write_marking(m, k, out);
+    let answer = engine::write_marking(&m, &k, out);
     put_pair(rt, Pair::from(answer))?;
     rt.write_all(out)?;
     rt.write_all(b"\n")

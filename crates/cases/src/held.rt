@@ -21,16 +21,16 @@ fn models(rt: &impl Print, m: Model) -> io::Result<()> {
 fn markings(rt: &impl Print, m: Model, k: Marking) -> io::Result<()> {
     let mut held = k;
     let mut out = [46u8; 40];
-    held.rows[66] = 1;
+    held.tokens[2].place = 1;
     print!(rt; "unused room not 0: ")?;
     written(rt, m, held, &mut out)?;
-    held.rows[66] = 0;
-    held.rows[1] = 2;
+    held.tokens[2].place = 0;
+    held.tokens[0].counts[0] = 2;
     print!(rt; "not in order: ")?;
     written(rt, m, held, &mut out)?;
     print!(rt; "a marking out of order: ")?;
     step(rt, m, held, b"fire=1\n")?;
-    held.rows[1] = 0;
+    held.tokens[0].counts[0] = 0;
     held.len = 257;
     print!(rt; "257 held tokens: ")?;
     written(rt, m, held, &mut out)

@@ -1,15 +1,15 @@
 -- The weight check, case by case: a text that is too long, a model or marking that is not held, a line at fault, weights that are judged.
 use Prim.Native.Nat.{ℕ, ◌≤◌, ◌<◌}
-use mathlib.Core.Path.{◌≡◌, ap, sym, ◌∙◌}
+use mathlib.Core.Path.{◌≡◌, refl, sym, ◌∙◌}
+use native.Mathlib.Omega.{arith}
 use mathlib.Core.Bool.{true, false}
 use lib.ListN.{length}
 use borrow.Author.Tests.{lt-leb, le-leb}
 use Rattle.text.specs.Bytes.{Text}
 use Rattle.text.specs.Lines.{Outcome, got, bad}
-use Rattle.text.specs.Answers.{ended_of, kept_or}
+use Rattle.text.specs.Answers.{kept, accepted}
+use Rattle.std.specs.declared.result.Result.TheVariants.{Ok, Err}
 use Rattle.text.specs.declared.Fault.{Fault}
-use Rattle.text.specs.declared.Ended.TheVariants.{Past, Stopped}
-use Rattle.text.proofs.Loops.{got_of, bad_of}
 use Rattle.eos.specs.Weights.{Weights}
 use Rattle.model.specs.Limits.{longest, cover_limit}
 use Rattle.model.specs.Held.{model_of}
@@ -19,18 +19,30 @@ use Rattle.marking.specs.declared.Marking.{Marking}
 use Rattle.reader.specs.Answers.{held_both}
 use Rattle.marking.specs.Sizes.{sizes_for}
 use Rattle.keeper.specs.Reading.{read_weight_file}
-use Rattle.keeper.specs.Held.{lay_weights, hold_weights}
+use Rattle.keeper.specs.Held.{hold_weights}
 use Rattle.keeper.specs.Answers.{refused_weights, faulty, judged_weights, weighed, weights_or, weight_checking}
-use Rattle.keeper.specs.Parts.{shape_of, read_shaped, lines_of, Holds, Light}
+use Rattle.keeper.specs.Parts.{Holds}
 use Rattle.keeper.specs.declared.WeightAnswer.TheVariants.{TooLong, NotHeld}
-use Rattle.keeper.specs.declared.WeightShape.{WeightShape}
-use Rattle.keeper.specs.declared.WeightLines.{WeightLines}
 use Rattle.keeper.specs.declared.WeightCheck.{WeightCheck}
 use Rattle.keeper.specs.declared.HeldWeights.{HeldWeights}
-use Rattle.keeper.proofs.SignedLaws.{light}
-use Rattle.keeper.proofs.JudgeLaws.{model-held}
-use Rattle.keeper.proofs.ShapeLaws.{shaped_reading}
 use Rattle.keeper.proofs.WeightsReadBack.{weights_are_right, right_shaped}
+
+-- weights that were read up to a place, as they are held
+record Passed (o : Outcome Weights) (h : HeldWeights) : Type 0 where
+  pub value : Weights
+  pub end : ℕ
+  pub is : o ≡ got value end
+  pub held : h ≡ hold_weights value
+
+passed : (o : Outcome Weights) (h : HeldWeights) → Ok h ≡ accepted (kept hold_weights o) → Passed o h
+unfolding accepted kept
+passed (got w x) h e = record { value = w; end = x; is = refl; held = cc }
+passed (bad d) h e = let z : ◌≡◌ {A = ℕ} 0 1 = cc in absurd (omega arith)
+
+refused : (o : Outcome Weights) (d : Fault) → Err d ≡ accepted (kept hold_weights o) → o ≡ bad d
+unfolding accepted kept
+refused (got w x) d e = let z : ◌≡◌ {A = ℕ} 0 1 = cc in absurd (omega arith)
+refused (bad c) d e = cc
 
 module _ (m : Model) (k : Marking) (s : Text) where
   abbrev file : Outcome Weights
@@ -56,29 +68,12 @@ module _ (m : Model) (k : Marking) (s : Text) where
 
       -- ---- by the answer of the lines
 
-      module _ (long : length m.types ≡ 32) (z : WeightShape) (shape : z ≡ shape_of m) (r : WeightLines) (read : r ≡ lines_of (read_shaped z s 0)) where
-        lines : r ≡ lines_of file
-        lines = read ∙ ap (λ (z : WeightShape). lines_of (read_shaped z s 0)) shape ∙ ap lines_of (shaped_reading m (model-held m k held) long s 0)
+      pub check_stopped : (d : Fault) → Err d ≡ accepted (kept hold_weights file) → refused_weights (faulty s d) ≡ weight_checking m k s
+      check_stopped d e = sym (check_bad d (refused file d e))
 
-        lines-ended : r.ended ≡ ended_of file
-        unfolding lines_of
-        lines-ended = ap (λ (l : WeightLines). l.ended) lines
-
-        lines-held : (w : Weights) (x : ℕ) → file ≡ got w x → r.weights ≡ lay_weights w
-        unfolding lines_of kept_or
-        lines-held w x e = ap (λ (l : WeightLines). l.weights) lines ∙ rw e
-
-        pub check_stopped : (d : Fault) → r.ended ≡ Stopped d → refused_weights (faulty s d) ≡ weight_checking m k s
-        check_stopped d e = sym (check_bad d (bad_of file r.ended d lines-ended e))
-
-        pub check_past : (room : length m.objects ≡ 8) (x : ℕ) → r.ended ≡ Past x → (c : WeightCheck) (h : HeldWeights) → ((w : Weights) → Light w → r.weights ≡ lay_weights w → h ≡ hold_weights w)
-            → ((w : Weights) → Holds m w h → c ≡ judged_weights cover_limit (model_of m) (tokens_of (sizes_for m) k) w) → c ≡ weight_checking m k s
-        check_past room x e c h signed is =
-            let g = got_of file r.ended x lines-ended e in
-            let w = g.value in
-            let right = weights_are_right (model_of m) s 0 w x g.is in
-            is w (record {
-              shaped = right_shaped (model_of m) w right;
-              is = signed w (light m w (record { held = model-held m k held; types = long; objects = room; shaped = right_shaped (model_of m) w right }) right) (lines-held w x g.is);
-            })
-            ∙ sym (check_got w x g.is)
+      pub check_past : (long : length m.types ≡ 32) (h : HeldWeights) → Ok h ≡ accepted (kept hold_weights file) → (c : WeightCheck)
+          → ((w : Weights) → Holds m w h → c ≡ judged_weights cover_limit (model_of m) (tokens_of (sizes_for m) k) w) → c ≡ weight_checking m k s
+      check_past long h e c is =
+          let g = passed file h e in
+          let right = weights_are_right (model_of m) s 0 g.value g.end g.is in
+          is g.value (record { shaped = right_shaped (model_of m) g.value right; is = g.held }) ∙ sym (check_got g.value g.end g.is)

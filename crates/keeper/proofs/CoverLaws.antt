@@ -14,7 +14,7 @@ use native.Mathlib.Nat.{mul-le-mul, div-mul-le_self, le_refl}
 use Rattle.text.proofs.Basics.{by_test, by_le, and_true}
 use Rattle.text.proofs.TestLaws.{within-is}
 use Rattle.model.proofs.HeldTests.{held-is}
-use Rattle.text.specs.Capped.{above}
+use Rattle.keeper.specs.Split.{above}
 use Rattle.eos.specs.Firing.{all_below}
 use Rattle.eos.specs.Multiset.{every}
 use Rattle.eos.specs.Weights.{Weights, positive, least, covers}

@@ -1,7 +1,8 @@
 pub mod SplitLaws
 pub mod DotLaws
 pub mod ShapeLaws
-pub mod WeightFileLines
+pub mod WeightLineLaws
+pub mod BlockLaws
 pub mod ChainLaws
 pub mod CoverLaws
 pub mod HeldRows
@@ -11,7 +12,6 @@ pub mod MarkingLaws
 pub mod WeighLaws
 pub mod EveryLaws
 pub mod ZeroLaws
-pub mod SignedLaws
 pub mod JudgeLaws
 pub mod WeightsReadBack
 pub mod WeightsRefused

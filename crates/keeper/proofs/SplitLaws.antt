@@ -5,7 +5,7 @@ use mathlib.Core.List.{List, [], ◌∷◌, map}
 use native.Mathlib.Omega.{arith}
 use lib.IntN.{ℤ, pos, negsuc, neg_ℤ, ◌+ℤ◌, ◌*ℤ◌, sub_ℕ}
 use borrow.Author.Tests.{lt-ltb, le-ltb}
-use Rattle.text.specs.Capped.{above, below}
+use Rattle.keeper.specs.Split.{above, below}
 use Rattle.eos.specs.Model as eos
 use Rattle.eos.specs.Firing.{outer, inner, inside_of}
 use Rattle.eos.specs.Vector.{◌⊕◌, zeros, unit}

@@ -13,7 +13,7 @@ use lib.ListN.{length, get_or, length-map, get_or-map, get_or-eq_default}
 use borrow.Author.Tests.{leb-true, le-leb, ne_eqb, eqb-true}
 use Rattle.text.specs.Bytes.{Text}
 use Rattle.text.specs.Lines.{Outcome, got, bad, every, modest}
-use Rattle.text.specs.Capped.{above, below}
+use Rattle.keeper.specs.Split.{above, below}
 use Rattle.text.proofs.Basics.{by_test, and_true}
 use Rattle.text.proofs.TestLaws.{and_both, every_at-at}
 use Rattle.eos.specs.Model as eos

@@ -19,7 +19,7 @@ use Rattle.eos.proofs.WeightLaws.{dot_zero, weight_of, weigh-sum}
 use Rattle.model.specs.Rules.{nth}
 use Rattle.model.specs.Held.{no_net, model_of}
 use Rattle.model.specs.declared.Model.{Model}
-use Rattle.model.proofs.SlotLaws.{by_index, cond_below, listed_at}
+use Rattle.model.proofs.SlotLaws.{cond_below, listed_at}
 use Rattle.model.proofs.HeldTests.{held-is, types-at}
 use Rattle.marking.specs.Held.{token_of, held_token}
 use Rattle.marking.specs.declared.NetToken.{NetToken}

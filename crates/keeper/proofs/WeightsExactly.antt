@@ -14,7 +14,7 @@ use borrow.Author.Tests.{leb-true, le-leb, ltb-true, lt-ltb}
 use Rattle.text.specs.Bytes.{Text}
 use Rattle.text.proofs.Basics.{by_test, and_true}
 use Rattle.text.specs.Lines.{Outcome, got, bad}
-use Rattle.text.specs.Capped.{above}
+use Rattle.keeper.specs.Split.{above}
 use Rattle.text.proofs.TestLaws.{and_both, every-at, every_of}
 use Rattle.eos.specs.Model as eos
 use Rattle.eos.specs.Multiset.{every}

@@ -35,7 +35,7 @@ abbrev read_lines : eos.Model → Text → ℕ → Outcome Weights
 read_lines m s at =
     then (read_head (bytes "inv=1\n") s at) λ _ x₁.
     then (read_weights (bytes "outer=") (eos.places m) (modest weight_limit) s x₁) λ o x₂.
-    then (many_at (read_inner m s) 0 (length m.nets) x₂) λ i x₃. need true 0 x₂ (got (record { outward = o; inward = i }) x₃)
+    then (many_at (read_inner m s) 0 (length m.nets) x₂) λ i x₃. need true Syntax x₂ (got (record { outward = o; inward = i }) x₃)
 
 module _ (m : eos.Model) where
   from_lines : (s : Text) (at : ℕ) → read_weights_at m s at ≡ then (read_lines m s at) (read_end s)

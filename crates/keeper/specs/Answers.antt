@@ -2,8 +2,8 @@
 use Rattle.std.specs.Prelude.{ℕ, suc, ◌+◌, Bool, true, false, leb, ℤ, nat_abs, length}
 use Rattle.std.proofs.Math.Option.{Option, none, some}
 use Rattle.text.specs.Bytes.{Text}
-use Rattle.text.specs.Lines.{Outcome, got, bad, spot_of}
-use Rattle.text.specs.Capped.{above, below}
+use Rattle.text.specs.Lines.{Outcome, got, bad, cause_number, spot_of}
+use Rattle.keeper.specs.Split.{above, below}
 use Rattle.text.specs.declared.Fault.{Fault}
 use Rattle.eos.specs.Model as eos
 use Rattle.eos.specs.Causes.{Refusal}
@@ -26,7 +26,7 @@ abbrev pub weight_pair : WeightAnswer → Refusal
 weight_pair Passed = pair 0 0
 weight_pair TooLong = pair 1 0
 weight_pair NotHeld = pair 14 0
-weight_pair (Faulty e) = pair e.why e.line
+weight_pair (Faulty e) = pair (cause_number e.cause) e.line
 weight_pair (Turned cause beside) = pair cause beside
 
 -- a sum as its part above 0 and its part below 0

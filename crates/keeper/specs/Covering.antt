@@ -1,7 +1,7 @@
 -- Weights that cover for so many net-tokens, part by part (01): all are at least 1, the sum divided by the least outer weight is at most
 -- that many, and divided by each inner weight at most a count's limit, rounded down.
 use Rattle.std.specs.Prelude.{ℕ, ◌/◌, ◌≤◌, ◌<◌, [], pos, nat_abs, length, get_or}
-use Rattle.text.specs.Capped.{above}
+use Rattle.keeper.specs.Split.{above}
 use Rattle.eos.specs.Weights.{Weights, least}
 use Rattle.model.specs.Limits.{count_limit}
 

@@ -1,3 +1,4 @@
+pub mod Split
 pub mod Reading
 pub mod Printed
 pub mod Held

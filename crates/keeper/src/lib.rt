@@ -15,43 +15,19 @@ use effects::unbalanced;
 use marking::Marking;
 use model::Model;
 use reader::test_marking;
-use signed::signed;
-use text::{Ended, Fault, Spot};
+use text::{Fault, Spot};
 use text_scan::spot_of;
 use weigh_cover::covers;
 use weigh_marking::marking_weight;
-use weightfile::{shape_of, weight_lines};
+use weightfile::weight_lines;
 
 mod effects;
-mod signed;
 mod weightfile;
 
 // The weights of a model's places in nine rows of 32: the outer weights, and then those of each net. Unused room is 0.
 #[derive(Clone, Copy)]
 pub struct HeldWeights {
     pub rows: [[i16; 32]; 9],
-}
-
-// The same as they are read, each weight as its part above 0 and its part below 0.
-#[derive(Clone, Copy)]
-pub struct ReadWeights {
-    pub above: [u16; 288],
-    pub below: [u16; 288],
-}
-
-// How many weights the lines of a model's weight file have: for the places, and for those of each net.
-#[derive(Clone, Copy)]
-pub struct WeightShape {
-    pub places: usize,
-    pub nets: usize,
-    pub inner: [usize; 8],
-}
-
-// How the reading of a weight file ended, and the weights; a refusal holds none.
-#[derive(Clone, Copy)]
-pub struct WeightLines {
-    pub ended: Ended,
-    pub weights: ReadWeights,
 }
 
 // How the check of a weight file ended.
@@ -170,11 +146,8 @@ pub fn check_weights(m: Model, k: Marking, s: &[u8]) -> WeightCheck
     if !test_marking(&m, &k) {
         return weights_refused(WeightAnswer::NotHeld);
     }
-    let read = weight_lines(shape_of(m), s);
-    let ended = read.ended;
-    let weights = read.weights;
-    let Ended::Stopped { fault } = ended else {
-        return judged(Model::COVER as u64, &m, &k, &signed(&weights));
-    };
-    weights_refused(fault_answer(s, fault))
+    match weight_lines(&m, s) {
+        Ok(weights) => judged(Model::COVER as u64, &m, &k, &weights),
+        Err(fault) => weights_refused(fault_answer(s, fault)),
+    }
 }

@@ -14,10 +14,11 @@ use Rattle.text.proofs.Basics.{by_le}
 use Rattle.text.proofs.SetsLaws.{sets_append, sets_apart}
 use Rattle.text.proofs.LaidLaws.{lay-whole, lay-short}
 use Rattle.model.specs.declared.Model.{Model}
-use Rattle.marking.specs.Held.{sizes_at, tokens_of}
+use Rattle.marking.specs.Held.{as_sizes, tokens_of}
 use Rattle.marking.specs.Printed.{block_text}
 use Rattle.marking.specs.declared.Marking.{Marking}
-use Rattle.marking.specs.Sizes.{sizes_in, sizes_for}
+use Rattle.marking.specs.Sizes.{place_sizes, sizes_for}
+use Rattle.marking.specs.declared.PlaceSizes.{PlaceSizes}
 use Rattle.reader.specs.Answers.{lay_whole}
 use Rattle.reader.specs.declared.WriteAnswer.TheVariants as answer
 use Rattle.reader.proofs.WriteAnswers.{whole-fits, whole-short}
@@ -69,6 +70,6 @@ module _ (head block out : List ℕ) {w : Result ℕ TooSmall} {mid : List ℕ} 
       rw (p.1, p.2, ← n) (whole-short (head ++ block) out (omega (arith, n, p.0)))
 
 -- the sizes of a model's net-tokens, as the code has them
-pub by_sizes : (m : Model) (k : Marking) (head out z : List ℕ) → z ≡ sizes_in m
-    → lay_whole (head ++ block_text (bytes "held=") (tokens_of (sizes_at m.places z) k)) out ≡ lay_whole (head ++ block_text (bytes "held=") (tokens_of (sizes_for m) k)) out
-by_sizes m k head out z e = ap (λ (z : List ℕ). lay_whole (head ++ block_text (bytes "held=") (tokens_of (sizes_at m.places z) k)) out) e
+pub by_sizes : (m : Model) (k : Marking) (head out : List ℕ) (z : PlaceSizes) → z ≡ place_sizes m
+    → lay_whole (head ++ block_text (bytes "held=") (tokens_of (as_sizes z) k)) out ≡ lay_whole (head ++ block_text (bytes "held=") (tokens_of (sizes_for m) k)) out
+by_sizes m k head out z e = ap (λ (z : PlaceSizes). lay_whole (head ++ block_text (bytes "held=") (tokens_of (as_sizes z) k)) out) e

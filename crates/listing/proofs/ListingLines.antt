@@ -10,7 +10,7 @@ use lib.ListN.{length, length-append}
 use lib.Seq.{sets}
 use borrow.Author.Tests.{lt-ltb, le-ltb}
 use Rattle.text.specs.Bytes.{Text, bytes}
-use Rattle.text.specs.Capped.{above, below}
+use Rattle.keeper.specs.Split.{above, below}
 use Rattle.text.specs.Lists.{stop_of}
 use Rattle.text.specs.Printed.{decimal, signed_text, items_text, end_text, number_text, list_text, weights_text}
 use Rattle.text.proofs.DecimalLaws.{length-below}

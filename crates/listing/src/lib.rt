@@ -12,7 +12,7 @@ ghost use Rattle.listing.specs.Listing.{trace_file, run_text, after_model, listi
 use files::{model_file, trace_file, weights_file};
 use head::{is_accepted, put_cover, put_pair, put_sum};
 use marking::Marking;
-use marking_test::sizes;
+use marking_test::place_sizes;
 use marking_write::write;
 use model::Model;
 use pairs::Pair;
@@ -35,12 +35,12 @@ fn lay_head(head: &[u8], out: &mut [u8]) -> WriteAnswer
 }
 
 // The head of a listing, and behind it the net-tokens of a held marking. These are laid first: where they do not fit, no byte is touched.
-fn lay_with_held(head: &[u8], m: Model, k: Marking, out: &mut [u8]) -> WriteAnswer
-    requires { (held_both m k ≡ true) × (length head.now ≤ 1024) }
+fn lay_with_held(head: &[u8], m: &Model, k: &Marking, out: &mut [u8]) -> WriteAnswer
+    requires { (held_both m.now k.now ≡ true) × (length head.now ≤ 1024) }
     ensures { record { answer = result; bytes = out.new }
-        ≡ lay_whole (head.now ++ block_text (bytes "held=") (tokens_of (sizes_for m) k)) out.old }
+        ≡ lay_whole (head.now ++ block_text (bytes "held=") (tokens_of (sizes_for m.now) k.now)) out.old }
 {
-    let wrote = write(k, m.places as u16, sizes(m), b"held=", out, head.len());
+    let wrote = write(k, &place_sizes(m), b"held=", out, head.len());
     match wrote {
         Ok(bytes) => {
             put_text(out, 0, head);
@@ -68,7 +68,7 @@ fn after_weights(
     let stop = ran.stop;
     let end = put_pair(head, next, b"stop=", Pair::from(stop));
     let marking = ran.marking;
-    lay_with_held(&head[..end], m, marking, out)
+    lay_with_held(&head[..end], &m, &marking, out)
 }
 
 // The listing from `weights` on, behind the first `at` bytes of its head.

@@ -11,7 +11,7 @@ use borrow.Author.Tests.{leb-true, leb-false}
 use Rattle.text.specs.Bytes.{Text}
 use Rattle.text.proofs.Basics.{by_test, and_true}
 use Rattle.text.specs.Lines.{got}
-use Rattle.text.specs.Capped.{above, below}
+use Rattle.keeper.specs.Split.{above, below}
 use Rattle.eos.specs.Multiset as M
 use Rattle.eos.specs.Model as eos
 use Rattle.eos.specs.Weights.{Weights, Shaped, weigh, Passing, covers}

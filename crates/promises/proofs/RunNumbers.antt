@@ -15,7 +15,7 @@ use Rattle.text.proofs.Exactly.{bad≢got}
 use Rattle.text.proofs.LinesExactly.{head_exactly}
 use Rattle.eos.specs.Model as eos
 use Rattle.eos.specs.Causes.{Refusal}
-use Rattle.model.specs.Limits.{longest, room_limit, rows_room}
+use Rattle.model.specs.Limits.{longest, room_limit}
 use Rattle.model.specs.declared.Model.{Model}
 use Rattle.marking.specs.Held.{hold_marking}
 use Rattle.marking.specs.Printed.{marking_text}
@@ -123,7 +123,7 @@ module _ (m : Model) (k : Marking) (s : Text) where
     run_step h = ap stop_pair (stops_at.turned h) ∙ stopped_pair answer
 
     -- on a marking as every one in code is, that is the step call
-    pub run_call : length k.rows ≡ rows_room → (running m k s).at < length s → r ≡ step_pair (stepping m (running m k s).marking left).answer
+    pub run_call : length k.tokens ≡ room_limit → (running m k s).at < length s → r ≡ step_pair (stepping m (running m k s).marking left).answer
     run_call long h =
         let kept = run_keeps m k s (record { held = w.is_held; long = long }) in
         run_step h ∙ ap (λ (x : Stepped). step_pair x.answer) (step-held m (running m k s).marking left few-left kept.held)

@@ -11,7 +11,7 @@ use lib.ListN.{length}
 use borrow.Author.Tests.{ne_eqb, le-leb}
 use Rattle.text.specs.Bytes.{Text, bytes}
 use Rattle.text.specs.Lines.{got}
-use Rattle.text.specs.Capped.{above, below}
+use Rattle.keeper.specs.Split.{above, below}
 use Rattle.text.proofs.Unique.{was_printed}
 use Rattle.eos.specs.Model as eos
 use Rattle.eos.specs.Firing.{after}

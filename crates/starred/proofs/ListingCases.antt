@@ -18,7 +18,7 @@ use Rattle.model.specs.Acts.{held_act}
 use Rattle.model.specs.Held.{hold_model, hold_net, hold_nets, hold_event, hold_events, tabled, model_of, net_of, event_of}
 use Rattle.model.specs.Test.{empty_past, held_types, held_moves, held_net, held_nets, held_event, empty_event, held_events, held_model}
 use Rattle.model_text.specs.Reading.{read_sides, read_net, read_idle, read_move, read_act, read_sync, read_event, read_plant}
-use Rattle.marking.specs.Held.{hold_marking, tokens_of, right_row, held_rows}
+use Rattle.marking.specs.Held.{hold_marking, tokens_of, held_token, held_tokens}
 use Rattle.marking.specs.Reading.{read_net_token, read_block}
 use Rattle.marking.specs.Printed.{net_token_text, block_text}
 use Rattle.reader.specs.Reading.{read_end, read_lines, read_model_at}
@@ -51,7 +51,7 @@ unfolding listing_text after_model run_text cover_text sum_text pair_then pair_t
     read_plant read_event read_sync read_act read_move read_idle read_net read_sides keeps_types
     weight_checking weights_or weighed judged_weights turned_or weight_refusal read_weights_at read_inner read_weights effect value weigh covers
     running run_where_held headed run_from onward held_in held_model held_types held_moves held_nets held_net held_events held_event empty_event held_act right_act empty_past monotonous
-    touches takes_part held_rows right_row hold_model hold_net hold_nets hold_event hold_events tabled fill padded hold_marking model_of net_of event_of tokens_of sizes_in
+    touches takes_part held_tokens held_token hold_model hold_net hold_nets hold_event hold_events tabled fill padded hold_marking model_of net_of event_of tokens_of sizes_in
     tried read_then step_judged read_taking read_step read_block read_net_token read_token token_at counts_at read_head read_number read_list behind lines.judged many many_at need then list_end
     items item prepended ended stop_of number number_of digits plainly negated signed starts newlines refusal causes first unless at outer_taken outer_given inner_taken
     inner_given outer inner outer_of inner_of block_text net_token_text number_text list_text weights_text token_text texts end_text items_text signed_text decimal decimal_of

@@ -17,7 +17,7 @@ use Rattle.model.specs.Acts.{held_act}
 use Rattle.model.specs.Held.{hold_model, hold_net, hold_nets, hold_event, hold_events, tabled, model_of, net_of, event_of}
 use Rattle.model.specs.Test.{empty_past, held_types, held_moves, held_net, held_nets, held_event, empty_event, held_events, held_model}
 use Rattle.model_text.specs.Reading.{read_sides, read_net, read_idle, read_move, read_act, read_sync, read_event, read_plant}
-use Rattle.marking.specs.Held.{hold_marking, tokens_of, right_row, held_rows}
+use Rattle.marking.specs.Held.{hold_marking, tokens_of, held_token, held_tokens}
 use Rattle.marking.specs.Printed.{net_token_text, block_text, marking_text}
 use Rattle.marking.specs.Reading.{read_net_token, read_block}
 use Rattle.reader.specs.Reading.{read_end, read_lines, read_model_at}
@@ -45,7 +45,7 @@ read = tt
 -- held models and markings, and their tests
 unfoldable pub held : Unit {0}
 unfolding padded fill tabled hold_net hold_nets hold_event hold_events hold_model net_of event_of model_of hold_marking tokens_of sizes_in empty_past held_types held_moves
-    held_net held_nets held_act right_act held_event empty_event held_events held_model right_row held_rows held_in
+    held_net held_nets held_act right_act held_event empty_event held_events held_model held_token held_tokens held_in
 held = tt
 
 -- the rule, the causes, the weights, the spread

@@ -8,7 +8,6 @@ use Rattle.model.proofs.RoomLaws.{objects-room, events-room}
 use Rattle.reader.specs.Answers.{held_both}
 use Rattle.keeper.specs.Answers.{refused_weights}
 use Rattle.keeper.proofs.JudgeLaws.{model-held}
-use Rattle.keeper.proofs.ShapeLaws.{shape_few}
 use Rattle.keeper.proofs.CheckLaws.{check_long, check_unheld, check_stopped, check_past}
 use Rattle.keeper.proofs.check_weights.Goals as goal
 use Rattle.keeper.proofs.check_weights.Goals.{Else-not-test_marking, Start}
@@ -29,8 +28,8 @@ returns-then-not-test_marking c =
     c.weights_refused-then-not-test_marking.ensures
     ∙ check_unheld c.args.m c.args.k c.args.s.now c.if-s-gt-LONGEST.false (sym c.test_marking.ensures ∙ c.if-not-test_marking.true)
 
-pub weight_lines-read-requires : goal.weight_lines-read-requires
-weight_lines-read-requires c = shape_few _ (model-held _ _ (both (goal.at.weight_lines-read-requires c).Else-not-test_marking)) _ c.shape_of.ensures
+pub weight_lines-requires : goal.weight_lines-requires
+weight_lines-requires c = model-held _ _ (both (goal.at.weight_lines-requires c).Else-not-test_marking)
 
 pub judged-requires : goal.judged-requires
 judged-requires c = record {
@@ -38,13 +37,12 @@ judged-requires c = record {
   room = (objects-room c.args.m _ c.well_formed.0, events-room c.args.m _ c.well_formed.0);
 }
 
-pub returns-in_default : goal.returns-in_default
-returns-in_default c =
-    check_past c.args.m c.args.k c.args.s.now c.if-s-gt-LONGEST.false (both (goal.at.returns-in_default c).Else-not-test_marking) (long (goal.at.returns-in_default c).Start) _ c.shape_of.ensures _
-    c.weight_lines-read.ensures (objects-room c.args.m _ c.well_formed.0) _ c.in_default.is _ _ c.signed.ensures c.judged.ensures
+pub returns-in-Ok : goal.returns-in-Ok
+returns-in-Ok c =
+    check_past c.args.m c.args.k c.args.s.now c.if-s-gt-LONGEST.false (both (goal.at.returns-in-Ok c).Else-not-test_marking) (long (goal.at.returns-in-Ok c).Start) _
+    c.in-Ok.ensures _ c.judged.ensures
 
-pub returns : goal.returns
-returns c =
-    c.weights_refused-2.ensures ∙ ap refused_weights c.fault_answer.ensures
-    ∙ check_stopped c.args.m c.args.k c.args.s.now c.if-s-gt-LONGEST.false (both (goal.at.returns c).Else-not-test_marking) (long (goal.at.returns c).Start) _ c.shape_of.ensures _
-    c.weight_lines-read.ensures _ c.in-Stopped.is
+pub returns-in-Err : goal.returns-in-Err
+returns-in-Err c =
+    c.weights_refused-in-Err.ensures ∙ ap refused_weights c.fault_answer.ensures
+    ∙ check_stopped c.args.m c.args.k c.args.s.now c.if-s-gt-LONGEST.false (both (goal.at.returns-in-Err c).Else-not-test_marking) _ c.in-Err.ensures

@@ -8,6 +8,7 @@ use lib.ListN.{length}
 use lib.Seq.{length-take-le}
 use Rattle.text.specs.Bytes.{Text, bytes}
 use Rattle.text.specs.Printed.{number_text}
+use Rattle.marking.proofs.SizedLaws.{marking_sized}
 use Rattle.reader.specs.Answers.{held_both, lay_whole}
 use Rattle.listing.proofs.ThreeFiles.{trace_held}
 use Rattle.listing.proofs.ListingLines.{long-line}
@@ -17,8 +18,8 @@ use Rattle.listing.proofs.after_weights.Goals.{After-put_pair-end, After-trace_f
 
 -- the marking that the run leaves is held
 held : (c : After-trace_file-ran) → held_both c.args.m c.trace_file-ran.result.marking ≡ true
-held c = let rows_long : (length c.args.k.rows ≡ 8448) = search rules in
-    rw c.trace_file-ran.ensures (trace_held c.args.m c.args.k c.args.trace.now (record { held = c.requires.0; long = rows_long }))
+held c = let long : length c.args.k.tokens ≡ 256 = (marking_sized c.args.k _ c.well_formed.1.0).long in
+    rw c.trace_file-ran.ensures (trace_held c.args.m c.args.k c.args.trace.now (record { held = c.requires.0; long = long }))
 
 -- the lines end within the head, whose length stays
 ends : (c : After-put_pair-end) →

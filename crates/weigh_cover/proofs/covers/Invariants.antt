@@ -1,5 +1,5 @@
 -- `covers` meets its contract. The loop's invariant: the weights of the first n nets pass.
-use Prim.Native.Nat.{ℕ, suc, ◌<◌}
+use Prim.Native.Nat.{ℕ, ◌<◌}
 use mathlib.Core.Path.{◌≡◌}
 use mathlib.Core.Bool.{true}
 use Rattle.weigh.specs.Sums.{net_covered}
