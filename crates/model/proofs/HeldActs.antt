@@ -14,7 +14,7 @@ use Rattle.eos.specs.Model.{Act, move, idle}
 use Rattle.eos.specs.Firing.{act_side}
 use Rattle.eos.proofs.VectorSums.{length-one}
 use Rattle.model.specs.Rules.{Frame, right_act, own_net}
-use Rattle.model.specs.Acts.{kind_of, index_of, act_of, is_act, move_of, held_act, own_in, move_in, outer_in}
+use Rattle.model.specs.Acts.{kind_of, index_of, act_of, is_act, held_act, own_in, outer_in}
 use Rattle.model.specs.Held.{row_in}
 use Rattle.model.proofs.TableLaws.{length-row}
 

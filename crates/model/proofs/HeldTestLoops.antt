@@ -14,9 +14,9 @@ use Rattle.std.specs.List.{fold}
 use Rattle.text.specs.Lines.{in_range, every}
 use Rattle.text.proofs.Basics as T
 use Rattle.text.proofs.Basics.{by_test}
-use Rattle.model.specs.Rules.{nth, Frame, takes_part}
+use Rattle.model.specs.Rules.{nth, Frame}
 use Rattle.model.specs.Held.{no_net}
-use Rattle.model.specs.Test.{empty, empty_past, used_of, held_events, frame_in, counts_are, empty_at, used_in, sizes_are, framed, part_at, event_at}
+use Rattle.model.specs.Test.{empty, empty_past, used_of, held_events, frame_in, counts_are, empty_at, used_in, sizes_are, framed, event_at}
 use Rattle.model.specs.declared.Model.{Model}
 
 -- ---- a test that is made first
@@ -116,14 +116,6 @@ few-steps nets k places steps e =
     (λ h. let d = T.and_true (in_range 1 32 places) (in_range 0 32 steps) (rw h at e) in
     let g = T.and_true (leb 0 steps) (leb steps 32) d.1 in leb-true steps 32 g.1)
     (λ h. let d = T.and_true (eqb places 0) (eqb steps 0) (rw h at e) in omega (arith, eqb-true steps 0 d.1))
-
--- ---- events
-
--- all take part in a move
-pub parts_move : (n : ℕ) (sync : List ℕ) → true ≡ all_below n (part_at 0 sync)
-unfolding takes_part
-parts_move zero sync = refl
-parts_move (suc n) sync = parts_move n sync
 
 -- ---- the model
 

@@ -15,9 +15,3 @@ events-room m vs p = p.1.1.1.1.1.1.1.1.1.1.0.1.0.1
 
 pub types-room : (m : Model) (vs : List Val) → Is the_row m vs → length m.types ≡ 32
 types-room m vs p = p.1.1.1.1.1.1.0.1.0.1
-
-pub pre-room : (m : Model) (vs : List Val) → Is the_row m vs → length m.pre ≡ 1024
-pre-room m vs p = p.1.1.1.1.1.1.1.0.1.0.1
-
-pub post-room : (m : Model) (vs : List Val) → Is the_row m vs → length m.post ≡ 1024
-post-room m vs p = p.1.1.1.1.1.1.1.1.0.1.0.1
