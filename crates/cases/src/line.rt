@@ -9,14 +9,7 @@ pub fn find(s: &[u8], byte: u8) -> usize
     ensures first { All (λ b. b ≢ byte) (take result s.now) }
     ensures found { result < length s.now → slice_index s.now result ≡ byte }
 {
-    let mut at = 0;
-    while at < s.len() {
-        if s[at] == byte {
-            return at;
-        }
-        at += 1;
-    }
-    at
+    s.iter().position(|b| *b == byte).unwrap_or(s.len())
 }
 
 // A byte of the text, and the position after what stands for it.
@@ -61,6 +54,7 @@ pub fn decoded(s: &[u8], out: &mut [u8]) -> usize
 {
     let mut at = 2;
     let mut n = 0;
+    // Both places move by what stands there: no index goes over the text.
     while at < s.len() {
         if out.len() <= n {
             return n;

@@ -17,6 +17,7 @@ pub fn load(rt: &impl Files, path: &str, buf: &mut [u8]) -> usize
         return 0;
     };
     let mut done = 0;
+    // A read answers how many bytes it gave: no index goes over the buffer.
     while done < buf.len() {
         let Ok(n) = file.read(&mut buf[done..]) else {
             break;
