@@ -15,7 +15,7 @@ use runner::StepAnswer;
 use runner_trace::Stop;
 use spread::Beyond;
 
-// A number of 01's table, and what stands beside it.
+// A number of 01's table, and what stands beside it. A number, since the calls for C hand it on, and C takes no enum.
 #[derive(Clone, Copy, PartialEq, Eq, Debug)]
 pub struct Pair {
     pub number: u8,

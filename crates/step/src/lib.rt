@@ -8,7 +8,7 @@ ghost use Rattle.step.specs.Verdict.{number_of};
 use model::Model;
 
 // One side of an event: how many net-tokens it has on each place, and how many tokens on each place of each object net; the number of
-// place i of net n stands at n * 32 + i. Unused room is 0.
+// place i of net n stands at n * 32 + i, in one row as the held arcs are, which C lays out. Unused room is 0.
 #[derive(Clone, Copy)]
 pub struct Sides {
     pub outer: [u64; 32],

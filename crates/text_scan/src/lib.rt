@@ -1,5 +1,6 @@
 // The bytes of a text: what stands at a position, and in which line; a fault, made and named; decimal numbers of any number of digits, with
-// and without a sign.
+// and without a sign. The functions of a line, here and in the crates of lines, lists and token lines, take the bytes and a place: 01 has them
+// know no reader.
 #![tactic(auto)]
 
 ghost use Rattle.std.specs.Prelude.{◌≡◌, drop, get_or, length, ◌+◌, ◌-◌, ◌*◌, ◌≤◌, ◌<◌, min, Some, pos, negsuc};

@@ -21,6 +21,7 @@ fn any_list(s: &[u8], from: usize) -> bool
         return true;
     }
     let mut at = from;
+    // A number ends where its reading says: no index goes over the text.
     while let Some(Parsed { value: _, end }) = number(s, at) {
         let next = byte_at(s, end);
         if next == b'\n' {
