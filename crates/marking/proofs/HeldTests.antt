@@ -1,4 +1,4 @@
--- Laws of the held test as the code makes it: of one net-token, of many, and of a marking.
+-- Laws of the held test as the code makes it: of one net-token, and of many.
 use Prim.Native.Nat.{ℕ, ◌-◌, ◌≤◌, ◌<◌}
 use mathlib.Core.Path.{◌≡◌, refl, sym, ap, ap₂, ◌∙◌}
 use mathlib.Core.List.{List, [], ◌∷◌, ◌++◌}
@@ -13,11 +13,9 @@ use Rattle.text.specs.Lines.{every}
 use Rattle.text.specs.Answers.{padded}
 use Rattle.text.proofs.PaddedLaws.{padded-is}
 use Rattle.eos.specs.Vector.{eq_v}
-use Rattle.model.specs.Limits.{room_limit}
-use Rattle.marking.specs.Tokens.{like, no_token, tokens_in, ascending}
-use Rattle.marking.specs.Held.{Sizes, held_token, held_tokens, held_marking}
+use Rattle.marking.specs.Tokens.{like, no_token, ascending}
+use Rattle.marking.specs.Held.{Sizes, held_token, held_tokens}
 use Rattle.marking.specs.declared.NetToken.{NetToken}
-use Rattle.marking.specs.declared.Marking.{Marking}
 
 -- the library's test of all elements
 pub every_all : {A : Type 0} (f : A → Bool) (l : List A) → list_all f l ≡ every f l
@@ -58,28 +56,25 @@ module _ (z : Sizes) (t : NetToken) where
   unfolding held_token
   held_high h = rw (lt-leb t.place z.places h, and-false)
 
--- ---- a marking, by the first of its parts that fails; `here` are its net-tokens as they are lent
-
-module _ (z : Sizes) (k : Marking) where
-  pub held_many : 256 < k.len → false ≡ held_marking room_limit z k
+-- ---- n lent net-tokens, by the first part of the test that fails
+module _ (room : ℕ) (z : Sizes) (n : ℕ) (ts : List NetToken) where
+  pub held_many : room < n → false ≡ held_tokens room z n ts
   unfolding held_tokens
-  held_many h = rw (lt-leb k.len 256 h)
+  held_many h = rw (lt-leb n room h)
 
-  -- the room behind its net-tokens, as it is lent
-  pub room_whole : length k.tokens ≡ 256 → every (like no_token) (take (256 - k.len) (drop k.len k.tokens)) ≡ every (like no_token) (drop k.len k.tokens)
-  room_whole h = ap (every (like no_token)) (take_all (256 - k.len) (drop k.len k.tokens) (omega (arith, length-drop k.len k.tokens)))
+  -- the room behind them, as it is lent
+  pub room_whole : every (like no_token) (take (length ts - n) (drop n ts)) ≡ every (like no_token) (drop n ts)
+  room_whole = ap (every (like no_token)) (take_all (length ts - n) (drop n ts) (omega (arith, length-drop n ts)))
 
-  module _ (few : k.len ≤ 256) (here : List NetToken) (is : here ≡ tokens_in k) (a : Bool) (order : a ≡ ascending here) where
-    pub held_disordered : a ≡ false → false ≡ held_marking room_limit z k
+  module _ (few : n ≤ room) (a : Bool) (order : a ≡ ascending (take n ts)) where
+    pub held_disordered : a ≡ false → false ≡ held_tokens room z n ts
     unfolding held_tokens
-    held_disordered e = rw (le-leb k.len 256 few, ap ascending (sym is) ∙ sym order ∙ e)
+    held_disordered e = rw (le-leb n room few, sym order ∙ e)
 
-    pub held_used : (e : Bool) → a ≡ true → e ≡ every (like no_token) (drop k.len k.tokens) → e ≡ false → false ≡ held_marking room_limit z k
+    pub held_used : (e : Bool) → a ≡ true → e ≡ every (like no_token) (drop n ts) → e ≡ false → false ≡ held_tokens room z n ts
     unfolding held_tokens
-    held_used e f g h = rw (le-leb k.len 256 few, ap ascending (sym is) ∙ sym order ∙ f, sym g ∙ h)
+    held_used e f g h = rw (le-leb n room few, sym order ∙ f, sym g ∙ h)
 
-    pub held_rest : (e r : Bool) → a ≡ true → e ≡ every (like no_token) (drop k.len k.tokens) → e ≡ true
-        → (again : List NetToken) → again ≡ tokens_in k → r ≡ every (held_token z) again → r ≡ held_marking room_limit z k
+    pub held_rest : (e r : Bool) → a ≡ true → e ≡ every (like no_token) (drop n ts) → e ≡ true → r ≡ every (held_token z) (take n ts) → r ≡ held_tokens room z n ts
     unfolding held_tokens
-    held_rest e r f g h again same q =
-        rw (le-leb k.len 256 few, ap ascending (sym is) ∙ sym order ∙ f, sym g ∙ h) (q ∙ ap (every (held_token z)) same)
+    held_rest e r f g h q = rw (le-leb n room few, sym order ∙ f, sym g ∙ h) q

@@ -2,13 +2,15 @@
 use Prim.Native.Nat.{ℕ, zero, suc, ◌+◌, ◌-◌, ◌≤◌, ◌<◌}
 use mathlib.Core.Path.{◌≡◌, refl, sym, ap, ◌∙◌}
 use mathlib.Core.Bool.{Bool, true, false}
-use mathlib.Core.List.{List, [], ◌∷◌, ◌++◌, append_assoc}
+use mathlib.Core.List.{List, [], ◌∷◌, ◌++◌, append_assoc, append-nil}
 use native.Mathlib.Omega.{arith}
 use native.Mathlib.Numerals.{add-one}
 use borrow.Author.Tests.{le-leb, lt-leb}
-use lib.ListN.{length, get_or, set, take, drop, replicate, take-append-drop, length-drop, length-append}
-use lib.Seq.{paste, length-paste, get_or-take, take-paste, drop-paste, take_at, drop_at, take_all, take-take, take-append-le, drop-drop, split_at, length-take-le, set_split}
-use Rattle.std.proofs.lemmas.List.{get_or_default}
+use lib.ListN.{length, get_or, set, take, drop, drop_of_length-le, replicate, take-append-drop, length-take, length-drop, length-append}
+use lib.Seq.{paste, length-paste, take-add, get_or-take, take-paste, drop-paste, take_at, drop_at, take_all, take-take, take-append-le, drop-drop, split_at, length-take-le, set_split}
+use borrow.Rule.Slice.PartMut.{mid_of, put_mid}
+use Rattle.std.specs.List.{copy_within}
+use Rattle.std.proofs.lemmas.List.{get_or_default, drop-take}
 use Rattle.eos.specs.Multiset.{count, without, insert}
 use Rattle.eos.proofs.Basics.{true_is, false_is}
 use Rattle.marking.specs.Tokens.{like, before, no_token, laid, holding, tokens_in, place_for, Kept, put_in, Out, take_out}
@@ -19,6 +21,52 @@ use Rattle.marking.proofs.PlaceFor.{place-within, insert-at, without_at, count_f
 use Rattle.marking.proofs.KeptLaws.{laid-long, length-held, length-insert, length_without}
 
 -- ---- lists
+
+-- those from p up to n moved up by one, as a part of the array
+pub moved_up : (l ys : List NetToken) (p n : ℕ) → p ≤ n → n < length l → ys ≡ copy_within (mid_of p (n + 1 - p) l) 0 (n - p) 1
+    → put_mid p (n + 1 - p) l ys ≡ paste l (p + 1) (drop p l) (n - p)
+moved_up l ys p n h few e =
+    let x : List NetToken = drop p l in
+    let m : ℕ = n + 1 - p in
+    let j : ℕ = n - p in
+    let y : List NetToken = take m x in
+    let z : j - 0 ≡ j = omega arith in
+    let a : take 1 y ≡ take 1 x = take-take 1 m x (omega arith) in
+    let b : take j y ≡ take j x = take-take j m x (omega arith) in
+    let c : drop (1 + j) y ≡ [] = drop_of_length-le y (omega (arith, length-take m x)) in
+    let d : drop m x ≡ drop (p + 1 + j) l = drop-drop m p l ∙ ap (λ (i : ℕ). drop i l) {x = p + m} {y = p + 1 + j} (omega arith) in
+    let is : ys ≡ take 1 x ++ take j x = e ∙ rw (z, a, b, c) (append-nil (take 1 x ++ take j x)) in
+    ap (λ (k : List NetToken). take p l ++ (k ++ drop m x)) is
+    ∙ ap (λ (k : List NetToken). take p l ++ ((take 1 x ++ take j x) ++ k)) d
+    ∙ ap (λ (k : List NetToken). take p l ++ k) (append_assoc (take 1 x) (take j x) (drop (p + 1 + j) l))
+    ∙ sym (append_assoc (take p l) (take 1 x) (take j x ++ drop (p + 1 + j) l))
+    ∙ ap (λ (k : List NetToken). k ++ (take j x ++ drop (p + 1 + j) l)) (sym (take-add p 1 l))
+    ∙ sym (append_assoc (take (p + 1) l) (take j x) (drop (p + 1 + j) l))
+
+-- those behind p up to n moved down by one
+pub moved_down : (l ys : List NetToken) (p n : ℕ) → p < n → n ≤ length l → ys ≡ copy_within (mid_of p (n - p) l) 1 (n - p) 0
+    → put_mid p (n - p) l ys ≡ paste l p (drop (p + 1) l) (n - (p + 1))
+moved_down l ys p n h few e =
+    let x : List NetToken = drop p l in
+    let m : ℕ = n - p in
+    let j : ℕ = n - (p + 1) in
+    let y : List NetToken = take m x in
+    let z : m - 1 ≡ j = omega arith in
+    let u : m ≡ 1 + j = omega arith in
+    let v : m ≡ j + 1 = omega arith in
+    let w : 0 + j ≡ j = omega arith in
+    let a : take j (drop 1 y) ≡ take j (drop 1 x) =
+    ap (λ (i : ℕ). take j (drop 1 (take i x))) u ∙ ap (take j) (drop-take 1 j x) ∙ take-take j j (drop 1 x) (omega arith) in
+    let b : drop j y ≡ take 1 (drop j x) = ap (λ (i : ℕ). drop j (take i x)) v ∙ drop-take j 1 x in
+    let c : take 1 (drop j x) ++ drop m x ≡ drop (p + j) l =
+    ap (λ (k : List NetToken). take 1 (drop j x) ++ k) (ap (λ (i : ℕ). drop i x) v ∙ sym (drop-drop 1 j x)) ∙ take-append-drop 1 (drop j x) ∙ drop-drop j p l in
+    let d : drop 1 x ≡ drop (p + 1) l = drop-drop 1 p l in
+    let is : ys ≡ take j (drop 1 x) ++ take 1 (drop j x) = e ∙ rw (z, w, a, b) in
+    ap (λ (k : List NetToken). take p l ++ (k ++ drop m x)) is
+    ∙ ap (λ (k : List NetToken). take p l ++ k) (append_assoc (take j (drop 1 x)) (take 1 (drop j x)) (drop m x))
+    ∙ ap (λ (k : List NetToken). take p l ++ (take j (drop 1 x) ++ k)) c
+    ∙ ap (λ (k : List NetToken). take p l ++ (take j k ++ drop (p + j) l)) d
+    ∙ sym (append_assoc (take p l) (take j (drop (p + 1) l)) (drop (p + j) l))
 
 -- one put in behind x: y moves up, over z
 opened : (x y z w one : List NetToken) (at m : ℕ) → length x ≡ at → length y ≡ m → length z ≡ 1 → length one ≡ 1

@@ -1,12 +1,31 @@
 // A held marking changed in place: a net-token put in at its place, or taken out.
 #![tactic(auto)]
 
-ghost use Rattle.std.specs.Prelude.{◌≡◌, ◌<◌};
+ghost use Rattle.std.specs.Prelude.{◌≡◌, ◌-◌, ◌≤◌, ◌<◌, length};
+ghost use Rattle.std.specs.List.{copy_within};
 ghost use Rattle.model.specs.Limits.{room_limit};
 ghost use Rattle.marking.specs.Tokens.{Kept, put_in, take_out};
 
 use marking::{Marking, NetToken};
 use marking_find::place_for;
+
+// Net-tokens moved up by one, over the last of them. This and the next are functions of their own so that LLVM finds one move of memory in
+// each.
+fn move_up(tokens: &mut [NetToken])
+    requires { 1 ≤ length tokens.old }
+    ensures { tokens.new ≡ copy_within tokens.old 0 (length tokens.old - 1) 1 }
+{
+    let last = tokens.len() - 1;
+    tokens.copy_within(..last, 1);
+}
+
+// Net-tokens moved down by one, over the first of them.
+fn move_down(tokens: &mut [NetToken])
+    requires { 1 ≤ length tokens.old }
+    ensures { tokens.new ≡ copy_within tokens.old 1 (length tokens.old) 0 }
+{
+    tokens.copy_within(1.., 0);
+}
 
 // The net-token t put in at its place; those behind it move up.
 pub fn insert(k: &mut Marking, t: &NetToken)
@@ -15,7 +34,7 @@ pub fn insert(k: &mut Marking, t: &NetToken)
 {
     let n = k.len;
     let p = place_for(k.held(), t);
-    k.tokens.copy_within(p..n, p + 1);
+    move_up(&mut k.tokens[p..n + 1]);
     k.tokens[p] = *t;
     k.len = n + 1;
 }
@@ -33,7 +52,7 @@ pub fn take_out(k: &mut Marking, t: &NetToken) -> bool
     if *t != k.tokens[p] {
         return false;
     }
-    k.tokens.copy_within(p + 1..n, p);
+    move_down(&mut k.tokens[p..n]);
     k.tokens[n - 1] = NetToken::empty();
     k.len = n - 1;
     true

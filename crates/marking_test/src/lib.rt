@@ -1,13 +1,13 @@
 // How many counts the net-tokens of a held model have on each place, and the test of a held marking.
 #![tactic(auto)]
 
-ghost use Rattle.std.specs.Prelude.{◌≡◌, ℕ, ◌≤◌, ◌<◌, get_or, true};
+ghost use Rattle.std.specs.Prelude.{◌≡◌, ℕ, ◌≤◌, ◌<◌, length, get_or, true};
 ghost use Rattle.text.specs.Lines.{every};
 ghost use Rattle.model.specs.Limits.{room_limit};
 ghost use Rattle.model.specs.Held.{listed, no_net};
 ghost use Rattle.model.specs.Test.{held_model};
 ghost use Rattle.marking.specs.Tokens.{like, no_token, ascending};
-ghost use Rattle.marking.specs.Held.{as_sizes, held_token, held_marking};
+ghost use Rattle.marking.specs.Held.{as_sizes, held_token, held_tokens, held_marking};
 ghost use Rattle.marking.specs.Sizes.{size_of_type, sizes_in, place_sizes};
 
 use marking::{Marking, NetToken, PlaceSizes};
@@ -43,15 +43,24 @@ fn all_empty(room: &[NetToken]) -> bool
     room.iter().all(|t| empty == *t)
 }
 
-// Whether k is held as a marking of a model with such places is: no more net-tokens than there is room for, in canonical order, unused room
-// 0, each right.
+// Whether the first n of lent net-tokens, in room for so many, are held as those of a marking of a model with such places are: no more than
+// there is room for, in canonical order, unused room 0, each right.
+pub fn tokens_held(tokens: &[NetToken], n: usize, room: usize, z: &PlaceSizes) -> bool
+    requires { room ≤ length tokens.now }
+    ensures { result ≡ held_tokens room (as_sizes z.now) n tokens.now }
+{
+    if room < n {
+        return false;
+    }
+    let held = &tokens[..n];
+    in_order(held) && all_empty(&tokens[n..]) && all_held(held, z)
+}
+
+// The same of a held marking.
 pub fn is_held(k: &Marking, z: &PlaceSizes) -> bool
     ensures { result ≡ held_marking room_limit (as_sizes z.now) k.now }
 {
-    if Marking::ROOM < k.len {
-        return false;
-    }
-    in_order(k.held()) && all_empty(&k.tokens[k.len..]) && all_held(k.held(), z)
+    tokens_held(&k.tokens, k.len, Marking::ROOM, z)
 }
 
 // For each type, from that of black tokens on, how many counts a net-token has.
