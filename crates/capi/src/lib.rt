@@ -1,5 +1,5 @@
 // The calls of the engine as C gets them: `capi_c` exports each under its name here, as include/furzepenny.h declares it. Texts and buffers
-// are lent, held models and markings go by value; an answer's enum is its number in 01's table and what stands beside it.
+// are lent, held models and markings go by value; a refusal is its number in the table and what stands beside it.
 #![tactic(auto)]
 
 ghost use Rattle.std.specs.Prelude.{◌≡◌};
@@ -12,11 +12,8 @@ ghost use Rattle.spread.specs.Call.{spread_call};
 ghost use Rattle.listing.specs.Listing.{listing_text};
 ghost use Rattle.capi.specs.Calls.{model_read, marking_read, text_written, written_to_c, weights_checked, step_done, run_done, shared, version};
 
-use engine::{Marking, Model, WriteAnswer};
+use engine::{Marking, Model, ModelReading, WeightCheck, WriteRefusal};
 use pairs::Pair;
-use values::{bytes_of, one_or_none, used_by, ways_in};
-
-mod values;
 
 #[repr(C)]
 #[derive(Clone, Copy)]
@@ -89,13 +86,18 @@ pub fn fp_version() -> usize
 pub fn fp_read_model(text: &[u8]) -> ModelRead
     ensures { result ≡ model_read (model_reading text.now) }
 {
-    let read = engine::read_model(text);
-    let answer = read.answer;
-    let pair = Pair::from(answer);
-    let model = read.model;
-    let start = read.start;
+    match engine::read_model(text) {
+        Ok(ModelReading { model, start }) => model_read(Pair::accepted(), model, start),
+        Err(refusal) => model_read(Pair::from(refusal), Model::empty(), Marking::empty()),
+    }
+}
+
+// A model and its start, beside their pair.
+fn model_read(pair: Pair, model: Model, start: Marking) -> ModelRead
+    ensures { result ≡ record { number = pair.number; beside = pair.beside; model = model; start = start } }
+{
     ModelRead {
-        number: pair.number as usize,
+        number: usize::from(pair.number),
         beside: pair.beside,
         model,
         start,
@@ -105,12 +107,18 @@ pub fn fp_read_model(text: &[u8]) -> ModelRead
 pub fn fp_read_marking(model: Model, text: &[u8]) -> MarkingRead
     ensures { result ≡ marking_read (marking_reading model text.now) }
 {
-    let read = engine::read_marking(&model, text);
-    let answer = read.answer;
-    let pair = Pair::from(answer);
-    let marking = read.marking;
+    match engine::read_marking(&model, text) {
+        Ok(marking) => marking_read(Pair::accepted(), marking),
+        Err(refusal) => marking_read(Pair::from(refusal), Marking::empty()),
+    }
+}
+
+// A marking beside its pair.
+fn marking_read(pair: Pair, marking: Marking) -> MarkingRead
+    ensures { result ≡ record { number = pair.number; beside = pair.beside; marking = marking } }
+{
     MarkingRead {
-        number: pair.number as usize,
+        number: usize::from(pair.number),
         beside: pair.beside,
         marking,
     }
@@ -128,15 +136,15 @@ pub fn fp_test_marking(model: Model, marking: Marking) -> bool
     engine::test_marking(&model, &marking)
 }
 
-// A text written, as its answer says.
-fn text_written(answer: WriteAnswer) -> TextWritten
+// A text written, as its answer says; a refused writing wrote no byte.
+fn text_written(answer: Result<usize, WriteRefusal>) -> TextWritten
     ensures { result ≡ text_written answer }
 {
     let pair = Pair::from(answer);
     TextWritten {
-        number: pair.number as usize,
+        number: usize::from(pair.number),
         beside: pair.beside,
-        bytes: bytes_of(answer),
+        bytes: answer.unwrap_or(0),
     }
 }
 
@@ -150,29 +158,27 @@ pub fn fp_check_weights(model: Model, marking: Marking, text: &[u8]) -> Weighed
     ensures { result ≡ weights_checked (weight_checking model marking text.now) }
 {
     let check = engine::check_weights(model, marking, text);
-    let answer = check.answer;
-    let pair = Pair::from(answer);
-    let sum = check.sum;
+    let pair = Pair::from(check);
+    let WeightCheck { sum, cover } = check.unwrap_or(WeightCheck::nothing());
     Weighed {
-        number: pair.number as usize,
+        number: usize::from(pair.number),
         beside: pair.beside,
         above: sum.above,
         below: sum.below,
-        cover: one_or_none(check.cover),
+        cover: usize::from(cover),
     }
 }
 
 pub fn fp_step(model: Model, marking: Marking, text: &[u8]) -> StepDone
     ensures { result ≡ step_done (stepping model marking text.now) }
 {
-    let step = engine::step(&model, marking, text);
-    let answer = step.answer;
+    let mut after = marking;
+    let answer = engine::step(&model, &mut after, text);
     let pair = Pair::from(answer);
-    let after = step.marking;
     StepDone {
-        number: pair.number as usize,
+        number: usize::from(pair.number),
         beside: pair.beside,
-        used: used_by(answer),
+        used: answer.unwrap_or(0),
         marking: after,
     }
 }
@@ -180,12 +186,11 @@ pub fn fp_step(model: Model, marking: Marking, text: &[u8]) -> StepDone
 pub fn fp_run(model: Model, marking: Marking, text: &[u8]) -> RunDone
     ensures { result ≡ run_done (running model marking text.now) }
 {
-    let ran = engine::run(&model, marking, text);
-    let stop = ran.stop;
-    let pair = Pair::from(stop);
-    let after = ran.marking;
+    let mut after = marking;
+    let ran = engine::run(&model, &mut after, text);
+    let pair = Pair::from(ran.stop);
     RunDone {
-        number: pair.number as usize,
+        number: usize::from(pair.number),
         beside: pair.beside,
         fired: ran.fired,
         at: ran.at,
@@ -199,9 +204,9 @@ pub fn fp_ways(tokens: usize, racks: usize) -> Shared
     let answer = engine::ways(tokens, racks);
     let pair = Pair::from(answer);
     Shared {
-        number: pair.number as usize,
+        number: usize::from(pair.number),
         beside: pair.beside,
-        ways: ways_in(answer),
+        ways: answer.unwrap_or(0),
     }
 }
 

@@ -1,6 +1,6 @@
 // What is printed of the answer of each call.
 use super::line::{find, number_at};
-use engine::{Marking, Model, StepAnswer};
+use engine::{Marking, Model, WeightCheck};
 use pairs::Pair;
 use std::io;
 
@@ -9,31 +9,27 @@ fn put_pair(rt: &impl Print, pair: Pair) -> io::Result<()> {
 }
 
 pub fn model(rt: &impl Print, text: &[u8]) -> io::Result<()> {
-    let r = engine::read_model(text);
-    let answer = r.answer;
-    put_pair(rt, Pair::from(answer))
+    match engine::read_model(text) {
+        Ok(_) => put_pair(rt, Pair::accepted()),
+        Err(refusal) => put_pair(rt, Pair::from(refusal)),
+    }
 }
 
 pub fn marking(rt: &impl Print, m: Model, text: &[u8]) -> io::Result<()> {
-    let r = engine::read_marking(&m, text);
-    let answer = r.answer;
-    put_pair(rt, Pair::from(answer))
+    match engine::read_marking(&m, text) {
+        Ok(_) => put_pair(rt, Pair::accepted()),
+        Err(refusal) => put_pair(rt, Pair::from(refusal)),
+    }
 }
 
-// A step that fired says the bytes that it used.
-fn put_step(rt: &impl Print, answer: StepAnswer) -> io::Result<()> {
-    let StepAnswer::Fired { bytes } = answer else {
-        return put_pair(rt, Pair::from(answer));
-    };
-    println!(rt; "fired, bytes {bytes}")
-}
-
-// Answers the marking after the step.
+// Answers the marking after the step. A step that fired says the bytes that it used.
 pub fn step(rt: &impl Print, m: Model, k: Marking, text: &[u8]) -> io::Result<Marking> {
-    let r = engine::step(&m, k, text);
-    let answer = r.answer;
-    put_step(rt, answer)?;
-    Ok(r.marking)
+    let mut after = k;
+    match engine::step(&m, &mut after, text) {
+        Ok(bytes) => println!(rt; "fired, bytes {bytes}")?,
+        Err(refusal) => put_pair(rt, Pair::from(refusal))?,
+    }
+    Ok(after)
 }
 
 // What writing a marking answers, and the lent bytes after it.
@@ -47,16 +43,15 @@ pub fn written(rt: &impl Print, m: Model, k: Marking, out: &mut [u8]) -> io::Res
 // The marking in a buffer of as many bytes as the text says; this program has room for 256.
 pub fn write(rt: &impl Print, m: Model, k: Marking, text: &[u8]) -> io::Result<()> {
     let mut out = [46u8; 256];
-    let n = (number_at(text, 0) as usize).min(out.len());
+    let n = number_at(text, 0).min(out.len());
     written(rt, m, k, &mut out[..n])
 }
 
 pub fn run(rt: &impl Print, m: Model, k: Marking, text: &[u8]) -> io::Result<()> {
-    let r = engine::run(&m, k, text);
-    print!(rt; "fired {}, at {}, stop ", r.fired, r.at)?;
-    let stop = r.stop;
-    put_pair(rt, Pair::from(stop))?;
-    let after = r.marking;
+    let mut after = k;
+    let ran = engine::run(&m, &mut after, text);
+    print!(rt; "fired {}, at {}, stop ", ran.fired, ran.at)?;
+    put_pair(rt, Pair::from(ran.stop))?;
     let mut out = [46u8; 40];
     print!(rt; "held: ")?;
     written(rt, m, after, &mut out)
@@ -64,11 +59,10 @@ pub fn run(rt: &impl Print, m: Model, k: Marking, text: &[u8]) -> io::Result<()>
 
 // The pair, the sum, and 1 or 0 for the cover.
 pub fn weigh(rt: &impl Print, m: Model, k: Marking, text: &[u8]) -> io::Result<()> {
-    let r = engine::check_weights(m, k, text);
-    let answer = r.answer;
-    put_pair(rt, Pair::from(answer))?;
-    let sum = r.sum;
-    let cover = r.cover as usize;
+    let check = engine::check_weights(m, k, text);
+    put_pair(rt, Pair::from(check))?;
+    let WeightCheck { sum, cover } = check.unwrap_or(WeightCheck::nothing());
+    let cover = usize::from(cover);
     if sum.below > 0 {
         println!(rt; "  sum -{}, cover {cover}", sum.below)
     } else {
@@ -85,7 +79,7 @@ pub fn ways(rt: &impl Print, text: &[u8]) -> io::Result<()> {
     let comma = find(text, b',');
     let tokens = number_at(text, 0);
     let racks = number_at(&text[comma..], 1);
-    let answer = engine::ways(tokens as usize, racks as usize);
+    let answer = engine::ways(tokens, racks);
     let Ok(value) = answer else {
         return put_pair(rt, Pair::from(answer));
     };

@@ -67,7 +67,7 @@ pub fn decoded(s: &[u8], out: &mut [u8]) -> usize
     n
 }
 
-// The number at `at`, 0 where there is none.
-pub fn number_at(s: &[u8], at: usize) -> u32 {
-    number(s, at).map_or(0, |read| read.value)
+// The number at `at`, 0 where there is none. There is no From of u32 for usize, which is wider: none is lost.
+pub fn number_at(s: &[u8], at: usize) -> usize {
+    number(s, at).map_or(0, |read| read.value as usize)
 }

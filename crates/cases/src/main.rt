@@ -2,7 +2,7 @@
 // beside it. The cases are the lines of the file `cases`; those on held things that no reading gives are in `held`.
 #![tactic(auto)]
 
-use engine::{Marking, Model};
+use engine::{Marking, Model, ModelReading};
 use files::load;
 use line::{decoded, find};
 use std::rt::Files;
@@ -22,10 +22,16 @@ struct Hand {
 
 // The model of a text and its start; of a text that is refused, the empty model and no net-token.
 fn hand_of(text: &[u8]) -> Hand {
-    let r = engine::read_model(text);
-    let model = r.model;
-    let marking = r.start;
-    Hand { model, marking }
+    match engine::read_model(text) {
+        Ok(ModelReading { model, start }) => Hand {
+            model,
+            marking: start,
+        },
+        Err(_) => Hand {
+            model: Model::empty(),
+            marking: Marking::empty(),
+        },
+    }
 }
 
 fn loaded(rt: &impl Files, path: &str) -> Hand {

@@ -8,20 +8,21 @@ pub use model::{Event, Model, ObjectNet};
 
 // Reader. `model_reading`, `marking_reading`, `held_both`, `marking_writing` (reader/specs/Answers.antt), `held_model` (model/specs/Test.antt).
 pub use reader::{
-    MarkingReading, ModelReading, ReadAnswer, WriteAnswer, read_marking, read_model, test_marking,
-    test_model, write_marking,
+    ModelReading, ReadRefusal, WriteRefusal, read_marking, read_model, test_marking, test_model,
+    write_marking,
 };
 
-// A fault, in the answers of all levels.
+// A fault, in the refusals of all levels, and a step that is turned down.
+pub use step::Refusal;
 pub use text::Spot;
 
 // Runner. `stepping` (runner/specs/Answers.antt), `running` (runner_trace/specs/Running.antt).
+pub use runner::StepRefusal;
 pub use runner::stepping::step;
-pub use runner::{StepAnswer, Stepped};
-pub use runner_trace::{Ran, Stop, run};
+pub use runner_trace::{RunEnd, run};
 
 // Keeper. `weight_checking` (keeper/specs/Answers.antt).
-pub use keeper::{Sum, WeightAnswer, WeightCheck, check_weights};
+pub use keeper::{Sum, WeightCheck, WeightRefusal, check_weights};
 
 // The spread. `spread_call` (spread/specs/Call.antt).
 pub use spread::{Beyond, ways};

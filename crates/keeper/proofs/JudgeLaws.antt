@@ -25,10 +25,9 @@ use Rattle.marking.specs.declared.Marking.{Marking}
 use Rattle.reader.specs.Answers.{held_both, held_in}
 use Rattle.marking.specs.Sizes.{sizes_for}
 use Rattle.keeper.specs.Held.{hold_weights}
-use Rattle.keeper.specs.Answers.{sum_of, refused_weights, passed_weights, turned_or, judged_weights}
+use Rattle.keeper.specs.Answers.{sum_of, passed_weights, turned_or, judged_weights}
 use Rattle.weigh.specs.Sums.{marking_weight, covered, found}
 use Rattle.keeper.specs.declared.HeldWeights.{HeldWeights}
-use Rattle.keeper.specs.declared.WeightAnswer.TheVariants.{Passed, Turned}
 use Rattle.keeper.specs.declared.Sum.{Sum}
 use Rattle.keeper.specs.declared.WeightCheck.{WeightCheck}
 use Rattle.keeper.proofs.ShapeLaws.{nets-long}
@@ -36,6 +35,8 @@ use Rattle.keeper.proofs.HeldRows.{Kept}
 use Rattle.keeper.proofs.MarkingLaws.{few-tokens, tokens-held, on_places}
 use Rattle.keeper.proofs.WeighLaws.{weigh-is}
 use Rattle.keeper.proofs.CoverLaws.{covers-is}
+use Rattle.std.specs.Prelude.{Err, Ok}
+use Rattle.keeper.specs.declared.WeightRefusal.TheVariants.{Unbalanced, Weightless}
 
 -- ---- a held model and a held marking
 
@@ -62,7 +63,7 @@ module _ (m : Model) (w : Weights) (kept : Kept m w) (k : Marking) (held : held_
 
   pub passed_is : (z : ℤ) → z ≡ marking_weight h.rows m.types (tokens_in k) → (s : Sum) → s ≡ sum_of z → (most : ℕ) (cover : Bool)
       → cover ≡ covered most m.places m.nets m.objects h.rows (nat_abs z)
-      → record { answer = Passed; sum = s; cover = cover } ≡ passed_weights most w sum
+      → record { sum = s; cover = cover } ≡ passed_weights most w sum
   unfolding tokens_of
   passed_is z p s e most cover c =
       let rows-is : h.rows ≡ (hold_weights w).rows = ap (λ (x : HeldWeights). x.rows) is in
@@ -70,7 +71,7 @@ module _ (m : Model) (w : Weights) (kept : Kept m w) (k : Marking) (held : held_
       ∙ sym (weigh-is m w kept (tokens_in k) (tokens-held (sizes_for m) k held)) in
       let c-is : cover ≡ covers most count_limit w (nat_abs sum) =
       c ∙ ap₂ (covered most m.places m.nets m.objects) rows-is (ap nat_abs z-is) ∙ sym (covers-is m w kept (nat_abs sum) most) in
-      ap₂ {C = WeightCheck} (λ (x : Sum) (y : Bool). record { answer = Passed; sum = x; cover = y }) (e ∙ ap sum_of z-is) c-is
+      ap₂ {C = WeightCheck} (λ (x : Sum) (y : Bool). record { sum = x; cover = y }) (e ∙ ap sum_of z-is) c-is
 
 -- ---- the causes
 
@@ -86,7 +87,7 @@ module _ (most : ℕ) (m : Model) (w : Weights) (μ : eos.Marking) where
   unfolding model_of
   events-long = length-listed (λ i. event_of m.nets m.objects (get_or m.events i no_event)) 0 m.listed
 
-  pub turned_zero : all_zero w ≡ true → refused_weights (Turned 6 (m.nets + 2)) ≡ judged_weights most (model_of m) μ w
+  pub turned_zero : all_zero w ≡ true → Err (Weightless (m.nets + 2)) ≡ judged_weights most (model_of m) μ w
   unfolding judged_weights turned_or weight_refusal first unless
   turned_zero h =
       let e : m.nets + 2 ≡ 2 + m.nets = omega arith in
@@ -94,18 +95,18 @@ module _ (most : ℕ) (m : Model) (w : Weights) (μ : eos.Marking) where
 
   module _ (some_weight : all_zero w ≡ false) where
     pub turned-event : (r : answer.Option ℕ) → r ≡ found first-unbalanced → (k : ℕ) → r ≡ answer.Some k
-        → refused_weights (Turned 7 (k + 1)) ≡ judged_weights most (model_of m) μ w
+        → Err (Unbalanced (k + 1)) ≡ judged_weights most (model_of m) μ w
     unfolding judged_weights turned_or weight_refusal first unless at
     turned-event r e k d = rw (some_weight, events-long) (go first-unbalanced (sym d ∙ e))
       where
-        go : (o : Option ℕ) → answer.Some k ≡ found o → refused_weights (Turned 7 (k + 1)) ≡ turned_or last (first (at unbalanced o ∷ [])) (passed_weights most w (weigh (model_of m) w μ))
+        go : (o : Option ℕ) → answer.Some k ≡ found o → Err (Unbalanced (k + 1)) ≡ turned_or last (first (at unbalanced o ∷ [])) (passed_weights most w (weigh (model_of m) w μ))
         go none p = let z : ◌≡◌ {A = ℕ} 0 1 = cc in absurd (omega arith)
         go (some i) p = let q : k ≡ i = cc in rw (q, add-one i)
 
-    pub none_turned : (r : answer.Option ℕ) → r ≡ found first-unbalanced → r ≡ answer.None → passed_weights most w (weigh (model_of m) w μ) ≡ judged_weights most (model_of m) μ w
+    pub none_turned : (r : answer.Option ℕ) → r ≡ found first-unbalanced → r ≡ answer.None → Ok (passed_weights most w (weigh (model_of m) w μ)) ≡ judged_weights most (model_of m) μ w
     unfolding judged_weights turned_or weight_refusal first unless at
     none_turned r e d = rw (some_weight, events-long) (go first-unbalanced (sym d ∙ e))
       where
-        go : (o : Option ℕ) → answer.None ≡ found o → passed_weights most w (weigh (model_of m) w μ) ≡ turned_or last (first (at unbalanced o ∷ [])) (passed_weights most w (weigh (model_of m) w μ))
+        go : (o : Option ℕ) → answer.None ≡ found o → Ok (passed_weights most w (weigh (model_of m) w μ)) ≡ turned_or last (first (at unbalanced o ∷ [])) (passed_weights most w (weigh (model_of m) w μ))
         go none p = refl
         go (some i) p = let z : ◌≡◌ {A = ℕ} 0 1 = cc in absurd (omega arith)

@@ -35,7 +35,7 @@ use Rattle.reader.specs.Reading.{bounds}
 use Rattle.reader.specs.Answers.{held_both, held_in}
 use Rattle.reader.proofs.GivenLaws.{Given, given-model, given_marking}
 use Rattle.keeper.specs.Reading.{read_weight_file, right_inner, right_weights}
-use Rattle.keeper.specs.Answers.{sum_of, passed_weights, turned_or, judged_weights, weighed, weights_or, weight_checking}
+use Rattle.keeper.specs.Answers.{sum_of, passed_weights, turned_or, judged_weights, weighed, weights_or, weight_checking, check_given}
 use Rattle.keeper.specs.declared.Sum.{Sum}
 use Rattle.keeper.proofs.SplitLaws.{dot_n, dots_n, dot_n_none, value_split, sub_above, sub_below, weight_of, weight_by, weight_none, weight_more}
 use Rattle.keeper.proofs.HeldRows.{Kept, inner-long, net-long, net-small}
@@ -203,25 +203,25 @@ module _ (m : Model) (k : Marking) (sized : SizedModel m) (small : SizedMarking 
 
   -- ---- the weight check
 
-  turned-within : (most last : ℕ) (o : Option WeightCause) (w : Weights) (z : ℤ) → Within (sum_of z) → Within (turned_or last o (passed_weights most w z)).sum
+  turned-within : (most last : ℕ) (o : Option WeightCause) (w : Weights) (z : ℤ) → Within (sum_of z) → Within (check_given (turned_or last o (passed_weights most w z))).sum
   unfolding turned_or
   turned-within most last none w z h = h
   turned-within most last (some why) w z h = (omega arith, omega arith)
 
-  file_within : held_both m k ≡ true → (s : Text) (o : Outcome Weights) → read_weight_file (model_of m) s ≡ o → Within (weighed cover_limit (model_of m) μ s o).sum
+  file_within : held_both m k ≡ true → (s : Text) (o : Outcome Weights) → read_weight_file (model_of m) s ≡ o → Within (check_given (weighed cover_limit (model_of m) μ s o)).sum
   unfolding weighed judged_weights
   file_within held s (got w x) e =
       turned-within cover_limit (2 + length (model_of m).nets) (weight_refusal (model_of m) w) w (weigh (model_of m) w μ)
       (weigh-within held w (weights_are_right (model_of m) s 0 w x e))
   file_within held s (bad d) e = (omega arith, omega arith)
 
-  tested_within : (b : Bool) → held_both m k ≡ b → (s : Text) → Within (weights_or b m k s).sum
+  tested_within : (b : Bool) → held_both m k ≡ b → (s : Text) → Within (check_given (weights_or b m k s)).sum
   unfolding weights_or
   tested_within true h s = file_within h s (read_weight_file (model_of m) s) refl
   tested_within false h s = (omega arith, omega arith)
 
   -- whatever the check answers
-  pub sum-within : (s : Text) → Within (weight_checking m k s).sum
+  pub sum-within : (s : Text) → Within (check_given (weight_checking m k s)).sum
   unfolding weight_checking
   sum-within s =
       by_test (leb (length s) longest)
@@ -229,5 +229,5 @@ module _ (m : Model) (k : Marking) (sized : SizedModel m) (small : SizedMarking 
       (λ t. rw (t, weight_checking) (omega arith, omega arith))
 
 -- of a model and a marking that some accepted reading gives
-pub given_sum_within : (m : Model) (k : Marking) → Given m k → (s : Text) → Within (weight_checking m k s).sum
+pub given_sum_within : (m : Model) (k : Marking) → Given m k → (s : Text) → Within (check_given (weight_checking m k s)).sum
 given_sum_within m k g s = sum-within m k (given-model m k g) (given_marking m k g) s

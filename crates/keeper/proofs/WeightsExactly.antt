@@ -12,11 +12,10 @@ use lib.IntN.{ℤ, pos, nat_abs}
 use lib.ListN.{length, get_or}
 use borrow.Author.Tests.{leb-true, le-leb, ltb-true, lt-ltb}
 use Rattle.text.specs.Bytes.{Text}
-use Rattle.text.proofs.Basics.{by_test, and_true}
+use Rattle.text.proofs.Basics.{and_true}
 use Rattle.text.specs.Lines.{Outcome, got, bad}
 use Rattle.keeper.specs.Split.{above}
 use Rattle.text.proofs.TestLaws.{and_both, every-at, every_of}
-use Rattle.eos.specs.Model as eos
 use Rattle.eos.specs.Multiset.{every}
 use Rattle.eos.specs.Weights.{Weights, weigh, WeightCause, weight_refusal, Passing, positive, least, covers}
 use Rattle.eos.proofs.CauseLaws.{no_cause_passes, passes_no_cause}
@@ -28,12 +27,13 @@ use Rattle.marking.specs.declared.Marking.{Marking}
 use Rattle.reader.specs.Answers.{held_both}
 use Rattle.marking.specs.Sizes.{sizes_for}
 use Rattle.keeper.specs.Reading.{read_weight_file}
-use Rattle.keeper.specs.Answers.{sum_of, refused_weights, passed_weights, turned_or, judged_weights, weighed, weights_or, weight_checking}
+use Rattle.keeper.specs.Answers.{sum_of, passed_weights, turned_or, judged_weights, weight_checking, check_given}
 use Rattle.keeper.specs.Covering.{Covering}
-use Rattle.keeper.specs.declared.WeightAnswer.TheVariants.{Passed, TooLong}
 use Rattle.keeper.specs.declared.WeightCheck.{WeightCheck}
 use Rattle.keeper.proofs.CoverLaws.{positive-above}
 use Rattle.keeper.proofs.CheckLaws.{check_got, check_bad}
+use Rattle.std.specs.Prelude.{Ok, Result, Err}
+use Rattle.keeper.specs.declared.WeightRefusal.{WeightRefusal}
 
 -- ---- cover, part by part
 
@@ -79,38 +79,23 @@ covers_parts most w sum =
 abbrev pub Nothing : WeightCheck → Type 0
 Nothing c = (c.sum ≡ record { above = 0; below = 0 }) × (c.cover ≡ false)
 
-judged-nothing : (most last : ℕ) (o : Option WeightCause) (w : Weights) (z : ℤ) → ((turned_or last o (passed_weights most w z)).answer ≡ Passed → ⊥)
-    → Nothing (turned_or last o (passed_weights most w z))
-unfolding turned_or
-judged-nothing most last none w z h = absurd (h refl)
-judged-nothing most last (some why) w z h = (refl, refl)
-
-weighed-nothing : (most : ℕ) (m : eos.Model) (μ : eos.Marking) (s : Text) (o : Outcome Weights) → ((weighed most m μ s o).answer ≡ Passed → ⊥) → Nothing (weighed most m μ s o)
-unfolding weighed judged_weights
-weighed-nothing most m μ s (got w x) h = judged-nothing most (2 + length m.nets) (weight_refusal m w) w (weigh m w μ) h
-weighed-nothing most m μ s (bad e) h = (refl, refl)
-
-held-nothing : (t : Bool) (m : Model) (k : Marking) (s : Text) → ((weights_or t m k s).answer ≡ Passed → ⊥) → Nothing (weights_or t m k s)
-unfolding weights_or
-held-nothing true m k s h = weighed-nothing cover_limit (model_of m) (tokens_of (sizes_for m) k) s (read_weight_file (model_of m) s) h
-held-nothing false m k s h = (refl, refl)
-
--- an answer other than `Passed` has sum 0 and cover 0, whatever is lent
-pub refused-nothing : (m : Model) (k : Marking) (s : Text) → ((weight_checking m k s).answer ≡ Passed → ⊥) → Nothing (weight_checking m k s)
-unfolding weight_checking
-refused-nothing m k s h =
-    by_test (leb (length s) longest)
-    (λ t.
-    let e : weight_checking m k s ≡ weights_or (held_both m k) m k s = rw (t, weight_checking) in
-    rw e (held-nothing (held_both m k) m k s (λ p. h (ap (λ (c : WeightCheck). c.answer) e ∙ p))))
-    (λ t. let e : weight_checking m k s ≡ refused_weights TooLong = rw (t, weight_checking) in rw e (refl, refl))
+-- weights that do not pass have sum 0 and cover 0, whatever is lent
+pub refused-nothing : (m : Model) (k : Marking) (s : Text) → ((c : WeightCheck) → weight_checking m k s ≡ Ok c → ⊥) → Nothing (check_given (weight_checking m k s))
+refused-nothing m k s n = go (weight_checking m k s) n
+  where
+    go : (o : Result WeightCheck WeightRefusal) → ((c : WeightCheck) → o ≡ Ok c → ⊥) → Nothing (check_given o)
+    go (Ok c) n = absurd (n c refl)
+    go (Err e) n = (refl, refl)
 
 -- ---- weights that pass
 
-turned-passed : (most last : ℕ) (o : Option WeightCause) (w : Weights) (z : ℤ) → (turned_or last o (passed_weights most w z)).answer ≡ Passed → o ≡ none
+pub refused≢passed : {G : Type 0} {e : WeightRefusal} {c : WeightCheck} → ◌≡◌ {A = Result WeightCheck WeightRefusal} (Err e) (Ok c) → G
+refused≢passed h = let z : ◌≡◌ {A = ℕ} 0 1 = cc in absurd (omega arith)
+
+turned-passed : (last : ℕ) (o : Option WeightCause) (c d : WeightCheck) → turned_or last o c ≡ Ok d → o ≡ none
 unfolding turned_or
-turned-passed most last none w z h = refl
-turned-passed most last (some why) w z h = let y : ◌≡◌ {A = ℕ} 0 1 = cc in absurd (omega arith)
+turned-passed last none c d h = refl
+turned-passed last (some why) c d h = refused≢passed h
 
 module _ (m : Model) (k : Marking) (s : Text) (held : held_both m k ≡ true) (few : length s ≤ longest) where
   abbrev file : Outcome Weights
@@ -120,35 +105,34 @@ module _ (m : Model) (k : Marking) (s : Text) (held : held_both m k ≡ true) (f
   sum w = weigh (model_of m) w (tokens_of (sizes_for m) k)
 
   -- weights that pass are answered with their sum and cover
-  passes : (w : Weights) (x : ℕ) → file ≡ got w x → Passing (model_of m) w → weight_checking m k s ≡ passed_weights cover_limit w (sum w)
+  passes : (w : Weights) (x : ℕ) → file ≡ got w x → Passing (model_of m) w → weight_checking m k s ≡ Ok (passed_weights cover_limit w (sum w))
   unfolding judged_weights turned_or
   passes w x e p = check_got m k s few held w x e ∙ rw (passes_no_cause (model_of m) w p)
 
   abbrev Found : Type 0
   Found = (w : Weights) × (x : ℕ) × (file ≡ got w x) × Passing (model_of m) w
 
-  found : (o : Outcome Weights) → file ≡ o → (weight_checking m k s).answer ≡ Passed → Found
+  found : (o : Outcome Weights) → file ≡ o → (c : WeightCheck) × (weight_checking m k s ≡ Ok c) → Found
   unfolding judged_weights
-  found (got w x) e h =
-      let c = ap (λ (c : WeightCheck). c.answer) (check_got m k s few held w x e) in
-      (w, x, e, no_cause_passes (model_of m) w (turned-passed cover_limit (2 + length (model_of m).nets) (weight_refusal (model_of m) w) w (sum w) (sym c ∙ h)))
-  found (bad d) e h =
-      let c : (weight_checking m k s).answer ≡ _ = ap (λ (c : WeightCheck). c.answer) (check_bad m k s few held d e) in
-      let y : ◌≡◌ {A = ℕ} 0 1 = cc in
-      absurd (omega arith)
+  found (got w x) e (c, h) =
+      (w, x, e, no_cause_passes (model_of m) w (turned-passed (2 + length (model_of m).nets) (weight_refusal (model_of m) w) _ c (sym (check_got m k s few held w x e) ∙ h)))
+  found (bad d) e (c, h) = refused≢passed (sym (check_bad m k s few held d e) ∙ h)
 
   -- the check passes exactly where the file says weights that pass
-  pub weights_exactly : ((weight_checking m k s).answer ≡ Passed) ↔ Found
-  weights_exactly = (found file refl, λ (w, x, e, p). ap (λ (c : WeightCheck). c.answer) (passes w x e p))
+  pub weights_exactly : ((c : WeightCheck) × (weight_checking m k s ≡ Ok c)) ↔ Found
+  weights_exactly = (found file refl, λ (w, x, e, p). (passed_weights cover_limit w (sum w), passes w x e p))
 
   module _ (w : Weights) (x : ℕ) (e : file ≡ got w x) (p : Passing (model_of m) w) where
-    -- then the sum is the marking's weighted sum
-    pub sum_exactly : (weight_checking m k s).sum ≡ sum_of (sum w)
-    sum_exactly = ap (λ (c : WeightCheck). c.sum) (passes w x e p)
+    given_is : check_given (weight_checking m k s) ≡ passed_weights cover_limit w (sum w)
+    given_is = ap check_given (passes w x e p)
 
-    cover_is : (weight_checking m k s).cover ≡ covers cover_limit count_limit w (nat_abs (sum w))
-    cover_is = ap (λ (c : WeightCheck). c.cover) (passes w x e p)
+    -- then the sum is the marking's weighted sum
+    pub sum_exactly : (check_given (weight_checking m k s)).sum ≡ sum_of (sum w)
+    sum_exactly = ap (λ (c : WeightCheck). c.sum) given_is
+
+    cover_is : (check_given (weight_checking m k s)).cover ≡ covers cover_limit count_limit w (nat_abs (sum w))
+    cover_is = ap (λ (c : WeightCheck). c.cover) given_is
 
     -- and cover says exactly whether the weights cover
-    pub cover_exactly : ((weight_checking m k s).cover ≡ true) ↔ Covering cover_limit w (nat_abs (sum w))
+    pub cover_exactly : ((check_given (weight_checking m k s)).cover ≡ true) ↔ Covering cover_limit w (nat_abs (sum w))
     cover_exactly = (λ h. (covers_parts cover_limit w (nat_abs (sum w))).0 (sym cover_is ∙ h), λ c. cover_is ∙ (covers_parts cover_limit w (nat_abs (sum w))).1 c)

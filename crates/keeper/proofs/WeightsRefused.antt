@@ -21,7 +21,7 @@ use Rattle.text.proofs.ManyExactly.{many_at_exactly}
 use Rattle.text.proofs.Refusals.{Refuses, ThenFaults, ManyFaults, then_refuses, many_at_refuses}
 use Rattle.text.proofs.LinesRefused.{WeightsFaults, HeadThen, weights_refuses, head_then}
 use Rattle.eos.specs.Model as eos
-use Rattle.eos.specs.Weights.{Weights, weigh, WeightCause, weight_refusal}
+use Rattle.eos.specs.Weights.{Weights, weigh, WeightCause, weight_refusal, unbalanced, weightless}
 use Rattle.model.specs.Limits.{longest, cover_limit}
 use Rattle.model.specs.Held.{model_of}
 use Rattle.model.specs.declared.Model.{Model}
@@ -32,8 +32,12 @@ use Rattle.reader.specs.Answers.{held_both}
 use Rattle.reader.proofs.TextRefused.{EndFaults, end_refuses}
 use Rattle.keeper.specs.Reading.{read_inner, read_weights_at, right_inner}
 use Rattle.keeper.specs.Answers.{passed_weights, turned_or, judged_weights, weighed, weights_or, weight_checking}
-use Rattle.keeper.specs.declared.WeightAnswer.TheVariants.{TooLong, NotHeld, Faulty}
 use Rattle.keeper.proofs.WeightsReadBack.{inner_exactly}
+use Rattle.std.specs.Prelude.{Err, Result}
+use Rattle.keeper.specs.declared.WeightCheck.{WeightCheck}
+use Rattle.keeper.specs.declared.WeightRefusal.{WeightRefusal}
+use Rattle.keeper.specs.declared.WeightRefusal.TheVariants.{Unread}
+use Rattle.reader.specs.declared.ReadRefusal.TheVariants.{Faulty, NotHeld, TooLong}
 
 module _ (m : eos.Model) (s : Text) where
   -- of the weights of net n
@@ -65,22 +69,24 @@ module _ (m : eos.Model) (s : Text) where
 
 -- ---- at the call
 
-long≢faulty : {p : Spot} → TooLong ≡ Faulty p → ⊥
-long≢faulty e = let z : ◌≡◌ {A = ℕ} 0 1 = cc in omega arith
-
-unheld≢faulty : {p : Spot} → NotHeld ≡ Faulty p → ⊥
-unheld≢faulty e = let z : ◌≡◌ {A = ℕ} 0 1 = cc in omega arith
-
-faulty-is : {p q : Spot} → Faulty q ≡ Faulty p → p ≡ q
+faulty-is : {p q : Spot} → ◌≡◌ {A = Result WeightCheck WeightRefusal} (Err (Unread (Faulty q))) (Err (Unread (Faulty p))) → p ≡ q
 faulty-is e = cc
 
+-- an answer that names no fault
+long≢faulty : {G : Type 0} {p : Spot} → ◌≡◌ {A = Result WeightCheck WeightRefusal} (Err (Unread TooLong)) (Err (Unread (Faulty p))) → G
+long≢faulty e = let z : ◌≡◌ {A = ℕ} 0 1 = cc in absurd (omega arith)
+
+unheld≢faulty : {G : Type 0} {p : Spot} → ◌≡◌ {A = Result WeightCheck WeightRefusal} (Err (Unread NotHeld)) (Err (Unread (Faulty p))) → G
+unheld≢faulty e = let z : ◌≡◌ {A = ℕ} 0 1 = cc in absurd (omega arith)
+
 -- weights that are judged have no faulty line
-judged_names : (last : ℕ) (c : Option WeightCause) (most : ℕ) (w : Weights) (z : ℤ) (p : Spot) → (turned_or last c (passed_weights most w z)).answer ≡ Faulty p → ⊥
+judged_names : (last : ℕ) (c : Option WeightCause) (most : ℕ) (w : Weights) (z : ℤ) (p : Spot) → turned_or last c (passed_weights most w z) ≡ Err (Unread (Faulty p)) → ⊥
 unfolding turned_or
 judged_names last none most w z p h = let u : ◌≡◌ {A = ℕ} 0 1 = cc in omega arith
-judged_names last (some c) most w z p h = let u : ◌≡◌ {A = ℕ} 0 1 = cc in omega arith
+judged_names last (some weightless) most w z p h = let u : ◌≡◌ {A = ℕ} 0 1 = cc in omega arith
+judged_names last (some (unbalanced k)) most w z p h = let u : ◌≡◌ {A = ℕ} 0 1 = cc in omega arith
 
-weighed_names : (most : ℕ) (m : eos.Model) (μ : eos.Marking) (s : Text) (o : Outcome Weights) (p : Spot) → (weighed most m μ s o).answer ≡ Faulty p
+weighed_names : (most : ℕ) (m : eos.Model) (μ : eos.Marking) (s : Text) (o : Outcome Weights) (p : Spot) → weighed most m μ s o ≡ Err (Unread (Faulty p))
     → (e : Fault) × (o ≡ bad e) × (p ≡ spot_of s e)
 unfolding weighed judged_weights
 weighed_names most m μ s (got w x) p h = absurd (judged_names (2 + length m.nets) (weight_refusal m w) most w (weigh m w μ) p h)
@@ -89,7 +95,7 @@ weighed_names most m μ s (bad e) p h = (e, refl, faulty-is h)
 -- a weight check answers a fault, by its cause and its line, exactly where model and marking are held and the text is not too long and has
 -- that fault
 pub weights_answers : (m : Model) (k : Marking) (s : Text) (p : Spot)
-    → ((weight_checking m k s).answer ≡ Faulty p)
+    → (weight_checking m k s ≡ Err (Unread (Faulty p)))
     ↔ ((length s ≤ longest) × (held_both m k ≡ true) × ((e : Fault) × WeightFileFaults (model_of m) s 0 e × (p ≡ spot_of s e)))
 unfolding weight_checking weights_or weighed
 weights_answers m k s p = (
@@ -100,8 +106,8 @@ weights_answers m k s p = (
       (λ t.
       let n = weighed_names cover_limit (model_of m) (tokens_of (sizes_for m) k) s (read_weights_at (model_of m) s 0) p (rw (l, weight_checking, t, weights_or) at h) in
       (leb-true (length s) longest l, t, (n.0, (weight_file_refuses (model_of m) s).back 0 n.0 n.1, n.2)))
-      (λ t. absurd (unheld≢faulty (rw (l, weight_checking, t, weights_or) at h))))
-      (λ l. absurd (long≢faulty (rw (l, weight_checking) at h))),
+      (λ t. unheld≢faulty (rw (l, weight_checking, t, weights_or) at h)))
+      (λ l. long≢faulty (rw (l, weight_checking) at h)),
   λ h.
       let e = h.2 in
       rw (le-leb (length s) longest h.0, weight_checking, h.1, weights_or, (weight_file_refuses (model_of m) s).forth 0 e.0 e.1, e.2),

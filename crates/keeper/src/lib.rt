@@ -8,15 +8,14 @@ ghost use Rattle.model.specs.Held.{model_of};
 ghost use Rattle.marking.specs.Held.{tokens_of};
 ghost use Rattle.reader.specs.Answers.{held_both};
 ghost use Rattle.marking.specs.Sizes.{sizes_for};
-ghost use Rattle.keeper.specs.Answers.{sum_of, refused_weights, faulty, judged_weights, weight_checking};
+ghost use Rattle.keeper.specs.Answers.{sum_of, nothing, judged_weights, weight_checking};
+ghost use Rattle.keeper.specs.declared.WeightRefusal.TheVariants.{Unread};
 ghost use Rattle.keeper.specs.Parts.{Holds};
 
 use effects::unbalanced;
 use marking::Marking;
 use model::Model;
-use reader::test_marking;
-use text::{Fault, Spot};
-use text_scan::spot_of;
+use reader::{ReadRefusal, admitted, faulty};
 use weigh_cover::covers;
 use weigh_marking::marking_weight;
 use weightfile::weight_lines;
@@ -30,14 +29,21 @@ pub struct HeldWeights {
     pub rows: [[i16; 32]; 9],
 }
 
-// How the check of a weight file ended.
+// Why weights do not pass: their file is not read, or they are turned down, since all of them are 0 (beside it the last line) or since an event
+// does not balance (beside it that event, from 1).
 #[derive(Clone, Copy)]
-pub enum WeightAnswer {
-    Passed,
-    TooLong,
-    NotHeld,
-    Faulty { spot: Spot },
-    Turned { cause: u8, beside: usize },
+pub enum WeightRefusal {
+    Unread(ReadRefusal),
+    Weightless { line: usize },
+    Unbalanced { event: usize },
+}
+
+impl From<ReadRefusal> for WeightRefusal {
+    ghost from_gives = { λ refusal answer. answer ≡ Unread refusal };
+
+    fn from(refusal: ReadRefusal) -> WeightRefusal {
+        WeightRefusal::Unread(refusal)
+    }
 }
 
 // The part of a sum above 0 and its part below 0, of which one is 0.
@@ -59,31 +65,22 @@ impl From<i64> for Sum {
     }
 }
 
-// The answer; for weights that pass, the marking's weighted sum and whether the weights cover.
+// Of weights that pass: the marking's weighted sum, and whether the weights cover.
 #[derive(Clone, Copy)]
 pub struct WeightCheck {
-    pub answer: WeightAnswer,
     pub sum: Sum,
     pub cover: bool,
 }
 
-// Refused weights: sum 0, cover 0.
-pub fn weights_refused(answer: WeightAnswer) -> WeightCheck
-    ensures { result ≡ refused_weights answer }
-{
-    WeightCheck {
-        answer,
-        sum: Sum { above: 0, below: 0 },
-        cover: false,
-    }
-}
-
-// The answer for a fault, which is named by its line.
-fn fault_answer(s: &[u8], fault: Fault) -> WeightAnswer
-    ensures { result ≡ faulty s.now fault }
-{
-    WeightAnswer::Faulty {
-        spot: spot_of(s, fault),
+impl WeightCheck {
+    // Of refused weights: sum 0, cover 0.
+    pub fn nothing() -> WeightCheck
+        ensures { result ≡ nothing }
+    {
+        WeightCheck {
+            sum: Sum { above: 0, below: 0 },
+            cover: false,
+        }
     }
 }
 
@@ -109,45 +106,32 @@ fn weight_zero(weight: i16) -> bool
 
 // The check of the weights of a file: 6, 7, or they pass, and then the marking's weighted sum, and whether the weights cover for `most`
 // net-tokens.
-fn judged(most: u64, m: &Model, k: &Marking, held: &HeldWeights) -> WeightCheck
+fn judged(most: u64, m: &Model, k: &Marking, held: &HeldWeights) -> Result<WeightCheck, WeightRefusal>
     requires both { held_both m.now k.now ≡ true }
     requires room { (length m.now.objects ≡ 8) × (length m.now.events ≡ 64) }
     ensures { (w : Weights) → Holds m.now w held.now → result ≡ judged_weights most (model_of m.now) (tokens_of (sizes_for m.now) k.now) w }
 {
-    let last = m.nets + 2;
     if all_zero(held) {
-        return weights_refused(WeightAnswer::Turned {
-            cause: 6,
-            beside: last,
-        });
+        return Err(WeightRefusal::Weightless { line: m.nets + 2 });
     }
     if let Some(event) = unbalanced(m, held) {
-        return weights_refused(WeightAnswer::Turned {
-            cause: 7,
-            beside: event + 1,
-        });
+        return Err(WeightRefusal::Unbalanced { event: event + 1 });
     }
     let sum = marking_weight(&held.rows, &m.types, k.held());
     let cover = covers(most, m, &held.rows, sum.unsigned_abs());
-    WeightCheck {
-        answer: WeightAnswer::Passed,
+    Ok(WeightCheck {
         sum: Sum::from(sum),
         cover,
-    }
+    })
 }
 
 // Reads the weight file of a held model, judges the weights, and weighs a held marking.
-pub fn check_weights(m: Model, k: Marking, s: &[u8]) -> WeightCheck
+pub fn check_weights(m: Model, k: Marking, s: &[u8]) -> Result<WeightCheck, WeightRefusal>
     ensures { result ≡ weight_checking m k s.now }
 {
-    if Model::LONGEST < s.len() {
-        return weights_refused(WeightAnswer::TooLong);
-    }
-    if !test_marking(&m, &k) {
-        return weights_refused(WeightAnswer::NotHeld);
-    }
+    admitted(&m, &k, s)?;
     match weight_lines(&m, s) {
-        Ok(weights) => judged(Model::COVER as u64, &m, &k, &weights),
-        Err(fault) => weights_refused(fault_answer(s, fault)),
+        Ok(weights) => judged(u64::from(Model::COVER), &m, &k, &weights),
+        Err(fault) => Err(WeightRefusal::Unread(faulty(s, fault))),
     }
 }

@@ -30,10 +30,9 @@ use Rattle.step.proofs.StepFaults.{step_faults}
 use Rattle.text.proofs.FaultLaws.{Faults, head_faults}
 use Rattle.step.specs.Reading.{read_step}
 use Rattle.step.specs.Verdict.{has_room, cause_pair}
-use Rattle.runner.specs.Answers.{Tried, fires, stops, step_judged, read_then, tried}
+use Rattle.runner.specs.Answers.{Tried, fires, stops, step_judged, read_then, tried, unfired_pair, step_pair}
 use Rattle.runner.proofs.RuledLaws.{read_right}
-use Rattle.runner_trace.specs.Running.{stop_pair, stopped_by, onward, run_from, headed, run_where_held, running}
-use Rattle.runner_trace.specs.declared.Ran.{Ran}
+use Rattle.runner_trace.specs.Running.{onward, run_from, headed, run_where_held, running, Ran}
 use Rattle.keeper.specs.Reading.{read_weight_file}
 use Rattle.keeper.specs.Answers.{weight_pair, weight_cause_pair, passed_weights, turned_or, judged_weights, weighed, weights_or, weight_checking}
 use Rattle.listing.specs.Listing.{file_longest, model_file, weights_file, trace_file}
@@ -62,12 +61,12 @@ spot_small s few e h = (omega arith, omega (arith, newlines-few (take e.at s), l
 abbrev Digit : ℕ → Type 0
 Digit why = why < 10
 
-loaded-small : (s : Text) → length s ≤ file_longest → (o : Outcome Loaded) → Faults Digit o → Small (read_pair (loaded s o).answer)
+loaded-small : (s : Text) → length s ≤ file_longest → (o : Outcome Loaded) → Faults Digit o → Small (read_pair (loaded s o))
 unfolding loaded
 loaded-small s few (got l x) d = (omega arith, omega arith)
 loaded-small s few (bad e) d = spot_small s few e d
 
-pub model-small : (s : Text) → Small (read_pair (model_file s).answer)
+pub model-small : (s : Text) → Small (read_pair (model_file s))
 unfolding model_file model_reading
 model-small s =
     by_test (leb (length s) file_longest)
@@ -148,25 +147,25 @@ module _ (m : eos.Model) (nets : length m.nets ≤ 8) (events : length m.events 
       )
 
   turned-small : (w : Weights) (z : _) (o : Option WeightCause) → Holds (λ c. Small (weight_cause_pair last_line c)) o
-      → Small (weight_pair (turned_or last_line o (passed_weights cover_limit w z)).answer)
+      → Small (weight_pair (turned_or last_line o (passed_weights cover_limit w z)))
   unfolding turned_or
   turned-small w z none h = (omega arith, omega arith)
   turned-small w z (some c) h = h
 
-  weighed-small : (μ : eos.Marking) (s : Text) → length s ≤ file_longest → (o : Outcome Weights) → Faults Digit o → Small (weight_pair (weighed cover_limit m μ s o).answer)
+  weighed-small : (μ : eos.Marking) (s : Text) → length s ≤ file_longest → (o : Outcome Weights) → Faults Digit o → Small (weight_pair (weighed cover_limit m μ s o))
   unfolding weighed judged_weights
   weighed-small μ s few (got w x) d = turned-small w (weigh m w μ) (weight_refusal m w) (cause_small w)
   weighed-small μ s few (bad e) d = spot_small s few e d
 
 module _ (m : Model) (nets : length (model_of m).nets ≤ 8) where
   module _ (events : length (model_of m).events ≤ 64) (k : Marking) where
-    tested_small : (b : Bool) (s : Text) → length s ≤ file_longest → Small (weight_pair (weights_or b m k s).answer)
+    tested_small : (b : Bool) (s : Text) → length s ≤ file_longest → Small (weight_pair (weights_or b m k s))
     unfolding weights_or
     tested_small true s few =
         weighed-small (model_of m) nets events (tokens_of (sizes_for m) k) s few (read_weight_file (model_of m) s) (weight_file_faults Digit (lit< tt) s (lit< tt) (model_of m))
     tested_small false s few = (omega arith, omega arith)
 
-    pub weights-small : (s : Text) → Small (weight_pair (weights_file m k s).answer)
+    pub weights-small : (s : Text) → Small (weight_pair (weights_file m k s))
     unfolding weights_file weight_checking
     weights-small s =
         by_test (leb (length s) file_longest)
@@ -207,7 +206,7 @@ module _ (m : Model) (nets : length (model_of m).nets ≤ 8) where
   -- what stops a run
   abbrev Stops : Tried → Type 0
   Stops (fires n μ) = Unit {0}
-  Stops (stops a) = Small (stop_pair (stopped_by a))
+  Stops (stops a) = Small (unfired_pair a)
 
   judged-small : (t : Step) (μ : eos.Marking) (next : ℕ) (o : Option Cause) → Holds (λ c. Small (cause_pair (length t.taken) c)) o → Stops (step_judged μ t next o)
   unfolding step_judged
@@ -226,7 +225,7 @@ module _ (m : Model) (nets : length (model_of m).nets ≤ 8) where
   tried-small z μ s few = read_small z μ s few (read_step bounds z (length d.events) s 0) refl (step_faults Digit (lit< tt) (lit< tt) bounds z (length d.events) s 0)
 
   abbrev Ends : ℕ → Ran → Type 0
-  Ends most r = Small (stop_pair r.stop) × (r.fired ≤ most)
+  Ends most r = Small (step_pair r.stop) × (r.fired ≤ most)
 
   onward-small : (most : ℕ) (rest : ℕ → eos.Marking → Ran) (n p : ℕ) (k : Marking) (s : Text) (t : Tried) → n ≤ most → Stops t
       → ((used : ℕ) (μ : eos.Marking) → Ends most (rest used μ)) → Ends most (onward rest n p k s t)

@@ -1,7 +1,7 @@
 -- A listing has at most 65,536 bytes, whatever the three files are; so a buffer of that size, as the program `rackrun` has, is never too
 -- small for it.
 use Prim.Native.Nat.{ℕ, ◌+◌, ◌-◌, ◌≤◌}
-use mathlib.Core.Path.{◌≡◌, ap, sym}
+use mathlib.Core.Path.{refl, ◌≡◌, ap, sym}
 use mathlib.Core.Bool.{Bool, true, false}
 use mathlib.Core.List.{List, ◌++◌}
 use native.Mathlib.Omega.{arith}
@@ -25,30 +25,33 @@ use Rattle.marking.specs.Sizes.{sizes_for}
 use Rattle.marking.specs.declared.Marking.{Marking}
 use Rattle.marking.proofs.SizeLaws.{held_roomy}
 use Rattle.marking.proofs.WriteLaws.{held-length}
-use Rattle.reader.specs.Answers.{read_pair, lay_whole, held_in}
-use Rattle.reader.specs.declared.WriteAnswer.TheVariants.{Written}
+use Rattle.reader.specs.Answers.{read_pair, lay_whole, held_in, pair, unread_pair}
 use Rattle.reader.proofs.WriteAnswers.{whole-fits}
 use Rattle.reader.proofs.GivenLaws.{Given, given-held, given_marking}
-use Rattle.runner_trace.specs.Running.{stop_pair}
 use Rattle.runner_trace.proofs.TraceSteps.{run-given}
-use Rattle.keeper.specs.Answers.{weight_pair}
+use Rattle.keeper.specs.Answers.{weight_pair, check_given, unpassed_pair}
 use Rattle.keeper.specs.declared.Sum.{Sum}
 use Rattle.keeper.proofs.SumBound.{Within, given_sum_within}
-use Rattle.listing.specs.Listing.{file_longest, model_file, weights_file, trace_file, pair_text, accepted, pair_then, sum_text, cover_text, run_text, after_model, listing_text}
+use Rattle.listing.specs.Listing.{file_longest, model_file, weights_file, trace_file, pair_text, sum_text, cover_text, run_text, after_model, listing_text, with_model, with_weights}
 use Rattle.listing.proofs.ListingLines.{long-line, pair-length, sum_below, sum-above, cover_length}
-use Rattle.listing.proofs.StageLaws.{pair_goes, pair_ends}
 use Rattle.listing.proofs.ThreeFiles.{file_given}
 use Rattle.listing.proofs.AnswerSizes.{Small, model-small, weights-small, trace_small}
+use Rattle.std.specs.Prelude.{Ok, Result, Err}
+use Rattle.runner.specs.Answers.{step_pair}
+use Rattle.reader.specs.declared.ModelReading.{ModelReading}
+use Rattle.keeper.specs.declared.WeightCheck.{WeightCheck}
+use Rattle.reader.specs.declared.ReadRefusal.{ReadRefusal}
+use Rattle.keeper.specs.declared.WeightRefusal.{WeightRefusal}
 
 -- ---- the lines
 
--- a pair, and what follows one that is 0,0
-pair_fits : (key : Text) (r : Refusal) (rest : Text) (n : ℕ) → Small r → (accepted r ≡ true → length rest ≤ n) → length (pair_then key r rest) ≤ length key + 25 + n
-pair_fits key r rest n s h =
-    let p = pair-length key r s.0 s.1 in
-    by_test (accepted r)
-    (λ t. omega (arith, ap length (pair_goes key r rest t), length-append (pair_text key r) rest, p, h t))
-    (λ t. omega (arith, ap length (pair_ends key r rest t), p))
+-- a pair, and what follows it
+pair_fits : (key : Text) (r : Refusal) (rest : Text) (n : ℕ) → Small r → length rest ≤ n → length (pair_text key r ++ rest) ≤ length key + 25 + n
+pair_fits key r rest n s h = omega (arith, pair-length key r s.0 s.1, length-append (pair_text key r) rest, h)
+
+-- 0,0
+good-small : Small (pair 0 0)
+good-small = (omega arith, omega arith)
 
 sum_fits : (s : Sum) → Within s → length (sum_text s) ≤ 26
 sum_fits s w =
@@ -96,7 +99,7 @@ module _ (m : Model) (k : Marking) (given : Given m k) where
   unfolding trace_file
   trace_given s = by_test (leb (length s) file_longest) (λ t. rw (t, trace_file) (run-given m k s given)) (λ t. rw (t, trace_file) given)
 
-  weights-within : (s : Text) → Within (weights_file m k s).sum
+  weights-within : (s : Text) → Within (check_given (weights_file m k s)).sum
   unfolding weights_file
   weights-within s =
       by_test (leb (length s) file_longest)
@@ -115,50 +118,56 @@ module _ (m : Model) (k : Marking) (given : Given m k) where
       let r = trace_file m k s in
       let e = trace_small m nets-few k s in
       let fired = number_text (bytes "fired=") r.fired in
-      let stop = pair_text (bytes "stop=") (stop_pair r.stop) in
+      let stop = pair_text (bytes "stop=") (step_pair r.stop) in
       let block = block_text (bytes "held=") (tokens_of (sizes_for m) r.marking) in
       omega (
         arith,
         length-append fired (stop ++ block),
         length-append stop block,
         long-line (bytes "fired=") r.fired (omega (arith, e.1)),
-        pair-length (bytes "stop=") (stop_pair r.stop) e.0.0 e.0.1,
+        pair-length (bytes "stop=") (step_pair r.stop) e.0.0 e.0.1,
         tokens_fit r.marking (trace_given s),
       )
 
   after-fits : (weights trace : Text) → length (after_model m k weights trace) ≤ 51590
-  unfolding after_model
-  after-fits weights trace =
-      let c = weights_file m k weights in
-      let sum = sum_text c.sum in
-      let cover = cover_text c.cover in
-      let run = run_text m (trace_file m k trace) in
-      let rest : length (sum ++ (cover ++ run)) ≤ 51557 =
-      omega (
-        arith,
-        length-append sum (cover ++ run),
-        length-append cover run,
-        sum_fits c.sum (weights-within weights),
-        cover_fits c.cover,
-        run_fits trace,
-      ) in
-      pair_fits (bytes "weights=") (weight_pair c.answer) (sum ++ (cover ++ run)) 51557 (weights-small m nets-few events-few k weights) (λ t. rest)
+  unfolding with_weights
+  after-fits weights trace = go (weights_file m k weights) (weights-within weights) (weights-small m nets-few events-few k weights)
+    where
+      go : (o : Result WeightCheck WeightRefusal) → Within (check_given o).sum → Small (weight_pair o) → length (with_weights m k trace o) ≤ 51590
+      go (Err e) w s = omega (arith, pair-length (bytes "weights=") (unpassed_pair e) s.0 s.1)
+      go (Ok c) w s =
+          let sum = sum_text c.sum in
+          let cover = cover_text c.cover in
+          let run = run_text m (trace_file m k trace) in
+          let rest : length (sum ++ (cover ++ run)) ≤ 51557 =
+          omega (
+            arith,
+            length-append sum (cover ++ run),
+            length-append cover run,
+            sum_fits c.sum w,
+            cover_fits c.cover,
+            run_fits trace,
+          ) in
+          pair_fits (bytes "weights=") (pair 0 0) (sum ++ (cover ++ run)) 51557 good-small rest
 
 -- ---- the listing
 
 module _ (model weights trace : Text) where
   pub listing_fits : length (listing_text model weights trace) ≤ 65536
-  unfolding listing_text
-  listing_fits =
-      let l = model_file model in
-      omega (
-        arith,
-        pair_fits (bytes "model=") (read_pair l.answer) (after_model l.model l.start weights trace) 51590 (model-small model)
-            (λ t. after-fits l.model l.start (file_given model t) weights trace),
-      )
+  unfolding listing_text with_model
+  listing_fits = go (model_file model) refl (model-small model)
+    where
+      go : (o : Result ModelReading ReadRefusal) → o ≡ model_file model → Small (read_pair o) → length (with_model weights trace o) ≤ 65536
+      go (Err e) h s = omega (arith, pair-length (bytes "model=") (unread_pair e) s.0 s.1)
+      go (Ok r) h s =
+          omega (
+            arith,
+            pair_fits (bytes "model=") (pair 0 0) (after_model r.model r.start weights trace) 51590 good-small
+                (after-fits r.model r.start (file_given model r h) weights trace),
+          )
 
   -- into a buffer of 65,536 bytes it is always written
   pub listing_written : (out : List ℕ) → 65536 ≤ length out
       → lay_whole (listing_text model weights trace) out
-      ≡ record { answer = Written (length (listing_text model weights trace)); bytes = sets out 0 (listing_text model weights trace) }
+      ≡ record { answer = Ok (length (listing_text model weights trace)); bytes = sets out 0 (listing_text model weights trace) }
   listing_written out h = sym (whole-fits (listing_text model weights trace) out (omega (arith, listing_fits)))

@@ -7,6 +7,7 @@ use native.Mathlib.Nat.{zero-add}
 use lib.ListN.{length, length-append}
 use lib.Seq.{sets, length-sets}
 use Rattle.text.specs.Bytes.{bytes}
+use Rattle.reader.specs.declared.WriteRefusal.TheVariants as refusal
 use Rattle.text.specs.Writing.{Laying, lay}
 use Rattle.text.specs.declared.TooSmall.{TooSmall}
 use Rattle.std.specs.Prelude.{Result, Ok, Err}
@@ -20,7 +21,6 @@ use Rattle.marking.specs.declared.Marking.{Marking}
 use Rattle.marking.specs.Sizes.{place_sizes, sizes_for}
 use Rattle.marking.specs.declared.PlaceSizes.{PlaceSizes}
 use Rattle.reader.specs.Answers.{lay_whole}
-use Rattle.reader.specs.declared.WriteAnswer.TheVariants as answer
 use Rattle.reader.proofs.WriteAnswers.{whole-fits, whole-short}
 
 -- the bytes that an answer names
@@ -55,7 +55,7 @@ module _ (head block out : List ℕ) {w : Result ℕ TooSmall} {mid : List ℕ} 
       omega (arith, ap length p.2 ∙ length-sets out (length head) block, p.0)
 
   pub held_whole : {end : ℕ} {after : List ℕ} → w ≡ Ok end → after ≡ sets mid 0 head
-      → record { answer = answer.Written end; bytes = after } ≡ lay_whole (head ++ block) out
+      → record { answer = Ok end; bytes = after } ≡ lay_whole (head ++ block) out
   held_whole u a =
       let p = whole_is u in
       let n = length-append head block in
@@ -63,7 +63,7 @@ module _ (head block out : List ℕ) {w : Result ℕ TooSmall} {mid : List ℕ} 
       sets_apart head block out 0 (length head) (omega arith) ∙ sym (sets_append head block out 0 ∙ rw (zero-add (length head))) in
       rw (p.1, a, p.2, l, ← n) (whole-fits (head ++ block) out (omega (arith, n, p.0)))
 
-  pub held-short : {n : ℕ} → w ≡ Err (record { needed = n }) → record { answer = answer.TooSmall n; bytes = mid } ≡ lay_whole (head ++ block) out
+  pub held-short : {n : ℕ} → w ≡ Err (record { needed = n }) → record { answer = Err (refusal.TooSmall n); bytes = mid } ≡ lay_whole (head ++ block) out
   held-short u =
       let p = short-is u in
       let n = length-append head block in

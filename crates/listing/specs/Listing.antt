@@ -1,5 +1,5 @@
 -- What the program `rackrun` prints (01, "One listing, whole").
-use Rattle.std.specs.Prelude.{ℕ, Bool, true, false, ◌&&◌, cond, [], ◌∷◌, ◌++◌, leb, eqb, length}
+use Rattle.std.specs.Prelude.{ℕ, Bool, true, false, cond, [], ◌∷◌, ◌++◌, leb, length, Result, Ok, Err}
 use Rattle.std.proofs.Math.IntN.{sub_ℕ}
 use Rattle.text.specs.Bytes.{Text, bytes}
 use Rattle.text.specs.Printed.{number_text, list_text, weights_text}
@@ -9,14 +9,15 @@ use Rattle.marking.specs.Held.{tokens_of}
 use Rattle.marking.specs.Printed.{block_text}
 use Rattle.marking.specs.declared.Marking.{Marking}
 use Rattle.marking.specs.Sizes.{sizes_for}
-use Rattle.reader.specs.Answers.{read_pair, no_reading, model_reading}
-use Rattle.reader.specs.declared.ReadAnswer.TheVariants as read
+use Rattle.reader.specs.Answers.{pair, unread_pair, model_reading}
+use Rattle.reader.specs.declared.ReadRefusal.{ReadRefusal}
+use Rattle.reader.specs.declared.ReadRefusal.TheVariants.{TooLong}
 use Rattle.reader.specs.declared.ModelReading.{ModelReading}
-use Rattle.runner_trace.specs.Running.{stop_pair, ran, running}
-use Rattle.runner_trace.specs.declared.Stop.TheVariants as stop
-use Rattle.runner_trace.specs.declared.Ran.{Ran}
-use Rattle.keeper.specs.Answers.{weight_pair, refused_weights, weight_checking}
-use Rattle.keeper.specs.declared.WeightAnswer.TheVariants as weight
+use Rattle.runner.specs.Answers.{step_pair}
+use Rattle.runner_trace.specs.Running.{Ran, unrun, running}
+use Rattle.keeper.specs.Answers.{unpassed_pair, weight_checking}
+use Rattle.keeper.specs.declared.WeightRefusal.{WeightRefusal}
+use Rattle.keeper.specs.declared.WeightRefusal.TheVariants.{Unread}
 use Rattle.keeper.specs.declared.Sum.{Sum}
 use Rattle.keeper.specs.declared.WeightCheck.{WeightCheck}
 
@@ -25,28 +26,20 @@ use Rattle.keeper.specs.declared.WeightCheck.{WeightCheck}
 abbrev pub file_longest : ℕ
 file_longest = 65536
 
-unfoldable pub model_file : Text → ModelReading
-model_file s = elim (leb (length s) file_longest) [ true ↦ model_reading s | false ↦ no_reading read.TooLong ]
+unfoldable pub model_file : Text → Result ModelReading ReadRefusal
+model_file s = elim (leb (length s) file_longest) [ true ↦ model_reading s | false ↦ Err TooLong ]
 
-unfoldable pub weights_file : Model → Marking → Text → WeightCheck
-weights_file m k s = elim (leb (length s) file_longest) [ true ↦ weight_checking m k s | false ↦ refused_weights weight.TooLong ]
+unfoldable pub weights_file : Model → Marking → Text → Result WeightCheck WeightRefusal
+weights_file m k s = elim (leb (length s) file_longest) [ true ↦ weight_checking m k s | false ↦ Err (Unread TooLong) ]
 
 unfoldable pub trace_file : Model → Marking → Text → Ran
-trace_file m k s = elim (leb (length s) file_longest) [ true ↦ running m k s | false ↦ ran 0 0 stop.TooLong k ]
+trace_file m k s = elim (leb (length s) file_longest) [ true ↦ running m k s | false ↦ unrun TooLong k ]
 
 -- ---- the lines
 
 -- "number and what stands beside it"
 unfoldable pub pair_text : Text → Refusal → Text
 pair_text key r = list_text key (r.number ∷ r.beside ∷ [])
-
--- "0,0 if accepted"
-abbrev pub accepted : Refusal → Bool
-accepted r = eqb r.number 0 && eqb r.beside 0
-
--- "the listing ends after the first of model, weights that is not 0,0"
-unfoldable pub pair_then : Text → Refusal → Text → Text
-pair_then key r rest = pair_text key r ++ elim (accepted r) [ true ↦ rest | false ↦ [] ]
 
 -- the part above 0 less the part below 0, with a minus sign if that is below 0
 unfoldable pub sum_text : Sum → Text
@@ -60,17 +53,25 @@ cover_text cover = number_text (bytes "cover=") (cond cover 1 0)
 unfoldable pub run_text : Model → Ran → Text
 run_text m r =
     number_text (bytes "fired=") r.fired
-    ++ (pair_text (bytes "stop=") (stop_pair r.stop) ++ block_text (bytes "held=") (tokens_of (sizes_for m) r.marking))
+    ++ (pair_text (bytes "stop=") (step_pair r.stop) ++ block_text (bytes "held=") (tokens_of (sizes_for m) r.marking))
 
 -- ---- the listing
 
--- from the weights on, for a model and its start
-unfoldable pub after_model : Model → Marking → Text → Text → Text
-after_model m k weights trace =
-    let c = weights_file m k weights in
-    pair_then (bytes "weights=") (weight_pair c.answer) (sum_text c.sum ++ (cover_text c.cover ++ run_text m (trace_file m k trace)))
+-- "the listing ends after the first of model, weights that is not 0,0"
+
+-- from the weights on: what passed has its sum and its cover, and the run follows
+unfoldable pub with_weights : Model → Marking → Text → Result WeightCheck WeightRefusal → Text
+with_weights m k trace (Ok c) = pair_text (bytes "weights=") (pair 0 0) ++ (sum_text c.sum ++ (cover_text c.cover ++ run_text m (trace_file m k trace)))
+with_weights m k trace (Err e) = pair_text (bytes "weights=") (unpassed_pair e)
+
+-- for a model and its start
+abbrev pub after_model : Model → Marking → Text → Text → Text
+after_model m k weights trace = with_weights m k trace (weights_file m k weights)
+
+unfoldable pub with_model : Text → Text → Result ModelReading ReadRefusal → Text
+with_model weights trace (Ok r) = pair_text (bytes "model=") (pair 0 0) ++ after_model r.model r.start weights trace
+with_model weights trace (Err e) = pair_text (bytes "model=") (unread_pair e)
 
 -- for the texts of the files `model`, `weights` and `trace`
 unfoldable pub listing_text : Text → Text → Text → Text
-listing_text model weights trace =
-    let l = model_file model in pair_then (bytes "model=") (read_pair l.answer) (after_model l.model l.start weights trace)
+listing_text model weights trace = with_model weights trace (model_file model)

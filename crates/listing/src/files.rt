@@ -1,39 +1,40 @@
 // The three files of a listing, each read by the call that it is for; a file that is too long is not read.
 ghost use Rattle.std.specs.Prelude.{◌≡◌};
 ghost use Rattle.listing.specs.Listing.{model_file, weights_file, trace_file};
+ghost use Rattle.runner_trace.specs.Running.{ran_to};
 
-use keeper::{WeightAnswer, WeightCheck, check_weights};
+use keeper::{WeightCheck, WeightRefusal, check_weights};
 use marking::Marking;
 use model::Model;
-use reader::{ModelReading, ReadAnswer, read_model};
-use runner_trace::{Ran, Stop, run};
+use reader::{ModelReading, ReadRefusal, read_model};
+use runner_trace::{RunEnd, run, run_refused};
 
-// 01's limit on a file.
+// The limit on a file.
 const LONGEST: usize = 65536;
 
-pub fn model_file(s: &[u8]) -> ModelReading
+pub fn model_file(s: &[u8]) -> Result<ModelReading, ReadRefusal>
     ensures { result ≡ model_file s.now }
 {
     if LONGEST < s.len() {
-        return reader::no_reading(ReadAnswer::TooLong);
+        return Err(ReadRefusal::TooLong);
     }
     read_model(s)
 }
 
-pub fn weights_file(m: Model, k: Marking, s: &[u8]) -> WeightCheck
+pub fn weights_file(m: Model, k: Marking, s: &[u8]) -> Result<WeightCheck, WeightRefusal>
     ensures { result ≡ weights_file m k s.now }
 {
     if LONGEST < s.len() {
-        return keeper::weights_refused(WeightAnswer::TooLong);
+        return Err(WeightRefusal::Unread(ReadRefusal::TooLong));
     }
     check_weights(m, k, s)
 }
 
-pub fn trace_file(m: Model, k: Marking, s: &[u8]) -> Ran
-    ensures { result ≡ trace_file m k s.now }
+pub fn trace_file(m: &Model, k: &mut Marking, s: &[u8]) -> RunEnd
+    ensures { ran_to result k.new ≡ trace_file m.now k.old s.now }
 {
     if LONGEST < s.len() {
-        return runner_trace::run_refused(Stop::TooLong, k);
+        return run_refused(ReadRefusal::TooLong);
     }
-    run(&m, k, s)
+    run(m, k, s)
 }

@@ -1,7 +1,7 @@
 // The lines of a listing before its net-tokens, each laid into a buffer with room for it.
 ghost use Rattle.std.specs.Prelude.{◌≡◌, ◌+◌, ◌≤◌, length};
 ghost use Rattle.std.proofs.lemmas.List.Edits.{sets};
-ghost use Rattle.listing.specs.Listing.{accepted, pair_text, sum_text, cover_text};
+ghost use Rattle.listing.specs.Listing.{pair_text, sum_text, cover_text};
 ghost use Rattle.pairs.specs.Pairs.{refusal_of};
 
 use keeper::Sum;
@@ -16,7 +16,7 @@ pub fn put_pair(out: &mut [u8], at: usize, key: &[u8], p: Pair) -> usize
         × (result ≤ at + length key.now + 25) }
 {
     let number = put_text(out, at, key);
-    let comma = put_number(out, number, p.number as u64);
+    let comma = put_number(out, number, u64::from(p.number));
     put_number_line(out, comma, b",", p.beside as u64)
 }
 
@@ -36,12 +36,5 @@ pub fn put_cover(out: &mut [u8], at: usize, cover: bool) -> usize
     requires { at + 8 ≤ length out.old }
     ensures { (result ≡ at + length (cover_text cover)) × (out.new ≡ sets out.old at (cover_text cover)) × (result ≤ at + 8) }
 {
-    put_number_line(out, at, b"cover=", cover as u64)
-}
-
-// Whether a pair is 0,0.
-pub fn is_accepted(p: Pair) -> bool
-    ensures { result ≡ accepted (refusal_of p) }
-{
-    p.number == 0 && p.beside == 0
+    put_number_line(out, at, b"cover=", u64::from(cover))
 }

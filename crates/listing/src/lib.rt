@@ -10,44 +10,38 @@ ghost use Rattle.reader.specs.Answers.{held_both, lay_whole};
 ghost use Rattle.listing.specs.Listing.{trace_file, run_text, after_model, listing_text};
 
 use files::{model_file, trace_file, weights_file};
-use head::{is_accepted, put_cover, put_pair, put_sum};
+use head::{put_cover, put_pair, put_sum};
 use marking::Marking;
 use marking_test::place_sizes;
 use marking_write::write;
 use model::Model;
 use pairs::Pair;
-use reader::WriteAnswer;
-use text::TooSmall;
+use reader::{ModelReading, WriteRefusal};
 use text_write::{put_number_line, put_text};
 
 mod files;
 mod head;
 
 // A listing that ends with its head.
-fn lay_head(head: &[u8], out: &mut [u8]) -> WriteAnswer
+fn lay_head(head: &[u8], out: &mut [u8]) -> Result<usize, WriteRefusal>
     ensures { record { answer = result; bytes = out.new } ≡ lay_whole head.now out.old }
 {
     if out.len() < head.len() {
-        return WriteAnswer::TooSmall { needed: head.len() };
+        return Err(WriteRefusal::TooSmall { needed: head.len() });
     }
     put_text(out, 0, head);
-    WriteAnswer::Written { bytes: head.len() }
+    Ok(head.len())
 }
 
 // The head of a listing, and behind it the net-tokens of a held marking. These are laid first: where they do not fit, no byte is touched.
-fn lay_with_held(head: &[u8], m: &Model, k: &Marking, out: &mut [u8]) -> WriteAnswer
+fn lay_with_held(head: &[u8], m: &Model, k: &Marking, out: &mut [u8]) -> Result<usize, WriteRefusal>
     requires { (held_both m.now k.now ≡ true) × (length head.now ≤ 1024) }
     ensures { record { answer = result; bytes = out.new }
         ≡ lay_whole (head.now ++ block_text (bytes "held=") (tokens_of (sizes_for m.now) k.now)) out.old }
 {
-    let wrote = write(k, &place_sizes(m), b"held=", out, head.len());
-    match wrote {
-        Ok(bytes) => {
-            put_text(out, 0, head);
-            WriteAnswer::Written { bytes }
-        }
-        Err(TooSmall { needed }) => WriteAnswer::TooSmall { needed },
-    }
+    let bytes = write(k, &place_sizes(m), b"held=", out, head.len())?;
+    put_text(out, 0, head);
+    Ok(bytes)
 }
 
 // The listing from `fired` on, behind the first `at` bytes of its head.
@@ -58,17 +52,16 @@ fn after_weights(
     head: &mut [u8],
     at: usize,
     out: &mut [u8],
-) -> WriteAnswer
+) -> Result<usize, WriteRefusal>
     requires { (held_both m k ≡ true) × (at + 60 ≤ length head.old) × (length head.old ≤ 1024) }
     ensures { record { answer = result; bytes = out.new }
         ≡ lay_whole (take at head.old ++ run_text m (trace_file m k trace.now)) out.old }
 {
-    let ran = trace_file(m, k, trace);
+    let mut after = k;
+    let ran = trace_file(&m, &mut after, trace);
     let next = put_number_line(head, at, b"fired=", ran.fired as u64);
-    let stop = ran.stop;
-    let end = put_pair(head, next, b"stop=", Pair::from(stop));
-    let marking = ran.marking;
-    lay_with_held(&head[..end], &m, &marking, out)
+    let end = put_pair(head, next, b"stop=", Pair::from(ran.stop));
+    lay_with_held(&head[..end], &m, &after, out)
 }
 
 // The listing from `weights` on, behind the first `at` bytes of its head.
@@ -80,18 +73,16 @@ fn after_model(
     head: &mut [u8],
     at: usize,
     out: &mut [u8],
-) -> WriteAnswer
+) -> Result<usize, WriteRefusal>
     requires { (held_both m k ≡ true) × (at + 128 ≤ length head.old) × (length head.old ≤ 1024) }
     ensures { record { answer = result; bytes = out.new }
         ≡ lay_whole (take at head.old ++ after_model m k weights.now trace.now) out.old }
 {
     let check = weights_file(m, k, weights);
-    let answer = check.answer;
-    let judged = Pair::from(answer);
-    let next = put_pair(head, at, b"weights=", judged);
-    if !is_accepted(judged) {
+    let next = put_pair(head, at, b"weights=", Pair::from(check));
+    let Ok(check) = check else {
         return lay_head(&head[..next], out);
-    }
+    };
     let sum = check.sum;
     let cover = put_sum(head, next, sum);
     let end = put_cover(head, cover, check.cover);
@@ -99,19 +90,19 @@ fn after_model(
 }
 
 // What the program prints for the three texts: written whole, or no byte of it.
-pub fn listing(model: &[u8], weights: &[u8], trace: &[u8], out: &mut [u8]) -> WriteAnswer
+pub fn listing(model: &[u8], weights: &[u8], trace: &[u8], out: &mut [u8]) -> Result<usize, WriteRefusal>
     ensures { record { answer = result; bytes = out.new }
         ≡ lay_whole (listing_text model.now weights.now trace.now) out.old }
 {
     let mut head = [0u8; 192];
-    let read = model_file(model);
-    let answer = read.answer;
-    let pair = Pair::from(answer);
-    let at = put_pair(&mut head, 0, b"model=", pair);
-    if !is_accepted(pair) {
-        return lay_head(&head[..at], out);
+    match model_file(model) {
+        Ok(ModelReading { model, start }) => {
+            let at = put_pair(&mut head, 0, b"model=", Pair::accepted());
+            after_model(model, start, weights, trace, &mut head, at, out)
+        }
+        Err(refusal) => {
+            let at = put_pair(&mut head, 0, b"model=", Pair::from(refusal));
+            lay_head(&head[..at], out)
+        }
     }
-    let m = read.model;
-    let k = read.start;
-    after_model(m, k, weights, trace, &mut head, at, out)
 }

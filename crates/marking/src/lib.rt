@@ -50,6 +50,14 @@ impl Marking {
         }
     }
 
+    // How many net-tokens it has room for.
+    pub fn room(&self) -> usize
+        ensures value { result ≡ room_limit }
+        ensures tokens { length self.now.tokens ≡ room_limit }
+    {
+        self.tokens.len()
+    }
+
     // The net-tokens that it holds.
     pub fn held(&self) -> &[NetToken]
         requires { self.now.len ≤ room_limit }

@@ -1,115 +1,111 @@
-// For each answer of a call its number in 01's table, and what stands beside it.
+// For each refusal of a call its number in the table, and what stands beside it; an answer that is none has 0,0.
 #![tactic(auto)]
 
-ghost use Rattle.std.specs.Prelude.{◌≡◌};
-ghost use Rattle.reader.specs.Answers.{read_pair, write_pair};
-ghost use Rattle.runner.specs.Answers.{step_pair};
-ghost use Rattle.runner_trace.specs.Running.{stop_pair};
-ghost use Rattle.keeper.specs.Answers.{weight_pair};
-ghost use Rattle.spread.specs.Call.{spread_pair};
+ghost use Rattle.std.specs.Prelude.{◌≡◌, MatchResult};
+ghost use Rattle.reader.specs.Answers.{pair, unread_pair, unwritten_pair};
+ghost use Rattle.runner.specs.Answers.{unfired_pair};
+ghost use Rattle.keeper.specs.Answers.{unpassed_pair};
+ghost use Rattle.spread.specs.Call.{beyond_pair};
 ghost use Rattle.pairs.specs.Pairs.{refusal_of};
 
-use keeper::WeightAnswer;
-use reader::{ReadAnswer, WriteAnswer};
-use runner::StepAnswer;
-use runner_trace::Stop;
+use keeper::WeightRefusal;
+use reader::{ReadRefusal, WriteRefusal};
+use runner::StepRefusal;
 use spread::Beyond;
 
-// A number of 01's table, and what stands beside it. A number, since the calls for C hand it on, and C takes no enum.
+// A number of the table, and what stands beside it. A number, since the calls for C hand it on, and C takes no enum.
 #[derive(Clone, Copy, PartialEq, Eq, Debug)]
 pub struct Pair {
     pub number: u8,
     pub beside: usize,
 }
 
+impl Pair {
+    // Nothing is refused.
+    pub fn accepted() -> Pair
+        ensures { refusal_of result ≡ pair 0 0 }
+    {
+        row(0, 0)
+    }
+}
+
 // A row of the table.
 fn row(number: u8, beside: usize) -> Pair
-    ensures { result ≡ record { number = number; beside = beside } }
+    ensures { refusal_of result ≡ pair number beside }
 {
     Pair { number, beside }
 }
 
-// Of the reading of a model or of a marking.
-impl From<ReadAnswer> for Pair {
-    ghost from_gives = { λ answer pair. refusal_of pair ≡ read_pair answer };
+// Of the reading of a text.
+impl From<ReadRefusal> for Pair {
+    ghost from_gives = { λ refusal p. refusal_of p ≡ unread_pair refusal };
 
-    fn from(answer: ReadAnswer) -> Pair {
-        match answer {
-            ReadAnswer::Accepted => row(0, 0),
-            ReadAnswer::TooLong => row(1, 0),
-            ReadAnswer::NotHeld => row(14, 0),
-            ReadAnswer::Faulty { spot } => row(spot.cause.number(), spot.line),
-        }
-    }
-}
-
-// Of the check of weights.
-impl From<WeightAnswer> for Pair {
-    ghost from_gives = { λ answer pair. refusal_of pair ≡ weight_pair answer };
-
-    fn from(answer: WeightAnswer) -> Pair {
-        match answer {
-            WeightAnswer::Passed => row(0, 0),
-            WeightAnswer::TooLong => row(1, 0),
-            WeightAnswer::NotHeld => row(14, 0),
-            WeightAnswer::Faulty { spot } => row(spot.cause.number(), spot.line),
-            WeightAnswer::Turned { cause, beside } => row(cause, beside),
-        }
-    }
-}
-
-// Of what stopped a run.
-impl From<Stop> for Pair {
-    ghost from_gives = { λ stop pair. refusal_of pair ≡ stop_pair stop };
-
-    fn from(stop: Stop) -> Pair {
-        match stop {
-            Stop::AtEnd => row(0, 0),
-            Stop::TooLong => row(1, 0),
-            Stop::NotHeld => row(14, 0),
-            Stop::Faulty { spot } => row(spot.cause.number(), spot.line),
-            Stop::Turned { cause, beside } => row(cause, beside),
-        }
-    }
-}
-
-// Of a step.
-impl From<StepAnswer> for Pair {
-    ghost from_gives = { λ answer pair. refusal_of pair ≡ step_pair answer };
-
-    fn from(answer: StepAnswer) -> Pair {
-        match answer {
-            StepAnswer::Fired { bytes: _ } => row(0, 0),
-            StepAnswer::TooLong => row(1, 0),
-            StepAnswer::NotHeld => row(14, 0),
-            StepAnswer::Faulty { spot } => row(spot.cause.number(), spot.line),
-            StepAnswer::Turned { cause, beside } => row(cause, beside),
+    fn from(refusal: ReadRefusal) -> Pair {
+        match refusal {
+            ReadRefusal::TooLong => row(1, 0),
+            ReadRefusal::NotHeld => row(14, 0),
+            ReadRefusal::Faulty { spot } => row(spot.cause.number(), spot.line),
         }
     }
 }
 
 // Of the writing of a text.
-impl From<WriteAnswer> for Pair {
-    ghost from_gives = { λ answer pair. refusal_of pair ≡ write_pair answer };
+impl From<WriteRefusal> for Pair {
+    ghost from_gives = { λ refusal p. refusal_of p ≡ unwritten_pair refusal };
 
-    fn from(answer: WriteAnswer) -> Pair {
-        match answer {
-            WriteAnswer::Written { bytes: _ } => row(0, 0),
-            WriteAnswer::Unheld => row(14, 0),
-            WriteAnswer::TooSmall { needed } => row(13, needed),
+    fn from(refusal: WriteRefusal) -> Pair {
+        match refusal {
+            WriteRefusal::Unheld => row(14, 0),
+            WriteRefusal::TooSmall { needed } => row(13, needed),
+        }
+    }
+}
+
+// Of a step.
+impl From<StepRefusal> for Pair {
+    ghost from_gives = { λ refusal p. refusal_of p ≡ unfired_pair refusal };
+
+    fn from(refusal: StepRefusal) -> Pair {
+        match refusal {
+            StepRefusal::Unread(refusal) => Pair::from(refusal),
+            StepRefusal::Turned(refusal) => row(refusal.cause.number(), refusal.beside),
+        }
+    }
+}
+
+// Of the check of weights.
+impl From<WeightRefusal> for Pair {
+    ghost from_gives = { λ refusal p. refusal_of p ≡ unpassed_pair refusal };
+
+    fn from(refusal: WeightRefusal) -> Pair {
+        match refusal {
+            WeightRefusal::Unread(refusal) => Pair::from(refusal),
+            WeightRefusal::Weightless { line } => row(6, line),
+            WeightRefusal::Unbalanced { event } => row(7, event),
         }
     }
 }
 
 // Of the spread.
-impl From<Result<u64, Beyond>> for Pair {
-    ghost from_gives = { λ answer pair. refusal_of pair ≡ spread_pair answer };
+impl From<Beyond> for Pair {
+    ghost from_gives = { λ refusal p. refusal_of p ≡ beyond_pair refusal };
 
-    fn from(answer: Result<u64, Beyond>) -> Pair {
+    fn from(refusal: Beyond) -> Pair {
+        match refusal {
+            Beyond::Tokens => row(3, 1),
+            Beyond::Racks => row(3, 2),
+        }
+    }
+}
+
+// Of an answer: that of its refusal, or 0,0.
+impl<T: Drop, E: Into<Pair>> From<Result<T, E>> for Pair {
+    ghost from_gives = { λ answer p. MatchResult answer (λ _. refusal_of p ≡ pair 0 0) (λ refusal. E.converts refusal p) };
+
+    fn from(answer: Result<T, E>) -> Pair {
         match answer {
-            Ok(_) => row(0, 0),
-            Err(Beyond::Tokens) => row(3, 1),
-            Err(Beyond::Racks) => row(3, 2),
+            Ok(_) => Pair::accepted(),
+            Err(refusal) => refusal.into(),
         }
     }
 }

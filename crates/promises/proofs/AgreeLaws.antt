@@ -3,7 +3,6 @@ use Prim.Native.Nat.{ℕ, ◌≤◌}
 use mathlib.Core.Path.{◌≡◌, refl, ap, sym, ◌∙◌}
 use mathlib.Core.Bool.{true, false, true≢false}
 use mathlib.Core.Option.{Option, none, some}
-use native.Mathlib.Omega.{arith}
 use lib.Dec.{T, leb}
 use lib.ListN.{length}
 use borrow.Author.Tests.{leb-true, leb-false}
@@ -33,39 +32,29 @@ use Rattle.marking.specs.Sizes.{sizes_for}
 use Rattle.reader.specs.Answers.{held_both, held_in}
 use Rattle.marking.proofs.SizeLaws.{held_roomy, sizes_same}
 use Rattle.step.specs.Reading.{read_step}
-use Rattle.runner.specs.Answers.{step_pair, stepping}
-use Rattle.runner.specs.declared.Stepped.{Stepped}
-use Rattle.runner.specs.declared.StepAnswer.{StepAnswer}
-use Rattle.runner.specs.declared.StepAnswer.TheVariants.{Fired, TooLong, NotHeld, Faulty, Turned}
+use Rattle.runner.specs.Answers.{stepping, Stepped, unfired_pair}
 use Rattle.runner.proofs.StepAnswers.{step-long}
-use Rattle.runner.proofs.FiresExactly.{Brings, fires_exactly}
+use Rattle.runner.proofs.FiresExactly.{Brings, fires_exactly, unfired≢fired}
 use Rattle.runner.proofs.RefusedStep.{refused-leaves}
 use Rattle.promises.specs.WholeRun.{brings}
 use Rattle.promises.proofs.BringLaws.{read_free, fits_right, brings_read, read_brings, brings-bounds}
+use Rattle.std.specs.Prelude.{Ok, Result, Err}
+use Rattle.runner.specs.declared.StepRefusal.{StepRefusal}
 
 -- ---- the step call as an engine's call (eos, Run)
 
 -- none where it fired, or the cause
-abbrev pub cause_of : StepAnswer → Option Refusal
-cause_of (Fired n) = none
-cause_of TooLong = some (step_pair TooLong)
-cause_of NotHeld = some (step_pair NotHeld)
-cause_of (Faulty d) = some (step_pair (Faulty d))
-cause_of (Turned cause beside) = some (step_pair (Turned cause beside))
+abbrev pub cause_of : Result ℕ StepRefusal → Option Refusal
+cause_of (Ok n) = none
+cause_of (Err e) = some (unfired_pair e)
 
 -- the cause, and the marking left
 abbrev pub call : Model → Text → Marking → Answer Marking
 call m s k = record { refused = cause_of (stepping m k s).answer; held = (stepping m k s).marking }
 
-not_fired : (a : StepAnswer) → ((n : ℕ) → a ≡ Fired n → ⊥) → has_fired (cause_of a) ≡ false
-not_fired (Fired n) h = absurd (h n refl)
-not_fired TooLong h = refl
-not_fired NotHeld h = refl
-not_fired (Faulty d) h = refl
-not_fired (Turned cause beside) h = refl
-
-long≢fired : {n : ℕ} → TooLong ≡ Fired n → ⊥
-long≢fired e = let z : ◌≡◌ {A = ℕ} 0 1 = cc in omega arith
+not_fired : (a : Result ℕ StepRefusal) → ((n : ℕ) → a ≡ Ok n → ⊥) → has_fired (cause_of a) ≡ false
+not_fired (Ok n) h = absurd (h n refl)
+not_fired (Err e) h = refl
 
 module _ (d : eos.Model) (right : right_model d ≡ true) where
   abbrev m : Model
@@ -123,7 +112,7 @@ module _ (d : eos.Model) (right : right_model d ≡ true) where
     -- ---- any other text
 
     module _ (s : Text) (e : rule_fires d (brings d s) μ ≡ false) where
-      unfired : (n : ℕ) → (stepping m (hold_marking μ) s).answer ≡ Fired n → ⊥
+      unfired : (n : ℕ) → (stepping m (hold_marking μ) s).answer ≡ Ok n → ⊥
       unfolding hold_model
       unfired n a =
           by_test (leb (length s) longest)
@@ -134,7 +123,7 @@ module _ (d : eos.Model) (right : right_model d ≡ true) where
           let o = read_brings d s t (record { short = leb-true (length s) longest short; next = n; is = read_free (sizes_of d) (length d.events) s t n r }) in
           let f : T (fires d t μ) = fires_all d t μ (rw (model_of_hold d right) at b.enabled) (rw holdable-tokens at b.within) in
           true≢false (sym (is_true (fires d t μ) f) ∙ rw o at e))
-          (λ long. long≢fired (ap (λ (r : Stepped). r.answer) (step-long m (hold_marking μ) s (leb-false (length s) longest long)) ∙ a))
+          (λ long. unfired≢fired (ap (λ (r : Stepped). r.answer) (step-long m (hold_marking μ) s (leb-false (length s) longest long)) ∙ a))
 
       stay : (has_fired (call m s (hold_marking μ)).refused ≡ false) × ((call m s (hold_marking μ)).held ≡ hold_marking μ)
       stay = (not_fired (stepping m (hold_marking μ) s).answer unfired, (refused-leaves m (hold_marking μ) s unfired).0)

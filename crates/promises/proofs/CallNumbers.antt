@@ -27,20 +27,18 @@ use Rattle.reader.specs.Answers.{pair, read_pair, loaded, model_reading, restore
 use Rattle.step.specs.Reading.{read_step}
 use Rattle.step.specs.Verdict.{has_room, cause_pair}
 use Rattle.step.proofs.StepFaults.{step_faults}
-use Rattle.runner.specs.Answers.{step_pair, step_judged, read_then, stepped, held_step, stepping}
-use Rattle.runner.specs.declared.Stepped.{Stepped}
-use Rattle.runner.specs.declared.StepAnswer.TheVariants.{Fired}
+use Rattle.runner.specs.Answers.{step_pair, step_judged, read_then, stepped, held_step, stepping, Stepped}
 use Rattle.runner.proofs.StepAnswers.{held_reads, step-long, step-unheld, step-held}
 use Rattle.keeper.specs.Reading.{read_weight_file}
 use Rattle.keeper.specs.Answers.{weight_pair, weight_cause_pair, passed_weights, turned_or, judged_weights, weight_checking}
 use Rattle.keeper.specs.declared.WeightCheck.{WeightCheck}
-use Rattle.keeper.specs.declared.WeightAnswer.TheVariants.{Passed}
 use Rattle.keeper.proofs.CheckLaws.{check_long, check_unheld, check_bad, check_got}
 use Rattle.promises.specs.WholeRun.{racks}
 use Rattle.promises.specs.Numbers.{Among, model_numbers, marking_numbers, weight_numbers, step_numbers, Lent, Numbered, untested, step_tests, weight_tests}
 use Rattle.promises.proofs.NumberLaws.{Goes, Caused, numbered}
 use Rattle.listing.proofs.FileFaults.{marking_faults, weight_file_faults, model_faults}
 use Rattle.promises.proofs.TestNumbers.{step-first, step_right, weight_first, weight_right}
+use Rattle.std.specs.Prelude.{Ok}
 
 -- ---- lists of numbers
 
@@ -77,7 +75,7 @@ untested_none a c e = some_not (sym e)
 -- ---- reading a model
 
 module _ (s : Text) where
-  pub model_goes : Goes model_numbers longest s true (read_model s) untested (read_pair (model_reading s).answer)
+  pub model_goes : Goes model_numbers longest s true (read_model s) untested (read_pair (model_reading s))
   unfolding model_reading loaded
   model_goes = record {
     long = λ h. rw (lt-leb (length s) longest h, model_reading);
@@ -96,13 +94,13 @@ module _ (s : Text) where
     high = λ n h. absurd h;
   }
 
-  pub model-number : Numbered model_numbers longest s true (read_model s) untested (read_pair (model_reading s).answer)
+  pub model-number : Numbered model_numbers longest s true (read_model s) untested (read_pair (model_reading s))
   model-number = numbered model_numbers longest s true (read_model s) untested _ model_goes (model_caused longest _)
 
 -- ---- reading a marking
 
 module _ (m : Model) (s : Text) where
-  marking_goes : Goes marking_numbers longest s (held_model m) (read_marking (sizes_for m) s) untested (read_pair (marking_reading m s).answer)
+  marking_goes : Goes marking_numbers longest s (held_model m) (read_marking (sizes_for m) s) untested (read_pair (marking_reading m s))
   unfolding marking_reading marking_or restored
   marking_goes = record {
     long = λ h. rw (lt-leb (length s) longest h, marking_reading);
@@ -112,7 +110,7 @@ module _ (m : Model) (s : Text) where
     passed = λ w a n b e. rw (le-leb (length s) longest w.short, marking_reading, w.is_held, b);
   }
 
-  pub marking_number : Numbered marking_numbers longest s (held_model m) (read_marking (sizes_for m) s) untested (read_pair (marking_reading m s).answer)
+  pub marking_number : Numbered marking_numbers longest s (held_model m) (read_marking (sizes_for m) s) untested (read_pair (marking_reading m s))
   marking_number = numbered marking_numbers longest s (held_model m) (read_marking (sizes_for m) s) untested _ marking_goes (record {
     unheld = λ _. inl refl;
     lines = marking_faults (Among marking_numbers.lines) (inl refl) s (inr (inl refl)) (sizes_for m);
@@ -177,13 +175,13 @@ module _ (m : Model) (k : Marking) (s : Text) where
   held_number few = numbered step_numbers longest s true lines tests _ (held_goes few) (step_caused true _)
 
   -- number 0 is a step that fired
-  fired-got : (t : Step) (next : ℕ) → lines ≡ got t next → first (tests t) ≡ none → (held_step room_limit m k s).answer ≡ Fired next
+  fired-got : (t : Step) (next : ℕ) → lines ≡ got t next → first (tests t) ≡ none → (held_step room_limit m k s).answer ≡ Ok next
   unfolding read_then step_judged stepped
   fired-got t next b e =
       let q = renamed_none (cause_pair (length t.taken)) (refusal (has_room room_limit) (model_of m) t (racks m k)) (sym (step-first (model_of m) (racks m k) t) ∙ e) in
       ap (λ (r : Stepped). r.answer) (held_reads m k s room_limit) ∙ rw (b, q)
 
-  pub held-fired : length s ≤ longest → (step_pair (held_step room_limit m k s).answer).number ≡ 0 → (next : ℕ) × ((held_step room_limit m k s).answer ≡ Fired next)
+  pub held-fired : length s ≤ longest → (step_pair (held_step room_limit m k s).answer).number ≡ 0 → (next : ℕ) × ((held_step room_limit m k s).answer ≡ Ok next)
   held-fired few z =
       let (w, t, next, b, c) = (held_number few).good.0 z in
       (next, fired-got t next b ((clear_exactly (tests t)).1 c))
@@ -209,26 +207,25 @@ module _ (m : Model) (k : Marking) (s : Text) where
   abbrev last : ℕ
   last = 2 + length (model_of m).nets
 
-  weight_judged : (o : Option WeightCause) (c : WeightCheck) → weight_pair c.answer ≡ pair 0 0
-      → weight_pair (turned_or last o c).answer ≡ or_good (renamed (weight_cause_pair last) o)
+  weight_judged : (o : Option WeightCause) (c : WeightCheck) → weight_pair (turned_or last o c) ≡ or_good (renamed (weight_cause_pair last) o)
   unfolding turned_or
-  weight_judged none c h = h
-  weight_judged (some why) c h = refl
+  weight_judged none c = refl
+  weight_judged (some why) c = refl
 
   -- weights that are read are answered by their tests
   weight_got : Lent longest s (held_both m k) → (a : Weights) (n : ℕ) → read_weight_file (model_of m) s ≡ got a n
-      → weight_pair (weight_checking m k s).answer ≡ or_good (first (weight_tests last (model_of m) a))
+      → weight_pair (weight_checking m k s) ≡ or_good (first (weight_tests last (model_of m) a))
   unfolding judged_weights
   weight_got w a n b =
-      ap (λ (c : WeightCheck). weight_pair c.answer) (check_got m k s w.short w.is_held a n b)
-      ∙ weight_judged (weight_refusal (model_of m) a) (passed_weights cover_limit a (weigh (model_of m) a (racks m k))) refl
+      ap weight_pair (check_got m k s w.short w.is_held a n b)
+      ∙ weight_judged (weight_refusal (model_of m) a) (passed_weights cover_limit a (weigh (model_of m) a (racks m k)))
       ∙ ap or_good (sym (weight_first last (model_of m) a))
 
-  pub weights_goes : Goes weight_numbers longest s (held_both m k) (read_weight_file (model_of m) s) (weight_tests last (model_of m)) (weight_pair (weight_checking m k s).answer)
+  pub weights_goes : Goes weight_numbers longest s (held_both m k) (read_weight_file (model_of m) s) (weight_tests last (model_of m)) (weight_pair (weight_checking m k s))
   weights_goes = record {
-    long = λ h. ap (λ (c : WeightCheck). weight_pair c.answer) (sym (check_long m k s h));
-    unheld = λ few h. ap (λ (c : WeightCheck). weight_pair c.answer) (sym (check_unheld m k s few h));
-    faulty = λ w e b. ap (λ (c : WeightCheck). weight_pair c.answer) (check_bad m k s w.short w.is_held e b);
+    long = λ h. ap weight_pair (sym (check_long m k s h));
+    unheld = λ few h. ap weight_pair (sym (check_unheld m k s few h));
+    faulty = λ w e b. ap weight_pair (check_bad m k s w.short w.is_held e b);
     turned = λ w a n b c e. weight_got w a n b ∙ ap or_good e;
     passed = λ w a n b e. weight_got w a n b ∙ ap or_good e;
   }
@@ -242,13 +239,13 @@ module _ (m : Model) (k : Marking) (s : Text) where
     high = six-seven;
   }
 
-  pub weight_number : Numbered weight_numbers longest s (held_both m k) (read_weight_file (model_of m) s) (weight_tests last (model_of m)) (weight_pair (weight_checking m k s).answer)
+  pub weight_number : Numbered weight_numbers longest s (held_both m k) (read_weight_file (model_of m) s) (weight_tests last (model_of m)) (weight_pair (weight_checking m k s))
   weight_number = numbered weight_numbers longest s (held_both m k) (read_weight_file (model_of m) s) (weight_tests last (model_of m)) _ weights_goes (weights_caused longest _)
 
   -- number 0 is weights that passed
-  pub weight_passed : (weight_pair (weight_checking m k s).answer).number ≡ 0 → (weight_checking m k s).answer ≡ Passed
+  pub weight_passed : (weight_pair (weight_checking m k s)).number ≡ 0 → (c : WeightCheck) × (weight_checking m k s ≡ Ok c)
   unfolding judged_weights turned_or
   weight_passed z =
       let (w, a, n, b, c) = weight_number.good.0 z in
       let q = renamed_none (weight_cause_pair last) (weight_refusal (model_of m) a) (sym (weight_first last (model_of m) a) ∙ (clear_exactly (weight_tests last (model_of m) a)).1 c) in
-      ap (λ (c : WeightCheck). c.answer) (check_got m k s w.short w.is_held a n b) ∙ rw q
+      (passed_weights cover_limit a (weigh (model_of m) a (racks m k)), check_got m k s w.short w.is_held a n b ∙ rw q)

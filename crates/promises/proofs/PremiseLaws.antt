@@ -1,9 +1,8 @@
 -- What weights say that passed with cover 1 for the held model and the held start of a model text: they balance, and cover with the sum
 -- of the start, which is the sum reported.
-use Prim.Native.Nat.{ℕ, ◌≤◌}
+use Prim.Native.Nat.{◌≤◌}
 use mathlib.Core.Path.{◌≡◌, ap, sym, ◌∙◌}
 use mathlib.Core.Bool.{true}
-use native.Mathlib.Omega.{arith}
 use lib.Dec.{T, leb}
 use lib.IntN.{ℤ, pos, nat_abs}
 use lib.ListN.{length}
@@ -35,13 +34,14 @@ use Rattle.marking.proofs.SizeLaws.{held_roomy, sizes_same}
 use Rattle.reader.proofs.HeldExactly.{canonical-held, right_parts}
 use Rattle.step.proofs.SoundLaws.{proper_read}
 use Rattle.keeper.specs.Reading.{read_weight_file}
-use Rattle.keeper.specs.Answers.{sum_of, weight_checking}
+use Rattle.keeper.specs.Answers.{sum_of, weight_checking, check_given}
 use Rattle.keeper.specs.declared.Sum.{Sum}
 use Rattle.keeper.specs.declared.WeightCheck.{WeightCheck}
-use Rattle.keeper.specs.declared.WeightAnswer.TheVariants.{Passed, TooLong, NotHeld}
 use Rattle.keeper.proofs.WeightsReadBack.{weights_were_printed, weights_read_what_they_say, right_shaped}
 use Rattle.keeper.proofs.CheckLaws.{check_long, check_unheld}
-use Rattle.keeper.proofs.WeightsExactly.{covers_parts, weights_exactly, sum_exactly, cover_exactly}
+use Rattle.keeper.proofs.WeightsExactly.{covers_parts, weights_exactly, sum_exactly, cover_exactly, refused≢passed}
+use Rattle.std.specs.Prelude.{Ok, Result}
+use Rattle.keeper.specs.declared.WeightRefusal.{WeightRefusal}
 
 -- weights of a model that balance, and cover with the sum of a marking, which is the sum reported
 pub record Balances (d : eos.Model) (μ : eos.Marking) (file : Text) (sum : Sum) : Type 0 where
@@ -52,12 +52,6 @@ pub record Balances (d : eos.Model) (μ : eos.Marking) (file : Text) (sum : Sum)
   pub covering : covers cover_limit count_limit weights sum.above ≡ true
   pub sum_is : weigh d weights μ ≡ pos sum.above
   pub whole : sum.below ≡ 0
-
-long≢passed : TooLong ≡ Passed → ⊥
-long≢passed e = let z : ◌≡◌ {A = ℕ} 0 1 = cc in omega arith
-
-unheld≢passed : NotHeld ≡ Passed → ⊥
-unheld≢passed e = let z : ◌≡◌ {A = ℕ} 0 1 = cc in omega arith
 
 -- the same weights of an equal model and an equal marking
 balances_as : (d e : eos.Model) (μ ν : eos.Marking) (file : Text) (sum : Sum) → d ≡ e → μ ≡ ν → Balances d μ file sum → Balances e ν file sum
@@ -72,31 +66,28 @@ sum_parts z sum p e = (
 
 -- ---- weights that passed for a held model and a held marking
 
-module _ (m : Model) (k : Marking) (file : Text) (sum : Sum) (passed : weight_checking m k file ≡ record { answer = Passed; sum = sum; cover = true }) where
-  answered : (weight_checking m k file).answer ≡ Passed
-  answered = ap (λ (c : WeightCheck). c.answer) passed
-
+module _ (m : Model) (k : Marking) (file : Text) (sum : Sum) (passed : weight_checking m k file ≡ Ok (record { sum = sum; cover = true })) where
   short : length file ≤ longest
   short =
       by_test (leb (length file) longest) (leb-true (length file) longest)
-      (λ h. absurd (long≢passed (ap (λ (c : WeightCheck). c.answer) (check_long m k file (leb-false (length file) longest h)) ∙ answered)))
+      (λ h. refused≢passed (check_long m k file (leb-false (length file) longest h) ∙ passed))
 
   passed-held : held_both m k ≡ true
   passed-held =
       by_test (held_both m k) (λ h. h)
-      (λ h. absurd (unheld≢passed (ap (λ (c : WeightCheck). c.answer) (check_unheld m k file short h) ∙ answered)))
+      (λ h. refused≢passed (check_unheld m k file short h ∙ passed))
 
   passed_balances : Balances (model_of m) (tokens_of (sizes_for m) k) file sum
   passed_balances =
       let d = model_of m in
-      let (w, x, e, p) = (weights_exactly m k file passed-held short).0 answered in
+      let (w, x, e, p) = (weights_exactly m k file passed-held short).0 (_, passed) in
       let z = weigh d w (tokens_of (sizes_for m) k) in
       let printed = weights_were_printed d file w x e in
       let sh = right_shaped d w printed.1 in
-      let cov = (covers_parts cover_limit w (nat_abs z)).1 ((cover_exactly m k file passed-held short w x e p).0 (ap (λ (c : WeightCheck). c.cover) passed)) in
+      let cov = (covers_parts cover_limit w (nat_abs z)).1 ((cover_exactly m k file passed-held short w x e p).0 (ap (λ (o : Result WeightCheck WeightRefusal). (check_given o).cover) passed)) in
       let n : z ≡ pos (nat_abs z) =
       weigh-positive d w (tokens_of (sizes_for m) k) (cover_out d w sh cover_limit count_limit (nat_abs z) (true_is cov)) (cover_in d w sh cover_limit count_limit (nat_abs z) (true_is cov)) in
-      let s = sum_parts z sum n (sym (ap (λ (c : WeightCheck). c.sum) passed) ∙ sum_exactly m k file passed-held short w x e p) in
+      let s = sum_parts z sum n (sym (ap (λ (o : Result WeightCheck WeightRefusal). (check_given o).sum) passed) ∙ sum_exactly m k file passed-held short w x e p) in
       record {
         weights = w;
         weighs = (weights_read_what_they_say d file w).1 printed;
@@ -136,7 +127,7 @@ module _ (l : Loaded) (right : right_loaded l ≡ true) where
       (hold.all_right bounds z roomy (eos.canonical l.start) (and_true (leb (length (eos.canonical l.start)) line_limit) _ h.right).1)
 
   -- weights that passed for them balance, and cover with the sum of the start
-  pub start_balances : (file : Text) (sum : Sum) → weight_checking m k file ≡ record { answer = Passed; sum = sum; cover = true }
+  pub start_balances : (file : Text) (sum : Sum) → weight_checking m k file ≡ Ok (record { sum = sum; cover = true })
       → Balances l.model l.start file sum
   start_balances file sum passed =
       let b = balances_as (model_of m) l.model _ _ file sum (model_of_hold l.model model_right) start-tokens (passed_balances m k file sum passed) in

@@ -12,7 +12,6 @@ use Rattle.model.specs.contracts.Model as model
 use Rattle.marking.specs.declared.Marking.{Marking}
 use Rattle.marking.specs.contracts.Marking as marking
 use Rattle.reader.specs.Answers.{marking_reading, held_both}
-use Rattle.reader.specs.declared.ReadAnswer.TheVariants.{Accepted}
 use Rattle.reader.proofs.GivenLaws.{Given, given-held, given-model, given_marking, reading_given}
 use Rattle.reader.proofs.ReadsBack.{writing_reads_back, writing_fits}
 use Rattle.runner_trace.specs.Running.{running}
@@ -20,6 +19,7 @@ use Rattle.runner_trace.proofs.TraceSteps.{run-given}
 use Rattle.promises.specs.WholeRun.{left_by}
 use Rattle.promises.specs.ReadBack.{ReadsBack}
 use Rattle.promises.proofs.GivenCalls.{left-given, owned_both}
+use Rattle.std.specs.Prelude.{Ok}
 
 module _ (m : Model) (k : Marking) where
   pub given_reads_back : Given m k → (out : List ℕ) → ReadsBack m k out
@@ -41,5 +41,5 @@ module _ (m : Model) (k : Marking) (g : Given m k) where
   run_reads_back s out = given_reads_back m (running m k s).marking (run-given m k s g) out
 
   -- what was read for the model
-  pub read_reads_back : (s : Text) → (marking_reading m s).answer ≡ Accepted → (out : List ℕ) → ReadsBack m (marking_reading m s).marking out
-  read_reads_back s a out = given_reads_back m (marking_reading m s).marking (reading_given m (given-model m k g) s a) out
+  pub read_reads_back : (s : Text) (j : Marking) → marking_reading m s ≡ Ok j → (out : List ℕ) → ReadsBack m j out
+  read_reads_back s j a out = given_reads_back m j (reading_given m (given-model m k g) s j a) out

@@ -23,14 +23,10 @@ use Rattle.marking.specs.Printed.{marking_text}
 use Rattle.marking.specs.declared.Marking.{Marking}
 use Rattle.reader.specs.Answers.{pair, write_pair, held_both, Answered, lay_whole, marking_writing}
 use Rattle.reader.proofs.WriteAnswers.{whole-fits, whole-short}
-use Rattle.runner.specs.Answers.{Tried, fires, stops, step_pair, held_step, stepping}
-use Rattle.runner.specs.declared.Stepped.{Stepped}
-use Rattle.runner.specs.declared.StepAnswer.{StepAnswer}
-use Rattle.runner.specs.declared.StepAnswer.TheVariants as step
+use Rattle.runner.specs.Answers.{Tried, fires, stops, step_pair, held_step, stepping, Stepped}
 use Rattle.runner.proofs.StepAnswers.{step-held}
-use Rattle.runner_trace.specs.Running.{stop_pair, stopped_by, onward, run_from, headed, run_where_held, running}
-use Rattle.runner_trace.specs.declared.Ran.{Ran}
-use Rattle.runner_trace.proofs.TraceSteps.{run_keeps}
+use Rattle.runner_trace.specs.Running.{onward, run_from, headed, run_where_held, running, Ran}
+use Rattle.runner_trace.proofs.TraceSteps.{run_keeps, fired≢turned}
 use Rattle.runner_trace.proofs.TraceLaws.{trace_headed}
 use Rattle.runner_trace.proofs.StopLaws.{StopsAt, run_stops_at}
 use Rattle.spread.specs.Call.{spread_pair, spread_call}
@@ -38,16 +34,10 @@ use Rattle.promises.specs.WholeRun.{racks}
 use Rattle.promises.specs.Numbers.{Among, step_numbers, Lent, RunNumbered, WriteNumbered, SpreadNumbered}
 use Rattle.promises.proofs.NumberLaws.{num, side}
 use Rattle.promises.proofs.CallNumbers.{eight-twelve, held_number, held-fired}
+use Rattle.std.specs.Prelude.{Result}
+use Rattle.runner.specs.declared.StepRefusal.{StepRefusal}
 
 -- ---- a run
-
--- a step that was turned down stops the run with its own number
-stopped_pair : (a : StepAnswer) → stop_pair (stopped_by a) ≡ step_pair a
-stopped_pair (step.Fired n) = refl
-stopped_pair step.TooLong = refl
-stopped_pair step.NotHeld = refl
-stopped_pair (step.Faulty e) = refl
-stopped_pair (step.Turned cause beside) = refl
 
 -- a bad header is 2 beside line 1
 header-pair : (line s : Text) (e : Fault) → read_head line s 0 ≡ bad e → pair (cause_number e.cause) (line_at s e.at) ≡ pair 2 1
@@ -79,7 +69,7 @@ module _ (m : Model) (k : Marking) (s : Text) where
   head = read_head (bytes "run=1\n") s 0
 
   abbrev r : Refusal
-  r = stop_pair (running m k s).stop
+  r = step_pair (running m k s).stop
 
   run_long : longest < length s → r ≡ pair 1 0
   unfolding running
@@ -114,14 +104,14 @@ module _ (m : Model) (k : Marking) (s : Text) where
     abbrev left : Text
     left = drop (running m k s).at s
 
-    abbrev answer : StepAnswer
+    abbrev answer : Result ℕ StepRefusal
     answer = (held_step room_limit m (running m k s).marking left).answer
 
     few-left : length left ≤ longest
     few-left = omega (arith, w.short, length-drop (running m k s).at s)
 
     run_step : (running m k s).at < length s → r ≡ step_pair answer
-    run_step h = ap stop_pair (stops_at.turned h) ∙ stopped_pair answer
+    run_step h = let t = stops_at.turned h in ap step_pair t.1 ∙ sym (ap step_pair t.2)
 
     -- on a marking as every one in code is, that is the step call
     pub run_call : length k.tokens ≡ room_limit → (running m k s).at < length s → r ≡ step_pair (stepping m (running m k s).marking left).answer
@@ -130,13 +120,13 @@ module _ (m : Model) (k : Marking) (s : Text) where
         run_step h ∙ ap (λ (x : Stepped). step_pair x.answer) (step-held m (running m k s).marking left few-left kept.held)
 
     run_done_lem : (running m k s).at ≡ length s → r ≡ pair 0 0
-    run_done_lem h = ap stop_pair (stops_at.done h)
+    run_done_lem h = ap step_pair (stops_at.done h)
 
     -- where it stopped before the end, no step was fired
     turned_down : (running m k s).at < length s → (step_pair answer).number ≡ 0 → ⊥
     turned_down h z =
         let f = held-fired m (running m k s).marking left few-left z in
-        omega (arith, stops_at.ended (stops_at.turned h ∙ ap stopped_by f.1))
+        fired≢turned f.1 (stops_at.turned h).2
 
     run_zero : r.number ≡ 0 → (running m k s).at ≡ length s
     run_zero z =

@@ -10,7 +10,7 @@ use lib.IntN.{nat_abs}
 use lib.ListN.{length}
 use borrow.Author.Tests.{ne_eqb, le-leb}
 use Rattle.text.specs.Bytes.{Text, bytes}
-use Rattle.text.specs.Lines.{got, cause_number}
+use Rattle.text.specs.Lines.{got}
 use Rattle.keeper.specs.Split.{above, below}
 use Rattle.text.proofs.Unique.{was_printed}
 use Rattle.eos.specs.Model as eos
@@ -28,24 +28,19 @@ use Rattle.marking.specs.declared.Marking.{Marking}
 use Rattle.marking.proofs.BlockExactly.{block_exactly}
 use Rattle.reader.specs.Reading.{Loaded, bounds, read_model, read_marking, right_loaded}
 use Rattle.reader.specs.Printed.{model_text}
-use Rattle.reader.specs.Answers.{pair, read_pair, loaded, model_reading, marking_reading, held_both, lay_whole, marking_writing}
+use Rattle.reader.specs.Answers.{pair, read_pair, loaded, model_reading, marking_reading, held_both, lay_whole, marking_writing, model_given}
 use Rattle.reader.specs.declared.ModelReading.{ModelReading}
-use Rattle.reader.specs.declared.ReadAnswer.TheVariants as read
 use Rattle.reader.proofs.ReadsWhatItSays.{ended, reads_what_marking_says}
 use Rattle.reader.proofs.HeldExactly.{accepted_is_printed}
 use Rattle.step.specs.Reading.{read_step}
-use Rattle.runner.specs.Answers.{step_pair, stepping}
-use Rattle.runner.specs.declared.Stepped.{Stepped}
-use Rattle.runner.specs.declared.StepAnswer.{StepAnswer}
-use Rattle.runner.specs.declared.StepAnswer.TheVariants as step
+use Rattle.runner.specs.Answers.{step_pair, stepping, Stepped, unfired_pair}
 use Rattle.runner.proofs.StepAnswers.{step-held}
-use Rattle.runner.proofs.FiresExactly.{Brings, fires_exactly}
+use Rattle.runner.proofs.FiresExactly.{Brings, fires_exactly, unfired≢fired}
 use Rattle.runner_trace.specs.Running.{running}
 use Rattle.keeper.specs.Reading.{read_weight_file}
-use Rattle.keeper.specs.Answers.{weight_pair, weight_checking}
+use Rattle.keeper.specs.Answers.{weight_pair, weight_checking, check_given}
 use Rattle.keeper.specs.Covering.{Covering}
 use Rattle.keeper.specs.declared.Sum.{Sum}
-use Rattle.keeper.specs.declared.WeightAnswer.{WeightAnswer}
 use Rattle.keeper.proofs.WeightsExactly.{weights_exactly, sum_exactly, cover_exactly}
 use Rattle.spread.specs.Call.{spread_call}
 use Rattle.listing.specs.Listing.{listing_text}
@@ -58,6 +53,11 @@ use Rattle.promises.specs.ToC.{left_to_c, numbers_to_c, CoveredToC, WholeRunToC}
 use Rattle.promises.proofs.CallNumbers.{model-number, marking_number, step-number, weight_number, held-fired, weight_passed}
 use Rattle.promises.proofs.RunNumbers.{run-number, laid-number, write_number, spread-number}
 use Rattle.promises.proofs.WholeRunLaws.{whole_run}
+use Rattle.std.specs.Prelude.{Ok, Result, Err}
+use Rattle.reader.specs.declared.ReadRefusal.{ReadRefusal}
+use Rattle.runner.specs.declared.StepRefusal.{StepRefusal}
+use Rattle.keeper.specs.declared.WeightCheck.{WeightCheck}
+use Rattle.keeper.specs.declared.WeightRefusal.{WeightRefusal}
 
 -- ---- the numbers, call by call: each is the pair of the call's own answer
 
@@ -93,21 +93,23 @@ spread_number_to_c = spread-number
 -- ---- reading a model
 
 -- the number 0 is an accepted model
-accepted_zero : (s : Text) → (read_pair (model_reading s).answer).number ≡ 0 → (model_reading s).answer ≡ read.Accepted
+accepted_zero : (s : Text) → (read_pair (model_reading s)).number ≡ 0 → (r : ModelReading) × (model_reading s ≡ Ok r)
 unfolding model_reading loaded
 accepted_zero s z =
     let (w, l, next, b, c) = (model-number s).good.0 z in
-    rw (le-leb (length s) longest w.short, model_reading, b)
+    (model_given (model_reading s), rw (le-leb (length s) longest w.short, model_reading, b))
 
-accepted_to_c : (r : ModelReading) (m : Model) (k : Marking) → r.answer ≡ read.Accepted → model_read r ≡ record { number = 0; beside = 0; model = m; start = k }
-    → r ≡ record { answer = read.Accepted; model = m; start = k }
-accepted_to_c r m k a e = λ i. record { answer = a i; model = (e i).model; start = (e i).start }
+accepted_to_c : (o : Result ModelReading ReadRefusal) (r : ModelReading) (m : Model) (k : Marking) → o ≡ Ok r
+    → model_read o ≡ record { number = 0; beside = 0; model = m; start = k } → o ≡ Ok (record { model = m; start = k })
+accepted_to_c o r m k a e =
+    let f : model_read (Ok r) ≡ record { number = 0; beside = 0; model = m; start = k } = ap model_read (sym a) ∙ e in
+    a ∙ (λ i. Ok (record { model = (f i).model; start = (f i).start }))
 
 -- the reading answers 0 exactly where the text is the printed text of a right model and of its start, and gives these as they are held
 pub model_to_c : (s : Text) (m : Model) (k : Marking) → (model_read (model_reading s) ≡ record { number = 0; beside = 0; model = m; start = k })
     ↔ ((l : Loaded) × (s ≡ model_text l) × (right_loaded l ≡ true) × (length s ≤ longest) × (m ≡ hold_model l.model) × (k ≡ hold_marking (eos.canonical l.start)))
 model_to_c s m k = (
-  λ e. (accepted_is_printed s m k).0 (accepted_to_c (model_reading s) m k (accepted_zero s (ap (λ (r : ModelRead). r.number) e)) e),
+  λ e. let a = accepted_zero s (ap (λ (r : ModelRead). r.number) e) in (accepted_is_printed s m k).0 (accepted_to_c (model_reading s) a.0 m k a.1 e),
   λ h. ap model_read ((accepted_is_printed s m k).1 h),
 )
 
@@ -131,11 +133,11 @@ marking_to_c m s =
 
 -- the number 0 is a step that fired
 fired_zero : (m : Model) (k : Marking) (s : Text) → (step_pair (stepping m k s).answer).number ≡ 0
-    → Lent longest s (held_both m k) × (next : ℕ) × ((stepping m k s).answer ≡ step.Fired next)
+    → Lent longest s (held_both m k) × (next : ℕ) × ((stepping m k s).answer ≡ Ok next)
 fired_zero m k s z =
     let w = ((step-number m k s).good.0 z).0 in
     let same = ap (λ (r : Stepped). r.answer) (step-held m k s w.short w.is_held) in
-    let f = held-fired m k s w.short (ap (λ (a : StepAnswer). (step_pair a).number) same ∙ z) in
+    let f = held-fired m k s w.short (ap (λ (a : Result ℕ StepRefusal). (step_pair a).number) same ∙ z) in
     (w, f.0, sym same ∙ f.1)
 
 -- the step call answers 0 exactly where the text brings a step that the rule allows and that leaves room
@@ -143,7 +145,7 @@ pub step_to_c : (m : Model) (k : Marking) (s : Text) → ((step_done (stepping m
     ↔ (Lent longest s (held_both m k) × (next : ℕ) × Brings m k s next)
 step_to_c m k s = (
   λ z. let (w, next, f) = fired_zero m k s z in (w, next, (fires_exactly m k s next w.is_held w.short).only f),
-  λ (w, next, b). ap (λ (a : StepAnswer). (step_pair a).number) ((fires_exactly m k s next w.is_held w.short).always b),
+  λ (w, next, b). ap (λ (a : Result ℕ StepRefusal). (step_pair a).number) ((fires_exactly m k s next w.is_held w.short).always b),
 )
 
 -- and then it says the bytes used and returns the marking after the step
@@ -165,7 +167,7 @@ weights_to_c m k s = (
       let u = ((weight_number m k s).good.0 z).0 in
       let (w, x, e, p) = (weights_exactly m k s u.is_held u.short).0 (weight_passed m k s z) in
       (u, w, x, e, p),
-  λ (u, w, x, e, p). ap (λ (a : WeightAnswer). (weight_pair a).number) ((weights_exactly m k s u.is_held u.short).1 (w, x, e, p)),
+  λ (u, w, x, e, p). ap (λ (a : Result WeightCheck WeightRefusal). (weight_pair a).number) ((weights_exactly m k s u.is_held u.short).1 (w, x, e, p)).1,
 )
 
 cover_one : (b : Bool) → ◌≡◌ {A = ℕ} (cond b 1 0) 1 ↔ (b ≡ true)
@@ -181,7 +183,7 @@ pub passed_to_c : (m : Model) (k : Marking) (s : Text) → Lent longest s (held_
 passed_to_c m k s u w x e p =
     let sum = sum_exactly m k s u.is_held u.short w x e p in
     let cover = cover_exactly m k s u.is_held u.short w x e p in
-    let one = cover_one (weight_checking m k s).cover in
+    let one = cover_one (check_given (weight_checking m k s)).cover in
     (ap (λ (c : Sum). c.above) sum, ap (λ (c : Sum). c.below) sum, (λ h. cover.0 (one.0 h), λ c. one.1 (cover.1 c)))
 
 -- ---- demand 3
@@ -189,12 +191,9 @@ passed_to_c m k s u w x e p =
 said_zero : (m : Model) (k : Marking) (s : Text) → eqb (step_pair (stepping m k s).answer).number 0 ≡ says_fired (stepping m k s).answer
 said_zero m k s = go (stepping m k s).answer (λ z. let (w, n, e) = fired_zero m k s z in (n, e))
   where
-    go : (a : StepAnswer) → ((step_pair a).number ≡ 0 → (n : ℕ) × (a ≡ step.Fired n)) → eqb (step_pair a).number 0 ≡ says_fired a
-    go (step.Fired n) h = refl
-    go step.TooLong h = refl
-    go step.NotHeld h = refl
-    go (step.Faulty e) h = ne_eqb (cause_number e.cause) 0 (λ z. let y : ◌≡◌ {A = StepAnswer} (step.Faulty e) (step.Fired (h z).0) = (h z).1 in let w : ◌≡◌ {A = ℕ} 0 1 = cc in omega arith)
-    go (step.Turned cause beside) h = ne_eqb cause 0 (λ z. let y : ◌≡◌ {A = StepAnswer} (step.Turned cause beside) (step.Fired (h z).0) = (h z).1 in let w : ◌≡◌ {A = ℕ} 0 1 = cc in omega arith)
+    go : (a : Result ℕ StepRefusal) → ((step_pair a).number ≡ 0 → (n : ℕ) × (a ≡ Ok n)) → eqb (step_pair a).number 0 ≡ says_fired a
+    go (Ok n) h = refl
+    go (Err e) h = ne_eqb (unfired_pair e).number 0 (λ z. unfired≢fired (h z).1)
 
 module _ (m : Model) where
   left_to_c_lem : (texts : List Text) (k : Marking) → left_to_c m k texts ≡ left_by m k texts
@@ -211,10 +210,11 @@ covered : (text file : Text) (m : Model) (k : Marking) (sum : Sum) → CoveredTo
 covered text file m k sum c =
     let a = accepted_zero text (ap (λ (r : ModelRead). r.number) c.accepted) in
     let p = weight_passed m k file (ap (λ (r : Weighed). r.number) c.passed) in
-    let q = (cover_one (weight_checking m k file).cover).0 (ap (λ (r : Weighed). r.cover) c.passed) in
+    let f : weights_checked (Ok p.0) ≡ _ = ap weights_checked (sym p.1) ∙ c.passed in
+    let q : p.0.cover ≡ true = (cover_one p.0.cover).0 (ap (λ (r : Weighed). r.cover) f) in
     record {
-      accepted = accepted_to_c (model_reading text) m k a c.accepted;
-      passed = λ i. record { answer = p i; sum = record { above = (c.passed i).above; below = (c.passed i).below }; cover = q i };
+      accepted = accepted_to_c (model_reading text) a.0 m k a.1 c.accepted;
+      passed = p.1 ∙ (λ i. Ok (record { sum = record { above = (f i).above; below = (f i).below }; cover = q i }));
     }
 
 -- demand 3 at the numbers

@@ -24,25 +24,23 @@ use Rattle.reader.specs.Reading.{Loaded, read_model, right_loaded}
 use Rattle.reader.proofs.ReadsWhatItSays.{reads_what_it_says}
 use Rattle.reader.proofs.HeldExactly.{accepted_is_printed}
 use Rattle.runner.specs.Answers.{step_pair, stepping}
-use Rattle.runner.specs.declared.StepAnswer.{StepAnswer}
-use Rattle.runner.specs.declared.StepAnswer.TheVariants.{Fired, TooLong, NotHeld, Faulty, Turned}
 use Rattle.keeper.specs.Answers.{weight_checking}
 use Rattle.keeper.specs.declared.Sum.{Sum}
-use Rattle.keeper.specs.declared.WeightAnswer.TheVariants.{Passed}
 use Rattle.keeper.proofs.WeightsExactly.{covers_parts}
 use Rattle.promises.specs.WholeRun.{brings, own_run, own_fired, left_by, answers_of, says_fired, racks, Covered, WholeRun}
 use Rattle.promises.proofs.BringLaws.{brings-known}
 use Rattle.promises.proofs.AgreeLaws.{cause_of, call, holdable-tokens, agrees}
 use Rattle.promises.proofs.PremiseLaws.{Balances, model_right, start-made, start_balances}
+use Rattle.std.specs.Prelude.{Ok, Result, Err}
+use Rattle.runner.specs.declared.StepRefusal.{StepRefusal}
+use Rattle.runner.specs.declared.StepRefusal.TheVariants.{Unread}
+use Rattle.reader.specs.declared.ReadRefusal.TheVariants.{NotHeld}
 
 -- ---- the step calls, as an engine's calls
 
-said_cause : (a : StepAnswer) → says_fired a ≡ has_fired (cause_of a)
-said_cause (Fired n) = refl
-said_cause TooLong = refl
-said_cause NotHeld = refl
-said_cause (Faulty d) = refl
-said_cause (Turned cause beside) = refl
+said_cause : (a : Result ℕ StepRefusal) → says_fired a ≡ has_fired (cause_of a)
+said_cause (Ok n) = refl
+said_cause (Err e) = refl
 
 module _ (m : Model) where
   left-held : (texts : List Text) (k : Marking) → left_by m k texts ≡ calls_held (call m) texts k
@@ -56,17 +54,18 @@ module _ (m : Model) where
   said_fired (s ∷ texts) k = ap₂ ◌∷◌ (said_cause (stepping m k s).answer) (said_fired texts (stepping m k s).marking)
 
 -- a call that said fired has number 0
-fired-number : (a : StepAnswer) → says_fired a ≡ true → (step_pair a).number ≡ 0
-fired-number (Fired n) h = refl
-fired-number TooLong h = absurd (false≢true h)
-fired-number NotHeld h = absurd (false≢true h)
-fired-number (Faulty d) h = absurd (false≢true h)
-fired-number (Turned cause beside) h = absurd (false≢true h)
+fired-number : (a : Result ℕ StepRefusal) → says_fired a ≡ true → (step_pair a).number ≡ 0
+fired-number (Ok n) h = refl
+fired-number (Err e) h = absurd (false≢true h)
+
+-- no call
+abbrev none_said : Result ℕ StepRefusal
+none_said = Err (Unread NotHeld)
 
 -- and so has the call at an index at which the run fired
-number_at : (l : List StepAnswer) (fs : List Bool) → map says_fired l ≡ fs → (i : ℕ) → get_or fs i false ≡ true → (step_pair (get_or l i NotHeld)).number ≡ 0
+number_at : (l : List (Result ℕ StepRefusal)) (fs : List Bool) → map says_fired l ≡ fs → (i : ℕ) → get_or fs i false ≡ true → (step_pair (get_or l i none_said)).number ≡ 0
 number_at l fs e i h =
-    fired-number (get_or l i NotHeld) (sym (get_or-map says_fired l i NotHeld) ∙ ap (λ (bs : List Bool). get_or bs i false) e ∙ h)
+    fired-number (get_or l i none_said) (sym (get_or-map says_fired l i none_said) ∙ ap (λ (bs : List Bool). get_or bs i false) e ∙ h)
 
 -- ---- the run from a right model and its start
 
@@ -137,7 +136,7 @@ run_as : (text file : Text) (m n : Model) (k j : Marking) (sum : Sum) (texts : L
 run_as text file m n k j sum texts p q h = rw (p, q) h
 
 passed_as : (file : Text) (m n : Model) (k j : Marking) (sum : Sum) → m ≡ n → k ≡ j
-    → weight_checking m k file ≡ record { answer = Passed; sum = sum; cover = true } → weight_checking n j file ≡ record { answer = Passed; sum = sum; cover = true }
+    → weight_checking m k file ≡ Ok (record { sum = sum; cover = true }) → weight_checking n j file ≡ Ok (record { sum = sum; cover = true })
 passed_as file m n k j sum p q h = rw (p, q) at h
 
 -- the model text was accepted and the weight file passed with cover 1; then every list of step calls is a whole run

@@ -1,6 +1,6 @@
 -- Demand 3 (00), as 01 says it in "The promises and the table": one statement over the whole list of step calls, at the definitions that
 -- the contracts of the calls cite.
-use Rattle.std.specs.Prelude.{◌≡◌, Bool, true, false, ◌≢◌, List, [], ◌∷◌, map, ℕ, ◌/◌, ◌≤◌, ◌<◌, leb, pos, nat_abs, length, get_or}
+use Rattle.std.specs.Prelude.{◌≡◌, Bool, true, false, ◌≢◌, List, [], ◌∷◌, map, ℕ, ◌/◌, ◌≤◌, ◌<◌, leb, pos, nat_abs, length, get_or, Result, Ok, Err}
 use Rattle.std.proofs.Math.Option.{Option, none, some}
 use Rattle.text.specs.Bytes.{Text}
 use Rattle.text.specs.Lines.{Outcome, got, bad}
@@ -17,16 +17,15 @@ use Rattle.marking.specs.declared.Marking.{Marking}
 use Rattle.reader.specs.Reading.{Loaded, read_model}
 use Rattle.marking.specs.Sizes.{sizes_for}
 use Rattle.reader.specs.Answers.{model_reading}
-use Rattle.reader.specs.declared.ReadAnswer.TheVariants.{Accepted}
 use Rattle.step.specs.Reading.{read_step}
 use Rattle.runner.specs.Answers.{step_pair, stepping}
-use Rattle.runner.specs.declared.StepAnswer.{StepAnswer}
-use Rattle.runner.specs.declared.StepAnswer.TheVariants.{Fired, TooLong, NotHeld, Faulty, Turned}
 use Rattle.keeper.specs.Reading.{read_weight_file}
 use Rattle.keeper.specs.Answers.{weight_checking}
 use Rattle.keeper.specs.Covering.{Covering}
 use Rattle.keeper.specs.declared.Sum.{Sum}
-use Rattle.keeper.specs.declared.WeightAnswer.TheVariants.{Passed}
+use Rattle.reader.specs.declared.ReadRefusal.TheVariants.{NotHeld}
+use Rattle.runner.specs.declared.StepRefusal.{StepRefusal}
+use Rattle.runner.specs.declared.StepRefusal.TheVariants.{Unread}
 
 -- ---- the rule's own run
 
@@ -56,16 +55,13 @@ unfoldable pub left_by : Model → Marking → List Text → Marking
 left_by m k [] = k
 left_by m k (s ∷ texts) = left_by m (stepping m k s).marking texts
 
-unfoldable pub answers_of : Model → Marking → List Text → List StepAnswer
+unfoldable pub answers_of : Model → Marking → List Text → List (Result ℕ StepRefusal)
 answers_of m k [] = []
 answers_of m k (s ∷ texts) = (stepping m k s).answer ∷ answers_of m (stepping m k s).marking texts
 
-abbrev pub says_fired : StepAnswer → Bool
-says_fired (Fired n) = true
-says_fired TooLong = false
-says_fired NotHeld = false
-says_fired (Faulty d) = false
-says_fired (Turned cause beside) = false
+abbrev pub says_fired : Result ℕ StepRefusal → Bool
+says_fired (Ok n) = true
+says_fired (Err e) = false
 
 -- the net-tokens of a held marking
 abbrev pub racks : Model → Marking → eos.Marking
@@ -75,8 +71,8 @@ racks m k = tokens_of (sizes_for m) k
 
 -- a model text was accepted with this held model and this held marking, and a weight file passed for them with this sum and cover 1
 pub record Covered (text file : Text) (m : Model) (k : Marking) (sum : Sum) : Type 0 where
-  pub accepted : model_reading text ≡ record { answer = Accepted; model = m; start = k }
-  pub passed : weight_checking m k file ≡ record { answer = Passed; sum = sum; cover = true }
+  pub accepted : model_reading text ≡ Ok (record { model = m; start = k })
+  pub passed : weight_checking m k file ≡ Ok (record { sum = sum; cover = true })
 
 -- after the step calls with any list of texts, lent the held model and at first that held marking
 pub record WholeRun (text file : Text) (m : Model) (k : Marking) (sum : Sum) (texts : List Text) : Type 0 where
@@ -92,7 +88,7 @@ pub record WholeRun (text file : Text) (m : Model) (k : Marking) (sum : Sum) (te
   pub fired : map says_fired (answers_of m k texts) ≡ own_fired plant texts
   -- and no such text was answered 3 or 12
   pub room : (i : ℕ) → get_or (own_fired plant texts) i false ≡ true
-      → ((step_pair (get_or (answers_of m k texts) i NotHeld)).number ≢ 3) × ((step_pair (get_or (answers_of m k texts) i NotHeld)).number ≢ 12)
+      → ((step_pair (get_or (answers_of m k texts) i (Err (Unread NotHeld)))).number ≢ 3) × ((step_pair (get_or (answers_of m k texts) i (Err (Unread NotHeld)))).number ≢ 12)
   -- the weighted sum of the held marking equals the sum reported, which is not below 0
   pub kept : weigh (model_of m) weights (racks m (left_by m k texts)) ≡ pos sum.above
   pub whole : sum.below ≡ 0

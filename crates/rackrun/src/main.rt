@@ -1,7 +1,7 @@
 // Reads the files `model`, `weights` and `trace` of its folder and prints their listing.
 #![tactic(auto)]
 
-use engine::{WriteAnswer, listing};
+use engine::listing;
 use files::load;
 use std::io;
 
@@ -14,7 +14,7 @@ fn print_listing(
     out: &mut [u8],
 ) -> io::Result<()> {
     let answer = listing(model, weights, trace, out);
-    let WriteAnswer::Written { bytes } = answer else {
+    let Ok(bytes) = answer else {
         return Ok(());
     };
     rt.write_all(&out[..bytes])

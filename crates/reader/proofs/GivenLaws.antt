@@ -1,6 +1,5 @@
 -- What some accepted reading gives (01's cause 14, turned round): its numbers fit their types, so the laws of held things need no premise
 -- on them; and what is read for such a model is given by an accepted reading too.
-use Prim.Native.Nat.{ℕ}
 use mathlib.Core.Path.{◌≡◌, refl, ap, sym, subst, ◌∙◌}
 use mathlib.Core.Bool.{Bool, true, false}
 use native.Mathlib.Omega.{arith}
@@ -26,11 +25,11 @@ use Rattle.marking.proofs.HoldMarking as hold
 use Rattle.marking.proofs.SizeLaws.{held_roomy, sizes_same}
 use Rattle.marking.proofs.SizedLaws as marking
 use Rattle.reader.specs.Reading.{bounds, read_marking}
-use Rattle.reader.specs.Answers.{restored, marking_or, marking_reading, held_both, held_in}
-use Rattle.reader.specs.declared.ReadAnswer.TheVariants.{Accepted, NotHeld}
+use Rattle.reader.specs.Answers.{restored, marking_or, marking_reading, marking_given, held_both, held_in}
+use Rattle.std.specs.Prelude.{Ok}
 use Rattle.reader.proofs.ReadsWhatItSays.{ended}
 use Rattle.reader.proofs.ReadingLaws.{both_model}
-use Rattle.reader.proofs.HeldExactly.{Accepts, long≢accepted, faulty≢accepted, accepted_is_printed, right_parts, canonical-held, accepted-held, held_exactly}
+use Rattle.reader.proofs.HeldExactly.{Accepts, refused≢accepted, accepted_is_printed, right_parts, canonical-held, accepted-held, held_exactly}
 
 -- some accepted reading gives this held model and this held marking of it
 abbrev pub Given : Model → Marking → Type 0
@@ -72,28 +71,25 @@ given_marking m k (s, e) =
 
 -- ---- a marking that is read for a held model
 
-unheld≢accepted : NotHeld ≡ Accepted → ⊥
-unheld≢accepted e = let z : ◌≡◌ {A = ℕ} 0 1 = cc in omega arith
-
 module _ (m : Model) (sized : SizedModel m) (s : Text) where
-  restored-given : held_model m ≡ true → (o : Outcome eos.Marking) → read_marking (sizes_for m) s ≡ o → (restored s o).answer ≡ Accepted → Given m (restored s o).marking
+  restored-given : held_model m ≡ true → (o : Outcome eos.Marking) → read_marking (sizes_for m) s ≡ o → (k : Marking) → restored s o ≡ Ok k → Given m k
   unfolding restored
-  restored-given held (got μ x) e a =
+  restored-given held (got μ x) e k a =
       let z = sizes_for m in
       let p = ended (read_block (bytes "start=") bounds z s 0) s μ x e in
       let right = ((block_exactly bounds z s (bytes "start=")).back 0 μ x p.0).fine-is in
-      tokens-given m held (eos.canonical μ) (canonical-held z μ right) sized
-  restored-given held (bad d) e a = absurd (faulty≢accepted a)
+      subst (Given m) (ap marking_given a) (tokens-given m held (eos.canonical μ) (canonical-held z μ right) sized)
+  restored-given held (bad d) e k a = refused≢accepted a
 
-  tested_given : (b : Bool) → held_model m ≡ b → (marking_or b m s).answer ≡ Accepted → Given m (marking_or b m s).marking
+  tested_given : (b : Bool) → held_model m ≡ b → (k : Marking) → marking_or b m s ≡ Ok k → Given m k
   unfolding marking_or
-  tested_given true h a = restored-given h (read_marking (sizes_for m) s) refl a
-  tested_given false h a = absurd (unheld≢accepted a)
+  tested_given true h k a = restored-given h (read_marking (sizes_for m) s) refl k a
+  tested_given false h k a = refused≢accepted a
 
   -- what is read is given
-  pub reading_given : (marking_reading m s).answer ≡ Accepted → Given m (marking_reading m s).marking
+  pub reading_given : (k : Marking) → marking_reading m s ≡ Ok k → Given m k
   unfolding marking_reading
-  reading_given a =
+  reading_given k a =
       by_test (leb (length s) longest)
-      (λ h. rw (h, marking_reading) (tested_given (held_model m) refl (rw (h, marking_reading) at a)))
-      (λ h. absurd (long≢accepted (rw (h, marking_reading) at a)))
+      (λ h. tested_given (held_model m) refl k (rw (h, marking_reading) at a))
+      (λ h. refused≢accepted (rw (h, marking_reading) at a))

@@ -12,7 +12,6 @@ use borrow.Author.Tests.{le-leb, leb-true}
 use Rattle.text.specs.Bytes.{Text}
 use Rattle.text.proofs.Basics.{by_test, and_true}
 use Rattle.text.specs.Lines.{Outcome, got, bad, every}
-use Rattle.text.specs.declared.Spot.{Spot}
 use Rattle.text.proofs.TestLaws.{and_both}
 use Rattle.text.proofs.Unique.{was_printed}
 use Rattle.eos.specs.Model as eos
@@ -41,17 +40,17 @@ use Rattle.marking.proofs.WriteLaws.{marking_length}
 use Rattle.reader.specs.Reading.{bounds, Loaded, read_lines, read_model, read_marking, right_loaded, read_model_at}
 use Rattle.reader.specs.Printed.{model_text}
 use Rattle.marking.specs.Sizes.{sizes_for}
-use Rattle.reader.specs.Answers.{loaded, model_reading, restored, marking_or, marking_reading, held_both, held_in}
-use Rattle.reader.specs.declared.ReadAnswer.TheVariants.{Accepted, TooLong, Faulty}
+use Rattle.reader.specs.Answers.{loaded, model_reading, model_given, restored, marking_or, marking_reading, held_both, held_in}
+use Rattle.reader.specs.declared.ReadRefusal.{ReadRefusal}
 use Rattle.reader.specs.declared.ModelReading.{ModelReading}
-use Rattle.reader.specs.declared.MarkingReading.{MarkingReading}
+use Rattle.std.specs.Prelude.{Result, Ok, Err}
 use Rattle.reader.proofs.ReadsWhatItSays.{ended, lines_exactly, reads_what_it_says, reads_what_marking_says}
 use Rattle.marking.proofs.SizeLaws.{held_roomy, sizes_same}
 
 -- ---- accepted is printed
 
-abbrev pub accepted : Model → Marking → ModelReading
-accepted m k = record { answer = Accepted; model = m; start = k }
+abbrev pub accepted : Model → Marking → Result ModelReading ReadRefusal
+accepted m k = Ok (record { model = m; start = k })
 
 -- a text is accepted with this held model and this held start
 abbrev pub Accepts : Text → Model → Marking → Type 0
@@ -65,11 +64,8 @@ Printed s m k =
     × (k ≡ hold_marking (eos.canonical l.start))
 
 -- what is refused is not accepted
-pub long≢accepted : TooLong ≡ Accepted → ⊥
-long≢accepted e = let z : ◌≡◌ {A = ℕ} 0 1 = cc in omega arith
-
-pub faulty≢accepted : {d : Spot} → Faulty d ≡ Accepted → ⊥
-faulty≢accepted e = let z : ◌≡◌ {A = ℕ} 0 1 = cc in omega arith
+pub refused≢accepted : {A G : Type 0} {e : ReadRefusal} {a : A} → ◌≡◌ {A = Result A ReadRefusal} (Err e) (Ok a) → G
+refused≢accepted h = let z : ◌≡◌ {A = ℕ} 0 1 = cc in absurd (omega arith)
 
 -- equal models and starts are accepted alike
 accepts_as : (s : Text) (m n : Model) (k l : Marking) → m ≡ n → k ≡ l → Accepts s n l → Accepts s m k
@@ -81,15 +77,16 @@ module _ (s : Text) (m : Model) (k : Marking) where
   got_printed (got l x) e h f =
       let p = ended (read_lines s 0) s l x e in
       let w = was_printed read_lines model_text right_loaded lines_exactly s l x p.0 p.1 in
-      (l, w.0, w.1, h, ap (λ (r : ModelReading). r.model) (sym f), ap (λ (r : ModelReading). r.start) (sym f))
-  got_printed (bad d) e h f = absurd (faulty≢accepted (ap (λ (r : ModelReading). r.answer) f))
+      let r = sym (ap model_given f) in
+      (l, w.0, w.1, h, ap (λ (r : ModelReading). r.model) r, ap (λ (r : ModelReading). r.start) r)
+  got_printed (bad d) e h f = refused≢accepted f
 
   accepted_printed : Accepts s m k → Printed s m k
   unfolding model_reading
   accepted_printed e =
       by_test (leb (length s) longest)
       (λ h. got_printed (read_model s) refl (leb-true (length s) longest h) (rw (h, model_reading) at e))
-      (λ h. absurd (long≢accepted (ap (λ (r : ModelReading). r.answer) (rw (h, model_reading) at e))))
+      (λ h. refused≢accepted (rw (h, model_reading) at e))
 
   printed_accepted : Printed s m k → Accepts s m k
   unfolding model_reading loaded
@@ -204,7 +201,7 @@ module _ (m : Model) (sized : model.SizedModel m) where
 
 -- the text of a held marking of a held model is accepted, and the marking is given back
 pub written_reads_back : (m : Model) (k : Marking) → marking.SizedMarking k → held_both m k ≡ true
-    → marking_reading m (marking_text (tokens_of (sizes_for m) k)) ≡ record { answer = Accepted; marking = k }
+    → marking_reading m (marking_text (tokens_of (sizes_for m) k)) ≡ Ok k
 unfolding held_in marking_reading marking_or restored
 written_reads_back m k small h =
     let a = and_true (held_model m) _ h in
@@ -214,6 +211,5 @@ written_reads_back m k small h =
     let s = marking_text μ in
     let n = marking_length z (held_roomy m a.0) (omega (arith, most-places m (held-is m a.0))) μ b.0.right in
     let r = (reads_what_marking_says z s μ).1 (refl, b.0.right) in
-    let q : restored s (read_marking z s) ≡ record { answer = Accepted; marking = k } =
-    ap (restored s) r ∙ ap {B = MarkingReading} (λ k. record { answer = Accepted; marking = k }) (ap hold_marking b.0.ordered ∙ sym b.1) in
+    let q : restored s (read_marking z s) ≡ Ok k = ap (restored s) r ∙ ap Ok (ap hold_marking b.0.ordered ∙ sym b.1) in
     rw (le-leb (length s) longest (omega arith), marking_reading, a.0) q

@@ -1,11 +1,11 @@
 -- What the calls that read and test answer, by how their parts ended.
 use Prim.Native.Nat.{ℕ, ◌≤◌, ◌<◌}
-use mathlib.Core.Path.{◌≡◌, ap, ◌∙◌}
+use mathlib.Core.Path.{◌≡◌, ap, ◌∙◌, sym}
 use mathlib.Core.Bool.{Bool, true, false}
 use lib.ListN.{length}
-use borrow.Author.Tests.{le-leb, lt-leb}
+use borrow.Author.Tests.{le-leb, lt-leb, leb-false, leb-true}
 use Rattle.text.specs.Bytes.{Text}
-use Rattle.text.proofs.Basics.{and_true}
+use Rattle.text.proofs.Basics.{and_true, by_le, by_test}
 use Rattle.text.specs.Lines.{Outcome, got, bad}
 use native.Mathlib.Omega.{arith}
 use Rattle.std.specs.declared.result.Result.TheVariants.{Ok, Err}
@@ -21,10 +21,12 @@ use Rattle.marking.specs.Answers.{hold_block}
 use Rattle.marking.specs.declared.Marking.{Marking}
 use Rattle.marking.proofs.SizeLaws.{held_roomy}
 use Rattle.reader.specs.Reading.{Loaded, read_model, read_marking}
-use Rattle.reader.specs.Answers.{faulty, no_reading, loaded, no_tokens, restored, held_both, model_reading, marking_or, marking_reading, held_in}
+use Rattle.reader.specs.Answers.{faulty, loaded, restored, held_both, model_reading, marking_or, marking_reading, held_in, admitted, short}
 use Rattle.reader.specs.Parts.{hold_loaded}
-use Rattle.reader.specs.declared.ReadAnswer.TheVariants.{Accepted, TooLong, NotHeld}
 use Rattle.marking.specs.declared.PlaceSizes.{PlaceSizes}
+use Rattle.reader.specs.declared.ReadRefusal.TheVariants.{NotHeld, TooLong}
+use Rattle.reader.specs.declared.ReadRefusal.{ReadRefusal}
+use lib.Dec.{leb}
 
 -- there is room for the counts of a held model's net-tokens
 pub sizes_roomy : (m : Model) → held_model m ≡ true → (z : PlaceSizes) → z ≡ place_sizes m → Roomy (as_sizes z)
@@ -47,58 +49,115 @@ module _ (m : Model) (k : Marking) where
   unfolding held_in
   both_model h = (and_true (held_model m) _ h).0
 
+-- ---- a text that is too long, and one that is not
+
+module _ (s : Text) where
+  pub short_ok : Ok tt ≡ short s → length s ≤ longest
+  unfolding short
+  short_ok e =
+      by_test (leb (length s) longest) (leb-true (length s) longest)
+      (λ h. let w = rw (h, short) at e in let z : ◌≡◌ {A = ℕ} 0 1 = cc in absurd (omega arith))
+
+  pub short_err : (e : ReadRefusal) → Err e ≡ short s → (e ≡ TooLong) × (longest < length s)
+  unfolding short
+  short_err e h =
+      by_test (leb (length s) longest)
+      (λ t. let w = rw (t, short) at h in let z : ◌≡◌ {A = ℕ} 0 1 = cc in absurd (omega arith))
+      (λ t. let w = rw (t, short) at h in (cc, leb-false (length s) longest t))
+
+  pub short_within : length s ≤ longest → Ok tt ≡ short s
+  unfolding short
+  short_within h = rw (le-leb (length s) longest h, short)
+
+  pub short_past : longest < length s → Err TooLong ≡ short s
+  unfolding short
+  short_past h = rw (lt-leb (length s) longest h, short)
+
 -- ---- a model
 
 module _ (s : Text) where
-  pub model-long : longest < length s → no_reading TooLong ≡ model_reading s
+  pub model-long : (e : ReadRefusal) → Err e ≡ short s → Err e ≡ model_reading s
   unfolding model_reading
-  model-long h = rw (lt-leb (length s) longest h, model_reading)
+  model-long e h = let l = short_err s e h in rw (l.0, lt-leb (length s) longest l.1, model_reading)
 
   -- a line is refused, or all are read
-  pub model_refused : length s ≤ longest → (e : Fault) → Err e ≡ accepted (kept hold_loaded (read_model s)) → no_reading (faulty s e) ≡ model_reading s
+  pub model_refused : length s ≤ longest → (e : Fault) → Err e ≡ accepted (kept hold_loaded (read_model s)) → Err (faulty s e) ≡ model_reading s
   unfolding model_reading accepted kept loaded
   model_refused few e h = rw (le-leb (length s) longest few, model_reading) (go (read_model s) h)
     where
-      go : (o : Outcome Loaded) → Err e ≡ accepted (kept hold_loaded o) → no_reading (faulty s e) ≡ loaded s o
+      go : (o : Outcome Loaded) → Err e ≡ accepted (kept hold_loaded o) → Err (faulty s e) ≡ loaded s o
       go (got l x) k = let z : ◌≡◌ {A = ℕ} 0 1 = cc in absurd (omega arith)
       go (bad d) k = let z : e ≡ d = cc in rw z
 
   pub model_accepted : length s ≤ longest → (m : Model) (k : Marking) → Ok (m, k) ≡ accepted (kept hold_loaded (read_model s))
-      → record { answer = Accepted; model = m; start = k } ≡ model_reading s
+      → Ok (record { model = m; start = k }) ≡ model_reading s
   unfolding model_reading accepted kept loaded
   model_accepted few m k h = rw (le-leb (length s) longest few, model_reading) (go (read_model s) h)
     where
-      go : (o : Outcome Loaded) → Ok (m, k) ≡ accepted (kept hold_loaded o) → record { answer = Accepted; model = m; start = k } ≡ loaded s o
+      go : (o : Outcome Loaded) → Ok (m, k) ≡ accepted (kept hold_loaded o) → Ok (record { model = m; start = k }) ≡ loaded s o
       go (got l x) h = let z : ◌≡◌ {A = Model × Marking} (m, k) (hold_loaded l) = cc in rw (ap (λ (p : Model × Marking). p.0) z, ap (λ (p : Model × Marking). p.1) z)
       go (bad d) h = let z : ◌≡◌ {A = ℕ} 0 1 = cc in absurd (omega arith)
 
 -- ---- a marking
 
 module _ (m : Model) (s : Text) where
-  pub marking_long : longest < length s → no_tokens TooLong ≡ marking_reading m s
+  pub marking_long : (e : ReadRefusal) → Err e ≡ short s → Err e ≡ marking_reading m s
   unfolding marking_reading
-  marking_long h = rw (lt-leb (length s) longest h, marking_reading)
+  marking_long e h = let l = short_err s e h in rw (l.0, lt-leb (length s) longest l.1, marking_reading)
 
   module _ (few : length s ≤ longest) where
     -- the model is not held
-    pub marking_unheld : held_model m ≡ false → no_tokens NotHeld ≡ marking_reading m s
+    pub marking_unheld : held_model m ≡ false → Err NotHeld ≡ marking_reading m s
     unfolding marking_reading marking_or
     marking_unheld h = rw (le-leb (length s) longest few, marking_reading, h)
 
     -- a line is refused, or all are read
     module _ (held : held_model m ≡ true) (z : PlaceSizes) (is : z ≡ place_sizes m) where
-      pub marking_refused : (e : Fault) → Err e ≡ accepted (kept hold_block (read_marking (as_sizes z) s)) → no_tokens (faulty s e) ≡ marking_reading m s
+      pub marking_refused : (e : Fault) → Err e ≡ accepted (kept hold_block (read_marking (as_sizes z) s)) → Err (faulty s e) ≡ marking_reading m s
       unfolding marking_reading marking_or accepted kept restored
       marking_refused e h = rw (le-leb (length s) longest few, marking_reading, held) (go (read_marking (sizes_for m) s) (rw is at h))
         where
-          go : (o : Outcome eos.Marking) → Err e ≡ accepted (kept hold_block o) → no_tokens (faulty s e) ≡ restored s o
+          go : (o : Outcome eos.Marking) → Err e ≡ accepted (kept hold_block o) → Err (faulty s e) ≡ restored s o
           go (got l x) k = let z : ◌≡◌ {A = ℕ} 0 1 = cc in absurd (omega arith)
           go (bad d) k = let z : e ≡ d = cc in rw z
 
-      pub marking_accepted : (k : Marking) → Ok k ≡ accepted (kept hold_block (read_marking (as_sizes z) s)) → record { answer = Accepted; marking = k } ≡ marking_reading m s
+      pub marking_accepted : (k : Marking) → Ok k ≡ accepted (kept hold_block (read_marking (as_sizes z) s)) → Ok k ≡ marking_reading m s
       unfolding marking_reading marking_or accepted kept restored
       marking_accepted k h = rw (le-leb (length s) longest few, marking_reading, held) (go (read_marking (sizes_for m) s) (rw is at h))
         where
-          go : (o : Outcome eos.Marking) → Ok k ≡ accepted (kept hold_block o) → record { answer = Accepted; marking = k } ≡ restored s o
+          go : (o : Outcome eos.Marking) → Ok k ≡ accepted (kept hold_block o) → Ok k ≡ restored s o
           go (got μ x) h = let z : k ≡ hold_block μ = cc in rw z
           go (bad d) h = let z : ◌≡◌ {A = ℕ} 0 1 = cc in absurd (omega arith)
+
+-- ---- what every call on a model, a marking of it and a text asks first
+
+module _ (m : Model) (k : Marking) (s : Text) where
+  pub admitted_long : (e : ReadRefusal) → Err e ≡ short s → Err e ≡ admitted m k s
+  unfolding admitted
+  admitted_long e h = let l = short_err s e h in rw (l.0, lt-leb (length s) longest l.1, admitted)
+
+  module _ (few : length s ≤ longest) where
+    pub admitted_held : held_both m k ≡ true → Ok tt ≡ admitted m k s
+    unfolding admitted
+    admitted_held h = rw (le-leb (length s) longest few, admitted, h)
+
+    pub admitted_unheld : held_both m k ≡ false → Err NotHeld ≡ admitted m k s
+    unfolding admitted
+    admitted_unheld h = rw (le-leb (length s) longest few, admitted, h)
+
+  -- both are held, and the text is not too long
+  pub admitted_ok : Ok tt ≡ admitted m k s → (length s ≤ longest) × (held_both m k ≡ true)
+  admitted_ok e =
+      by_le (length s) longest
+      (λ few. (few, by_test (held_both m k) (λ h. h) (λ h. let w = e ∙ sym (admitted_unheld few h) in let z : ◌≡◌ {A = ℕ} 0 1 = cc in absurd (omega arith))))
+      (λ h. let w = e ∙ sym (admitted_long TooLong (short_past s h)) in let z : ◌≡◌ {A = ℕ} 0 1 = cc in absurd (omega arith))
+
+  -- refused: too long, or not held
+  pub admitted_err : {G : Type 0} (e : ReadRefusal) → Err e ≡ admitted m k s → (e ≡ TooLong → longest < length s → G)
+      → (e ≡ NotHeld → length s ≤ longest → held_both m k ≡ false → G) → G
+  admitted_err e h long unheld =
+      by_le (length s) longest
+      (λ few. by_test (held_both m k)
+      (λ t. let w = h ∙ sym (admitted_held few t) in let z : ◌≡◌ {A = ℕ} 0 1 = cc in absurd (omega arith))
+      (λ t. let w = h ∙ sym (admitted_unheld few t) in unheld (cc) few t))
+      (λ t. let w = h ∙ sym (admitted_long TooLong (short_past s t)) in long (cc) t)

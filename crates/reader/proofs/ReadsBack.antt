@@ -19,26 +19,23 @@ use Rattle.marking.specs.declared.Marking.{Marking}
 use Rattle.marking.proofs.SizeLaws.{held_roomy}
 use Rattle.marking.proofs.WriteLaws.{held-length}
 use Rattle.reader.specs.Answers.{Answered, marking_reading, held_both, lay_whole, marking_writing, held_in}
-use Rattle.reader.specs.declared.ReadAnswer.TheVariants.{Accepted}
-use Rattle.reader.specs.declared.WriteAnswer.TheVariants.{Written, Unheld, TooSmall}
 use Rattle.reader.proofs.WriteAnswers.{whole-fits, whole-short}
 use Rattle.reader.proofs.HeldExactly.{written_reads_back}
+use Rattle.std.specs.Prelude.{Ok, Result, Err}
+use Rattle.reader.specs.declared.WriteRefusal.{WriteRefusal}
 
-unheld≢written : {n : ℕ} → Unheld ≡ Written n → ⊥
-unheld≢written e = let z : ◌≡◌ {A = ℕ} 0 1 = cc in omega arith
-
-small≢written : {m n : ℕ} → TooSmall m ≡ Written n → ⊥
-small≢written e = let z : ◌≡◌ {A = ℕ} 0 1 = cc in omega arith
+refused≢written : {G : Type 0} {n : ℕ} {e : WriteRefusal} → ◌≡◌ {A = Result ℕ WriteRefusal} (Err e) (Ok n) → G
+refused≢written h = let z : ◌≡◌ {A = ℕ} 0 1 = cc in absurd (omega arith)
 
 -- a text that was laid whole stands in the first bytes
-laid_stands : (text : Text) (out : List ℕ) (n : ℕ) → (lay_whole text out).answer ≡ Written n → take n (lay_whole text out).bytes ≡ text
+laid_stands : (text : Text) (out : List ℕ) (n : ℕ) → (lay_whole text out).answer ≡ Ok n → take n (lay_whole text out).bytes ≡ text
 laid_stands text out n e =
     by_le (length text) (length out)
     (λ h.
-    let w : Written (length text) ≡ Written n = rw (← whole-fits text out h) at e in
+    let w : ◌≡◌ {A = Result ℕ WriteRefusal} (Ok (length text)) (Ok n) = rw (← whole-fits text out h) at e in
     let z : length text ≡ n = cc in
     rw (← whole-fits text out h) (laid_front text out 0 (sym z ∙ sym (zero-add (length text)), refl) (omega (arith, zero-add (length text)))))
-    (λ h. absurd (small≢written (rw (← whole-short text out h) at e)))
+    (λ h. refused≢written (rw (← whole-short text out h) at e))
 
 module _ (m : Model) (k : Marking) (out : List ℕ) where
   abbrev text : Text
@@ -49,14 +46,14 @@ module _ (m : Model) (k : Marking) (out : List ℕ) where
   held_writes h = rw (h, marking_writing)
 
   -- what is not held is not written
-  written_held : (n : ℕ) → (marking_writing m k out).answer ≡ Written n → held_both m k ≡ true
+  written_held : (n : ℕ) → (marking_writing m k out).answer ≡ Ok n → held_both m k ≡ true
   unfolding marking_writing
-  written_held n e = by_test (held_both m k) (λ h. h) (λ h. absurd (unheld≢written (rw (h, marking_writing) at e)))
+  written_held n e = by_test (held_both m k) (λ h. h) (λ h. refused≢written (rw (h, marking_writing) at e))
 
   module _ (sized : SizedMarking k) where
     -- where the writer answers n bytes, the first n of the lent bytes are accepted as the same marking
-    pub writing_reads_back : (n : ℕ) → (marking_writing m k out).answer ≡ Written n
-        → marking_reading m (take n (marking_writing m k out).bytes) ≡ record { answer = Accepted; marking = k }
+    pub writing_reads_back : (n : ℕ) → (marking_writing m k out).answer ≡ Ok n
+        → marking_reading m (take n (marking_writing m k out).bytes) ≡ Ok k
     writing_reads_back n e =
         let h = written_held n e in
         let w = held_writes h in
@@ -65,7 +62,7 @@ module _ (m : Model) (k : Marking) (out : List ℕ) where
         ap (marking_reading m) s ∙ written_reads_back m k sized h
 
     -- a held marking is written into any buffer of 51,466 bytes
-    pub writing_fits : held_both m k ≡ true → 51466 ≤ length out → (n : ℕ) × ((marking_writing m k out).answer ≡ Written n)
+    pub writing_fits : held_both m k ≡ true → 51466 ≤ length out → (n : ℕ) × ((marking_writing m k out).answer ≡ Ok n)
     unfolding held_in
     writing_fits h long =
         let a = and_true (held_model m) _ h in

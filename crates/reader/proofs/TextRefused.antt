@@ -30,7 +30,9 @@ use Rattle.marking.proofs.BlockExactly.{block_exactly}
 use Rattle.marking.proofs.BlockRefused.{BlockFaults, block_refuses}
 use Rattle.reader.specs.Reading.{bounds, Loaded, read_end, read_lines, read_model_at, read_marking_at, right_loaded}
 use Rattle.reader.specs.Answers.{loaded, model_reading, restored, marking_or, marking_reading}
-use Rattle.reader.specs.declared.ReadAnswer.TheVariants.{Accepted, TooLong, NotHeld, Faulty}
+use Rattle.reader.specs.declared.ReadRefusal.{ReadRefusal}
+use Rattle.reader.specs.declared.ReadRefusal.TheVariants.{TooLong, NotHeld, Faulty}
+use Rattle.std.specs.Prelude.{Result, Ok, Err}
 use Rattle.reader.specs.Printed.{model_text}
 use Rattle.reader.proofs.ReadsWhatItSays.{lines_exactly}
 use Rattle.text.specs.declared.Cause.TheVariants.{Syntax}
@@ -78,27 +80,28 @@ module _ (s : Text) where
 
 -- ---- at the calls
 
-accepted≢faulty : {p : Spot} → Accepted ≡ Faulty p → ⊥
-accepted≢faulty e = let z : ◌≡◌ {A = ℕ} 0 1 = cc in omega arith
-
-long≢faulty : {p : Spot} → TooLong ≡ Faulty p → ⊥
-long≢faulty e = let z : ◌≡◌ {A = ℕ} 0 1 = cc in omega arith
-
-unheld≢faulty : {p : Spot} → NotHeld ≡ Faulty p → ⊥
-unheld≢faulty e = let z : ◌≡◌ {A = ℕ} 0 1 = cc in omega arith
-
-faulty-is : {p q : Spot} → Faulty q ≡ Faulty p → p ≡ q
+faulty-is : {A : Type 0} {p q : Spot} → ◌≡◌ {A = Result A ReadRefusal} (Err (Faulty q)) (Err (Faulty p)) → p ≡ q
 faulty-is e = cc
 
+-- an answer that names no fault
+long≢faulty : {A G : Type 0} {p : Spot} → ◌≡◌ {A = Result A ReadRefusal} (Err TooLong) (Err (Faulty p)) → G
+long≢faulty e = let z : ◌≡◌ {A = ℕ} 0 1 = cc in absurd (omega arith)
+
+unheld≢faulty : {A G : Type 0} {p : Spot} → ◌≡◌ {A = Result A ReadRefusal} (Err NotHeld) (Err (Faulty p)) → G
+unheld≢faulty e = let z : ◌≡◌ {A = ℕ} 0 1 = cc in absurd (omega arith)
+
+accepted≢faulty : {A G : Type 0} {a : A} {p : Spot} → ◌≡◌ {A = Result A ReadRefusal} (Ok a) (Err (Faulty p)) → G
+accepted≢faulty e = let z : ◌≡◌ {A = ℕ} 0 1 = cc in absurd (omega arith)
+
 -- which fault an answer names
-loaded_names : (s : Text) (o : Outcome Loaded) (p : Spot) → (loaded s o).answer ≡ Faulty p → (e : Fault) × (o ≡ bad e) × (p ≡ spot_of s e)
+loaded_names : (s : Text) (o : Outcome Loaded) (p : Spot) → loaded s o ≡ Err (Faulty p) → (e : Fault) × (o ≡ bad e) × (p ≡ spot_of s e)
 unfolding loaded
-loaded_names s (got l x) p h = absurd (accepted≢faulty h)
+loaded_names s (got l x) p h = accepted≢faulty h
 loaded_names s (bad e) p h = (e, refl, faulty-is h)
 
 -- a model's reading answers a fault, by its cause and its line, exactly where the text is not too long and has that fault
 pub model_answers : (s : Text) (p : Spot)
-    → ((model_reading s).answer ≡ Faulty p) ↔ ((length s ≤ longest) × ((e : Fault) × ModelFaults s 0 e × (p ≡ spot_of s e)))
+    → (model_reading s ≡ Err (Faulty p)) ↔ ((length s ≤ longest) × ((e : Fault) × ModelFaults s 0 e × (p ≡ spot_of s e)))
 unfolding model_reading loaded
 model_answers s p = (
   λ h.
@@ -106,18 +109,18 @@ model_answers s p = (
       (λ k.
       let n = loaded_names s (read_model_at s 0) p (rw (k, model_reading) at h) in
       (leb-true (length s) longest k, (n.0, (model_refuses s).back 0 n.0 n.1, n.2)))
-      (λ k. absurd (long≢faulty (rw (k, model_reading) at h))),
+      (λ k. long≢faulty (rw (k, model_reading) at h)),
   λ h. let e = h.1 in rw (le-leb (length s) longest h.0, model_reading, (model_refuses s).forth 0 e.0 e.1, e.2),
 )
 
-restored_names : (s : Text) (o : Outcome eos.Marking) (p : Spot) → (restored s o).answer ≡ Faulty p → (e : Fault) × (o ≡ bad e) × (p ≡ spot_of s e)
+restored_names : (s : Text) (o : Outcome eos.Marking) (p : Spot) → restored s o ≡ Err (Faulty p) → (e : Fault) × (o ≡ bad e) × (p ≡ spot_of s e)
 unfolding restored
-restored_names s (got μ x) p h = absurd (accepted≢faulty h)
+restored_names s (got μ x) p h = accepted≢faulty h
 restored_names s (bad e) p h = (e, refl, faulty-is h)
 
 -- and a marking's, for a held model, its lines read for that model
 pub marking_answers : (m : Model) (s : Text) (p : Spot)
-    → ((marking_reading m s).answer ≡ Faulty p)
+    → (marking_reading m s ≡ Err (Faulty p))
     ↔ ((length s ≤ longest) × (held_model m ≡ true) × ((e : Fault) × MarkingFaults s (sizes_for m) 0 e × (p ≡ spot_of s e)))
 unfolding marking_reading marking_or restored
 marking_answers m s p = (
@@ -128,8 +131,8 @@ marking_answers m s p = (
       (λ t.
       let n = restored_names s (read_marking_at (sizes_for m) s 0) p (rw (k, marking_reading, t, marking_or) at h) in
       (leb-true (length s) longest k, t, (n.0, (marking_refuses s (sizes_for m)).back 0 n.0 n.1, n.2)))
-      (λ t. absurd (unheld≢faulty (rw (k, marking_reading, t, marking_or) at h))))
-      (λ k. absurd (long≢faulty (rw (k, marking_reading) at h))),
+      (λ t. unheld≢faulty (rw (k, marking_reading, t, marking_or) at h)))
+      (λ k. long≢faulty (rw (k, marking_reading) at h)),
   λ h.
       let e = h.2 in
       rw (le-leb (length s) longest h.0, marking_reading, h.1, marking_or, (marking_refuses s (sizes_for m)).forth 0 e.0 e.1, e.2),

@@ -16,60 +16,76 @@ use Rattle.marking.specs.Printed.{marking_text}
 use Rattle.marking.specs.declared.Marking.{Marking}
 use Rattle.reader.specs.Reading.{Loaded, read_model, read_marking}
 use Rattle.marking.specs.Sizes.{sizes_for}
-use Rattle.reader.specs.declared.ReadAnswer.{ReadAnswer}
-use Rattle.reader.specs.declared.ReadAnswer.TheVariants.{Accepted, TooLong, NotHeld, Faulty}
+use Rattle.reader.specs.declared.ReadRefusal.{ReadRefusal}
+use Rattle.reader.specs.declared.ReadRefusal.TheVariants.{TooLong, NotHeld, Faulty}
 use Rattle.reader.specs.declared.ModelReading.{ModelReading}
-use Rattle.reader.specs.declared.MarkingReading.{MarkingReading}
-use Rattle.reader.specs.declared.WriteAnswer.{WriteAnswer}
-use Rattle.reader.specs.declared.WriteAnswer.TheVariants.{Written, Unheld, TooSmall}
+use Rattle.reader.specs.declared.WriteRefusal.{WriteRefusal}
+use Rattle.reader.specs.declared.WriteRefusal.TheVariants.{Unheld, TooSmall}
 
 -- ---- 01's table: the number, and what stands beside it
 
 abbrev pub pair : ℕ → ℕ → Refusal
 pair n b = record { number = n; beside = b }
 
-abbrev pub read_pair : ReadAnswer → Refusal
-read_pair Accepted = pair 0 0
-read_pair TooLong = pair 1 0
-read_pair NotHeld = pair 14 0
-read_pair (Faulty e) = pair (cause_number e.cause) e.line
+-- what is answered is 0, and what is refused has its refusal's pair
+abbrev pub pair_of : {A E : Type 0} → (E → Refusal) → Result A E → Refusal
+pair_of refused (Ok a) = pair 0 0
+pair_of refused (Err e) = refused e
 
-abbrev pub write_pair : WriteAnswer → Refusal
-write_pair (Written n) = pair 0 0
-write_pair Unheld = pair 14 0
-write_pair (TooSmall n) = pair 13 n
+abbrev pub unread_pair : ReadRefusal → Refusal
+unread_pair TooLong = pair 1 0
+unread_pair NotHeld = pair 14 0
+unread_pair (Faulty e) = pair (cause_number e.cause) e.line
+
+abbrev pub read_pair : {A : Type 0} → Result A ReadRefusal → Refusal
+read_pair r = pair_of unread_pair r
+
+abbrev pub unwritten_pair : WriteRefusal → Refusal
+unwritten_pair Unheld = pair 14 0
+unwritten_pair (TooSmall n) = pair 13 n
+
+abbrev pub write_pair : Result ℕ WriteRefusal → Refusal
+write_pair r = pair_of unwritten_pair r
 
 -- ---- reading
 
 -- a fault as its line
-abbrev pub faulty : Text → Fault → ReadAnswer
+abbrev pub faulty : Text → Fault → ReadRefusal
 faulty s e = Faulty (spot_of s e)
 
-abbrev pub no_reading : ReadAnswer → ModelReading
-no_reading a = record { answer = a; model = no_model; start = no_marking }
+-- a text is not too long
+unfoldable pub short : Text → Result (Unit {0}) ReadRefusal
+short s = elim (leb (length s) longest) [ true ↦ Ok tt | false ↦ Err TooLong ]
 
-unfoldable pub loaded : Text → Outcome Loaded → ModelReading
-loaded s (got l x) = record { answer = Accepted; model = hold_model l.model; start = hold_marking (eos.canonical l.start) }
-loaded s (bad e) = no_reading (faulty s e)
+unfoldable pub loaded : Text → Outcome Loaded → Result ModelReading ReadRefusal
+loaded s (got l x) = Ok (record { model = hold_model l.model; start = hold_marking (eos.canonical l.start) })
+loaded s (bad e) = Err (faulty s e)
 
 -- reading a model: 1, then its lines
-unfoldable pub model_reading : Text → ModelReading
-model_reading s = elim (leb (length s) longest) [ true ↦ loaded s (read_model s) | false ↦ no_reading TooLong ]
+unfoldable pub model_reading : Text → Result ModelReading ReadRefusal
+model_reading s = elim (leb (length s) longest) [ true ↦ loaded s (read_model s) | false ↦ Err TooLong ]
 
-abbrev pub no_tokens : ReadAnswer → MarkingReading
-no_tokens a = record { answer = a; marking = no_marking }
+-- what a reading gives: refused, the empty model and no net-token
+abbrev pub model_given : Result ModelReading ReadRefusal → ModelReading
+model_given (Ok r) = r
+model_given (Err e) = record { model = no_model; start = no_marking }
 
-unfoldable pub restored : Text → Outcome eos.Marking → MarkingReading
-restored s (got μ x) = record { answer = Accepted; marking = hold_marking (eos.canonical μ) }
-restored s (bad e) = no_tokens (faulty s e)
+unfoldable pub restored : Text → Outcome eos.Marking → Result Marking ReadRefusal
+restored s (got μ x) = Ok (hold_marking (eos.canonical μ))
+restored s (bad e) = Err (faulty s e)
 
-unfoldable pub marking_or : Bool → Model → Text → MarkingReading
+unfoldable pub marking_or : Bool → Model → Text → Result Marking ReadRefusal
 marking_or true m s = restored s (read_marking (sizes_for m) s)
-marking_or false m s = no_tokens NotHeld
+marking_or false m s = Err NotHeld
 
 -- reading a marking for a held model: 1, 14, then its lines
-unfoldable pub marking_reading : Model → Text → MarkingReading
-marking_reading m s = elim (leb (length s) longest) [ true ↦ marking_or (held_model m) m s | false ↦ no_tokens TooLong ]
+unfoldable pub marking_reading : Model → Text → Result Marking ReadRefusal
+marking_reading m s = elim (leb (length s) longest) [ true ↦ marking_or (held_model m) m s | false ↦ Err TooLong ]
+
+-- and what it gives: refused, no net-token
+abbrev pub marking_given : Result Marking ReadRefusal → Marking
+marking_given (Ok k) = k
+marking_given (Err e) = no_marking
 
 -- ---- the held test of a marking, with its room, for a model
 
@@ -79,17 +95,25 @@ held_in room m k = held_model m && held_marking room (sizes_for m) k
 abbrev pub held_both : Model → Marking → Bool
 held_both m k = held_in room_limit m k
 
+-- a model, a marking of it and a text for them: 1, then 14
+unfoldable pub admitted : Model → Marking → Text → Result (Unit {0}) ReadRefusal
+admitted m k s = elim (leb (length s) longest) [ true ↦ elim (held_both m k) [ true ↦ Ok tt | false ↦ Err NotHeld ] | false ↦ Err TooLong ]
+
 -- ---- writing
 
--- what the writer answers, and the lent bytes after it
+-- what the writer answers, the bytes written or why not, and the lent bytes after it
 pub record Answered : Type 0 where
-  pub answer : WriteAnswer
+  pub answer : Result ℕ WriteRefusal
   pub bytes : List ℕ
 
+-- a text that does not fit
+abbrev pub too_small : small.TooSmall → WriteRefusal
+too_small e = TooSmall e.needed
+
 -- how the writing of a text ended
-abbrev pub written_as : Result ℕ small.TooSmall → WriteAnswer
-written_as (Ok n) = Written n
-written_as (Err e) = TooSmall e.needed
+abbrev pub written_as : Result ℕ small.TooSmall → Result ℕ WriteRefusal
+written_as (Ok n) = Ok n
+written_as (Err e) = Err (too_small e)
 
 -- a text laid over the lent bytes from the first on: whole, or no byte of it
 unfoldable pub lay_whole : Text → List ℕ → Answered
@@ -100,5 +124,5 @@ unfoldable pub marking_writing : Model → Marking → List ℕ → Answered
 marking_writing m k out =
     elim (held_both m k) [
       | true ↦ lay_whole (marking_text (tokens_of (sizes_for m) k)) out
-      | false ↦ record { answer = Unheld; bytes = out }
+      | false ↦ record { answer = Err Unheld; bytes = out }
     ]

@@ -3,7 +3,7 @@
 
 ghost use Rattle.std.specs.Prelude.{◌≡◌};
 ghost use Rattle.model.specs.Test.{held_model};
-ghost use Rattle.reader.specs.Answers.{faulty, no_reading, model_reading, no_tokens, marking_reading, held_both, written_as, marking_writing};
+ghost use Rattle.reader.specs.Answers.{faulty, short, model_reading, marking_reading, held_both, admitted, too_small, marking_writing};
 
 use lines::{marking_lines, model_lines};
 use marking::Marking;
@@ -15,105 +15,73 @@ use text_scan::spot_of;
 
 mod lines;
 
-// How the reading of a text ended.
+// Why a text is not read: it is too long, what it is lent with is not held, or one of its lines is at fault.
 #[derive(Clone, Copy)]
-pub enum ReadAnswer {
-    Accepted,
+pub enum ReadRefusal {
     TooLong,
     NotHeld,
     Faulty { spot: Spot },
 }
 
-// A model and its start in canonical order; refused, the empty model and no net-token.
+// A model, and its start in canonical order.
 #[derive(Clone, Copy)]
 pub struct ModelReading {
-    pub answer: ReadAnswer,
     pub model: Model,
     pub start: Marking,
 }
 
-// A marking; refused, no net-token.
+// Why a marking is not written into lent bytes.
 #[derive(Clone, Copy)]
-pub struct MarkingReading {
-    pub answer: ReadAnswer,
-    pub marking: Marking,
-}
-
-// How writing a text into lent bytes ended.
-#[derive(Clone, Copy)]
-pub enum WriteAnswer {
-    Written { bytes: usize },
+pub enum WriteRefusal {
     Unheld,
     TooSmall { needed: usize },
 }
 
-// The answer for a fault, which is named by its line.
-fn faulty(s: &[u8], fault: Fault) -> ReadAnswer
+// A fault, named by its line.
+pub fn faulty(s: &[u8], fault: Fault) -> ReadRefusal
     ensures { result ≡ faulty s.now fault }
 {
-    ReadAnswer::Faulty {
+    ReadRefusal::Faulty {
         spot: spot_of(s, fault),
     }
 }
 
-// No model, and why.
-pub fn no_reading(answer: ReadAnswer) -> ModelReading
-    ensures { result ≡ no_reading answer }
+// A text is not too long.
+fn short(s: &[u8]) -> Result<(), ReadRefusal>
+    ensures { result ≡ short s.now }
 {
-    let model = Model::empty();
-    let start = Marking::empty();
-    ModelReading {
-        answer,
-        model,
-        start,
+    if Model::LONGEST < s.len() {
+        return Err(ReadRefusal::TooLong);
     }
+    Ok(())
 }
 
 // Reads a model's text.
-pub fn read_model(s: &[u8]) -> ModelReading
+pub fn read_model(s: &[u8]) -> Result<ModelReading, ReadRefusal>
     ensures { result ≡ model_reading s.now }
 {
-    if Model::LONGEST < s.len() {
-        return no_reading(ReadAnswer::TooLong);
-    }
+    short(s)?;
     let mut model = Model::empty();
     let mut start = Marking::empty();
     if let Err(fault) = model_lines(s, &mut model, &mut start) {
-        return no_reading(faulty(s, fault));
+        return Err(faulty(s, fault));
     }
-    ModelReading {
-        answer: ReadAnswer::Accepted,
-        model,
-        start,
-    }
-}
-
-// No marking, and why.
-fn no_tokens(answer: ReadAnswer) -> MarkingReading
-    ensures { result ≡ no_tokens answer }
-{
-    let marking = Marking::empty();
-    MarkingReading { answer, marking }
+    Ok(ModelReading { model, start })
 }
 
 // Reads the text of a marking of a held model.
-pub fn read_marking(m: &Model, s: &[u8]) -> MarkingReading
+pub fn read_marking(m: &Model, s: &[u8]) -> Result<Marking, ReadRefusal>
     ensures { result ≡ marking_reading m.now s.now }
 {
-    if Model::LONGEST < s.len() {
-        return no_tokens(ReadAnswer::TooLong);
-    }
+    short(s)?;
     if !model_test::is_held(m) {
-        return no_tokens(ReadAnswer::NotHeld);
+        return Err(ReadRefusal::NotHeld);
     }
     let mut marking = Marking::empty();
     if let Err(fault) = marking_lines(s, &place_sizes(m), &mut marking) {
-        return no_tokens(faulty(s, fault));
+        return Err(faulty(s, fault));
     }
-    MarkingReading {
-        answer: ReadAnswer::Accepted,
-        marking,
-    }
+    Ok(marking)
 }
 
 // Whether m is held as a model is.
@@ -133,22 +101,35 @@ pub fn test_marking(m: &Model, k: &Marking) -> bool
     marking_test::is_held(k, &place_sizes(m))
 }
 
-// The answer for how the writing of a text ended.
-fn written_as(wrote: Result<usize, TooSmall>) -> WriteAnswer
-    ensures { result ≡ written_as wrote }
+// What every call on a text asks first, of a model, a marking of it and the text: it is not too long, and the two are held.
+pub fn admitted(m: &Model, k: &Marking, s: &[u8]) -> Result<(), ReadRefusal>
+    ensures { result ≡ admitted m.now k.now s.now }
 {
-    match wrote {
-        Ok(bytes) => WriteAnswer::Written { bytes },
-        Err(TooSmall { needed }) => WriteAnswer::TooSmall { needed },
+    short(s)?;
+    if test_marking(m, k) {
+        Ok(())
+    } else {
+        Err(ReadRefusal::NotHeld)
     }
 }
 
-// Writes the text of a held marking of a held model: whole, or no byte of it.
-pub fn write_marking(m: &Model, k: &Marking, out: &mut [u8]) -> WriteAnswer
+// A text that does not fit.
+impl From<TooSmall> for WriteRefusal {
+    ghost from_gives = { λ small refusal. refusal ≡ too_small small };
+
+    fn from(small: TooSmall) -> WriteRefusal {
+        WriteRefusal::TooSmall {
+            needed: small.needed,
+        }
+    }
+}
+
+// Writes the text of a held marking of a held model: whole, or no byte of it. The answer is the bytes written.
+pub fn write_marking(m: &Model, k: &Marking, out: &mut [u8]) -> Result<usize, WriteRefusal>
     ensures { record { answer = result; bytes = out.new } ≡ marking_writing m.now k.now out.old }
 {
     if !test_marking(m, k) {
-        return WriteAnswer::Unheld;
+        return Err(WriteRefusal::Unheld);
     }
-    written_as(write(k, &place_sizes(m), b"start=", out, 0))
+    Ok(write(k, &place_sizes(m), b"start=", out, 0)?)
 }

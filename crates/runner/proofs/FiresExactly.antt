@@ -9,7 +9,6 @@ use lib.Dec.{leb→le, le→leb}
 use lib.ListN.{length}
 use Rattle.text.specs.Bytes.{Text}
 use Rattle.text.specs.Lines.{Outcome, got, bad}
-use Rattle.text.specs.declared.Spot.{Spot}
 use Rattle.eos.specs.Multiset as M
 use Rattle.eos.specs.Model as eos
 use Rattle.eos.specs.Firing.{Enabled, Step, after}
@@ -26,9 +25,9 @@ use Rattle.marking.specs.Sizes.{sizes_for}
 use Rattle.reader.specs.Answers.{held_both}
 use Rattle.step.specs.Reading.{read_step}
 use Rattle.step.specs.Verdict.{has_room}
-use Rattle.runner.specs.declared.Stepped.{Stepped}
-use Rattle.runner.specs.declared.StepAnswer.TheVariants.{Fired, Faulty, Turned}
-use Rattle.runner.specs.Answers.{fires, step_judged, read_then, tried, stepped, held_step, stepping}
+use Rattle.runner.specs.declared.StepRefusal.{StepRefusal}
+use Rattle.std.specs.Prelude.{Result, Ok, Err}
+use Rattle.runner.specs.Answers.{Stepped, fires, step_judged, read_then, tried, stepped, held_step, stepping}
 use Rattle.runner.proofs.StepAnswers.{reading, tried_reads, held_reads, step-held}
 
 -- a step that the text brings and that fires (000, Definition 3), with room for the net-tokens after it. By `step_exactly` of crate
@@ -43,36 +42,33 @@ pub record Brings (m : Model) (k : Marking) (s : Text) (next : ℕ) : Type 0 whe
 
 -- fired only where such a step is brought, always where it is, and the marking is the one after it, in canonical order
 pub record Exactly (m : Model) (k : Marking) (s : Text) (next : ℕ) : Type 0 where
-  pub only : (stepping m k s).answer ≡ Fired next → Brings m k s next
-  pub always : Brings m k s next → (stepping m k s).answer ≡ Fired next
+  pub only : (stepping m k s).answer ≡ Ok next → Brings m k s next
+  pub always : Brings m k s next → (stepping m k s).answer ≡ Ok next
   pub after_it : (b : Brings m k s next) → (stepping m k s).marking ≡ hold_marking (eos.canonical (after b.step (tokens_of (sizes_for m) k)))
 
-turned≢fired : {c b n : ℕ} → Turned c b ≡ Fired n → ⊥
-turned≢fired e = let z : ◌≡◌ {A = ℕ} 0 1 = cc in omega arith
-
-faulty≢fired : {d : Spot} {n : ℕ} → Faulty d ≡ Fired n → ⊥
-faulty≢fired e = let z : ◌≡◌ {A = ℕ} 0 1 = cc in omega arith
+pub unfired≢fired : {G : Type 0} {e : StepRefusal} {n : ℕ} → ◌≡◌ {A = Result ℕ StepRefusal} (Err e) (Ok n) → G
+unfired≢fired h = let z : ◌≡◌ {A = ℕ} 0 1 = cc in absurd (omega arith)
 
 module _ (m : Model) (k : Marking) (s : Text) (next : ℕ) where
   abbrev μ : eos.Marking
   μ = tokens_of (sizes_for m) k
 
   judged-brings : (t : Step) (n : ℕ) → reading m k s ≡ got t n → (o : Option Cause) → refusal (has_room room_limit) (model_of m) t μ ≡ o
-      → (stepped k (step_judged μ t n o)).answer ≡ Fired next → Brings m k s next
+      → (stepped k (step_judged μ t n o)).answer ≡ Ok next → Brings m k s next
   unfolding step_judged stepped
   judged-brings t n e none f h =
       let z : n ≡ next = cc in
       let c = no_cause_fires (has_room room_limit) (model_of m) t μ f in
       let y = fires_yes (model_of m) t μ c.0 in
       record { step = t; read = e ∙ ap (got t) z; enabled = y.0; within = y.1; room = leb→le (length (after t μ)) room_limit c.1 }
-  judged-brings t n e (some c) f h = absurd (turned≢fired h)
+  judged-brings t n e (some c) f h = unfired≢fired h
 
-  read_brings : (o : Outcome Step) → reading m k s ≡ o → (stepped k (read_then room_limit (model_of m) μ s o)).answer ≡ Fired next → Brings m k s next
+  read_brings : (o : Outcome Step) → reading m k s ≡ o → (stepped k (read_then room_limit (model_of m) μ s o)).answer ≡ Ok next → Brings m k s next
   unfolding read_then stepped
   read_brings (got t n) e h = judged-brings t n e (refusal (has_room room_limit) (model_of m) t μ) refl h
-  read_brings (bad d) e h = absurd (faulty≢fired h)
+  read_brings (bad d) e h = unfired≢fired h
 
-  pub held-brings : (held_step room_limit m k s).answer ≡ Fired next → Brings m k s next
+  pub held-brings : (held_step room_limit m k s).answer ≡ Ok next → Brings m k s next
   held-brings h = read_brings (reading m k s) refl (ap (λ (r : Stepped). r.answer) (sym (held_reads m k s room_limit)) ∙ h)
 
   -- a step that is brought fires
@@ -82,7 +78,7 @@ module _ (m : Model) (k : Marking) (s : Text) (next : ℕ) where
       let c = no_cause (has_room room_limit) (model_of m) b.step μ (fires_all (model_of m) b.step μ b.enabled b.within) (le→leb (length (after b.step μ)) room_limit b.room) in
       tried_reads m k s room_limit ∙ ap (read_then room_limit (model_of m) μ s) b.read ∙ rw c
 
-  pub brings-fires : (b : Brings m k s next) → held_step room_limit m k s ≡ record { answer = Fired next; marking = hold_marking (eos.canonical (after b.step μ)) }
+  pub brings-fires : (b : Brings m k s next) → held_step room_limit m k s ≡ record { answer = Ok next; marking = hold_marking (eos.canonical (after b.step μ)) }
   unfolding held_step stepped
   brings-fires b = rw (brings-tried b)
 

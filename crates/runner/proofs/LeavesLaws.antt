@@ -19,8 +19,7 @@ use Rattle.marking.specs.Sizes.{sizes_for}
 use Rattle.marking.specs.declared.Marking.{Marking}
 use Rattle.reader.specs.Answers.{held_both}
 use Rattle.step.specs.Verdict.{has_room}
-use Rattle.runner.specs.declared.Stepped.{Stepped}
-use Rattle.runner.specs.Answers.{step_judged, read_then, stepped, held_step, where_held, stepping, stepping_in}
+use Rattle.runner.specs.Answers.{step_judged, read_then, stepped, held_step, where_held, stepping, stepping_in, Stepped}
 use Rattle.runner.proofs.RuledLaws.{RightStep, read_right}
 use Rattle.runner.proofs.StepAnswers.{reading, held_reads}
 

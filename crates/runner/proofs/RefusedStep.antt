@@ -21,13 +21,12 @@ use Rattle.marking.specs.Sizes.{sizes_for}
 use Rattle.reader.specs.Answers.{held_both}
 use Rattle.step.specs.Reading.{read_step}
 use Rattle.step.specs.Verdict.{has_room}
-use Rattle.runner.specs.declared.Stepped.{Stepped}
-use Rattle.runner.specs.declared.StepAnswer.TheVariants.{Fired}
-use Rattle.runner.specs.Answers.{used_by, step_judged, read_then, tried, stepped, held_step, where_held, stepping, stepping_in}
+use Rattle.runner.specs.Answers.{used_by, step_judged, read_then, tried, stepped, held_step, where_held, stepping, stepping_in, Stepped}
+use Rattle.std.specs.Prelude.{Ok}
 
 -- where the answer is not fired, nothing is used and the marking stays
 abbrev pub Leaves : Marking → Stepped → Type 0
-Leaves k r = ((n : ℕ) → r.answer ≡ Fired n → ⊥) → (r.marking ≡ k) × (used_by r.answer ≡ 0)
+Leaves k r = ((n : ℕ) → r.answer ≡ Ok n → ⊥) → (r.marking ≡ k) × (used_by r.answer ≡ 0)
 
 judged-leaves : (k : Marking) (μ : eos.Marking) (t : Step) (next : ℕ) (o : Option Cause) → Leaves k (stepped k (step_judged μ t next o))
 unfolding step_judged stepped
@@ -50,7 +49,7 @@ held-leaves true room m k s n = step-leaves room m k s n
 held-leaves false room m k s n = (refl, refl)
 
 -- a refused step call leaves the marking as it was, and used no byte
-pub refused-leaves : (m : Model) (k : Marking) (s : Text) → ((n : ℕ) → (stepping m k s).answer ≡ Fired n → ⊥)
+pub refused-leaves : (m : Model) (k : Marking) (s : Text) → ((n : ℕ) → (stepping m k s).answer ≡ Ok n → ⊥)
     → ((stepping m k s).marking ≡ k) × (used_by (stepping m k s).answer ≡ 0)
 unfolding stepping_in
 refused-leaves m k s n =

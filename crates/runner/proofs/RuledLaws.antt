@@ -13,7 +13,7 @@ use Rattle.text.specs.Lines.{got, every}
 use Rattle.eos.specs.Multiset as M
 use Rattle.eos.specs.Model as eos
 use Rattle.eos.specs.Firing.{Step, StepOf, after}
-use Rattle.eos.specs.Causes.{Cause, taking, giving, short, unequal, missing, crowded, first, refusal}
+use Rattle.eos.specs.Causes.{Cause, first, refusal}
 use Rattle.marking.specs.Tokens.{like, before, holding, tokens_in}
 use Rattle.marking.specs.declared.NetToken.{NetToken}
 use Rattle.model.specs.Rules.{right_model}
@@ -36,14 +36,14 @@ use Rattle.step.specs.declared.Rule.{Rule}
 use Rattle.step.specs.Reading.{read_step, right_step}
 use Rattle.step.proofs.StepExactly.{step_exactly}
 use Rattle.step.proofs.ChangeLaws.{change_is}
-use Rattle.step.specs.Verdict.{has_room, causes_in, cause_pair, cause_of, number_of, verdict_of}
+use Rattle.step.specs.Verdict.{has_room, causes_in, verdict_of}
 use Rattle.step.specs.VerdictParts.{Sound, Placed}
 use Rattle.step.proofs.CausesAre.{causes_are}
 use Rattle.step.proofs.SoundLaws.{sound_rule, placed-held, proper_read}
-use Rattle.runner.specs.declared.StepAnswer.TheVariants.{Fired, Turned}
-use Rattle.runner.specs.Answers.{step_judged, stays, stepped}
+use Rattle.runner.specs.Answers.{step_judged, stepped}
 use Rattle.runner.specs.Parts.{changed, ruled}
 use Rattle.runner.proofs.StandsLaws.{Stands, stands_all}
+use Rattle.std.specs.Prelude.{Ok}
 
 -- ---- a step that was read
 
@@ -69,15 +69,6 @@ read_right z events s t next e =
       give_few = leb-true (length t.given) 256 b.0;
       given = b.1;
     }
-
--- ---- a cause as the code says it has the number that the table gives it
-numbered_as : (lines : ℕ) (c : Cause) → number_of (cause_of c) ≡ (cause_pair lines c).number
-numbered_as lines taking = refl
-numbered_as lines giving = refl
-numbered_as lines (short n) = refl
-numbered_as lines (unequal n) = refl
-numbered_as lines (missing i) = refl
-numbered_as lines crowded = refl
 
 -- ---- on a held model
 module _ (m : Model) (sized : SizedModel m) (held : held_model m ≡ true) where
@@ -132,8 +123,8 @@ module _ (m : Model) (sized : SizedModel m) (held : held_model m ≡ true) where
 
       judged_same : (next : ℕ) (o : Option Cause) → ruled next k taken given (verdict_of (length t.taken) o) ≡ stepped k (step_judged μ t next o)
       unfolding ruled verdict_of step_judged stepped
-      judged_same next none = ap (λ (k : Marking). record { answer = Fired next; marking = k }) change_same
-      judged_same next (some c) = ap (λ (n : ℕ). stays (Turned n (cause_pair (length t.taken) c).beside) k) (numbered_as (length t.taken) c)
+      judged_same next none = ap (λ (k : Marking). record { answer = Ok next; marking = k }) change_same
+      judged_same next (some c) = refl
 
       pub ruled_same : (next : ℕ) → ruled next k taken given (verdict_of (length t.taken) (first (causes_in room (hold_rule (model_of m) t.event) taken given (tokens_in k))))
           ≡ stepped k (step_judged μ t next (refusal (has_room room) (model_of m) t μ))

@@ -7,7 +7,7 @@ use lib.ListN.{length, length-map}
 use borrow.Author.Tests.{le-leb, lt-leb}
 use Rattle.text.specs.Bytes.{Text}
 use Rattle.text.proofs.Basics.{and_true}
-use Rattle.text.specs.Lines.{spot_of, Outcome, bad}
+use Rattle.text.specs.Lines.{Outcome, bad}
 use Rattle.text.specs.declared.Fault.{Fault}
 use Rattle.text.specs.declared.Fault.{Fault}
 use Rattle.std.specs.Prelude.{Result, Ok, Err}
@@ -25,31 +25,34 @@ use Rattle.marking.specs.Held.{as_sizes, hold_token, tokens_of}
 use Rattle.marking.specs.declared.Marking.{Marking}
 use Rattle.reader.specs.Reading.{bounds}
 use Rattle.marking.specs.Sizes.{place_sizes, sizes_for}
-use Rattle.reader.specs.Answers.{held_both, held_in}
+use Rattle.reader.specs.Answers.{held_both, held_in, admitted, faulty}
 use Rattle.marking.proofs.SizeLaws.{held_roomy}
 use Rattle.step.specs.Rule.{hold_rule}
 use Rattle.step.specs.declared.Rule.{Rule}
 use Rattle.step.specs.Reading.{read_step}
 use Rattle.step.specs.declared.StepLines.{StepLines}
 use Rattle.step.specs.declared.Refusal.{Refusal}
-use Rattle.step.specs.Verdict.{causes_in, number_of, verdict_of}
-use Rattle.runner.specs.declared.StepAnswer.TheVariants.{Fired, TooLong, NotHeld, Turned, Faulty}
+use Rattle.step.specs.Verdict.{causes_in, verdict_of}
 use Rattle.runner.specs.Answers.{read_then, tried, stays, stepped, held_step, where_held, stepping, stepping_in}
 use Rattle.runner.specs.Parts.{changed, ruled}
 use Rattle.runner.proofs.StandsLaws.{Stands, held_stands}
 use Rattle.runner.proofs.ReadLaws.{ReadTokens}
 use Rattle.runner.proofs.RuledLaws.{read_right, ruled_same}
+use Rattle.reader.specs.declared.ReadRefusal.{ReadRefusal}
+use Rattle.runner.specs.declared.StepRefusal.TheVariants.{Turned, Unread}
+use Rattle.reader.specs.declared.ReadRefusal.TheVariants.{NotHeld, TooLong}
+use Rattle.reader.proofs.ReadingLaws.{admitted_err}
 
 -- ---- a step that was judged
 
 module _ (next : ℕ) (k : Marking) (taken given : List NetToken) (v : Result (Unit {0}) Refusal) where
-  pub fired_tokens : v ≡ Ok tt → (after : Marking) → after ≡ changed k taken given → record { answer = Fired next; marking = after } ≡ ruled next k taken given v
+  pub fired_tokens : v ≡ Ok tt → (after : Marking) → after ≡ changed k taken given → record { answer = Ok next; marking = after } ≡ ruled next k taken given v
   unfolding ruled
   fired_tokens e after f = rw (e, f)
 
-  pub turned_tokens : (r : Refusal) → v ≡ Err r → (n : ℕ) → n ≡ number_of r.cause → stays (Turned n r.beside) k ≡ ruled next k taken given v
+  pub turned_tokens : (r : Refusal) → v ≡ Err r → stays (Turned r) k ≡ ruled next k taken given v
   unfolding ruled
-  turned_tokens r e n f = rw (e, f)
+  turned_tokens r e = rw e
 
 -- ---- a step on a held marking
 
@@ -75,7 +78,7 @@ module _ (m : Model) (k : Marking) (s : Text) where
   held_reads room = ap (stepped k) (tried_reads room)
 
   -- its lines are refused
-  pub step-refused : (room : ℕ) (e : Fault) → reading ≡ bad e → stays (Faulty (spot_of s e)) k ≡ held_step room m k s
+  pub step-refused : (room : ℕ) (e : Fault) → reading ≡ bad e → stays (Unread (faulty s e)) k ≡ held_step room m k s
   unfolding read_then stepped
   step-refused room e f = sym (held_reads room ∙ rw f)
 
@@ -93,12 +96,20 @@ module _ (m : Model) (k : Marking) (s : Text) where
 
   -- ---- the step call
 
-  pub step-long : longest < length s → stays TooLong k ≡ stepping m k s
+  -- the call is refused before its step
+  pub step-unread : (e : ReadRefusal) → Err e ≡ admitted m k s → stays (Unread e) k ≡ stepping m k s
+  unfolding stepping_in where_held
+  step-unread e h =
+      admitted_err m k s e h
+      (λ p long. rw (p, lt-leb (length s) longest long, stepping_in))
+      (λ p few unheld. rw (p, le-leb (length s) longest few, stepping_in, unheld))
+
+  pub step-long : longest < length s → stays (Unread TooLong) k ≡ stepping m k s
   unfolding stepping_in
   step-long h = rw (lt-leb (length s) longest h, stepping_in)
 
   module _ (few : length s ≤ longest) where
-    pub step-unheld : held_both m k ≡ false → stays NotHeld k ≡ stepping m k s
+    pub step-unheld : held_both m k ≡ false → stays (Unread NotHeld) k ≡ stepping m k s
     unfolding stepping_in where_held
     step-unheld h = rw (le-leb (length s) longest few, stepping_in, h)
 

@@ -1,8 +1,8 @@
 -- What the step call answers and leaves of the marking, for every input; and the numbers of 01's table for each answer.
-use Rattle.std.specs.Prelude.{ℕ, Bool, true, false, leb, length}
+use Rattle.std.specs.Prelude.{ℕ, Bool, true, false, leb, length, Result, Ok, Err}
 use Rattle.std.proofs.Math.Option.{Option, none, some}
 use Rattle.text.specs.Bytes.{Text}
-use Rattle.text.specs.Lines.{Outcome, got, bad, cause_number, spot_of}
+use Rattle.text.specs.Lines.{Outcome, got, bad}
 use Rattle.eos.specs.Model as eos
 use Rattle.eos.specs.Firing.{Step, after}
 use Rattle.eos.specs.Causes.{Refusal, Cause, refusal}
@@ -13,55 +13,57 @@ use Rattle.marking.specs.Held.{Sizes, hold_marking, tokens_of}
 use Rattle.marking.specs.declared.Marking.{Marking}
 use Rattle.reader.specs.Reading.{bounds}
 use Rattle.marking.specs.Sizes.{sizes_for}
-use Rattle.reader.specs.Answers.{pair, held_in}
+use Rattle.reader.specs.Answers.{pair_of, unread_pair, faulty, held_in}
+use Rattle.reader.specs.declared.ReadRefusal.TheVariants.{TooLong, NotHeld}
 use Rattle.step.specs.Reading.{read_step}
-use Rattle.step.specs.Verdict.{has_room, cause_pair}
-use Rattle.runner.specs.declared.StepAnswer.{StepAnswer}
-use Rattle.runner.specs.declared.StepAnswer.TheVariants.{Fired, TooLong, NotHeld, Faulty, Turned}
-use Rattle.runner.specs.declared.Stepped.{Stepped}
+use Rattle.step.specs.Verdict.{has_room, turned_by, turned_pair}
+use Rattle.runner.specs.declared.StepRefusal.{StepRefusal}
+use Rattle.runner.specs.declared.StepRefusal.TheVariants.{Unread, Turned}
 
 -- 01's table: the number, and what stands beside it
-abbrev pub step_pair : StepAnswer → Refusal
-step_pair (Fired n) = pair 0 0
-step_pair TooLong = pair 1 0
-step_pair NotHeld = pair 14 0
-step_pair (Faulty e) = pair (cause_number e.cause) e.line
-step_pair (Turned cause beside) = pair cause beside
+abbrev pub unfired_pair : StepRefusal → Refusal
+unfired_pair (Unread e) = unread_pair e
+unfired_pair (Turned r) = turned_pair r
+
+abbrev pub step_pair : {A : Type 0} → Result A StepRefusal → Refusal
+step_pair a = pair_of unfired_pair a
 
 -- the bytes that a step used; a refused step used none
-abbrev pub used_by : StepAnswer → ℕ
-used_by (Fired n) = n
-used_by TooLong = 0
-used_by NotHeld = 0
-used_by (Faulty e) = 0
-used_by (Turned cause beside) = 0
+abbrev pub used_by : Result ℕ StepRefusal → ℕ
+used_by (Ok n) = n
+used_by (Err e) = 0
+
+-- what a step answers, the bytes that its lines used or why it is not fired, and the marking after it
+pub record Stepped : Type 0 where
+  pub answer : Result ℕ StepRefusal
+  pub marking : Marking
 
 -- what a step's text brings about on a marking: it fires, with the bytes used and the marking after, or is turned down
 pub data Tried : Type 0 where
   fires : ℕ → eos.Marking → Tried
-  stops : StepAnswer → Tried
+  stops : StepRefusal → Tried
 
 -- a step that was read, a line for each net-token: the first of the causes 8 to 12, or the marking after in canonical order
 unfoldable pub step_judged : eos.Marking → Step → ℕ → Option Cause → Tried
 step_judged μ t next none = fires next (eos.canonical (after t μ))
-step_judged μ t next (some c) = let r = cause_pair (length t.taken) c in stops (Turned r.number r.beside)
+step_judged μ t next (some c) = stops (Turned (turned_by (length t.taken) c))
 
 -- line by line 2 and 3, lines counted from the step's own `fire` line, which begins the text; then 8 to 12
 unfoldable pub read_then : ℕ → eos.Model → eos.Marking → Text → Outcome Step → Tried
 read_then room m μ s (got t next) = step_judged μ t next (refusal (has_room room) m t μ)
-read_then room m μ s (bad e) = stops (Faulty (spot_of s e))
+read_then room m μ s (bad e) = stops (Unread (faulty s e))
 
 -- a marking has its room
 unfoldable pub tried : ℕ → eos.Model → Sizes → eos.Marking → Text → Tried
 tried room m z μ s = read_then room m μ s (read_step bounds z (length m.events) s 0)
 
 -- a refusal leaves the marking as it was
-abbrev pub stays : StepAnswer → Marking → Stepped
-stays a k = record { answer = a; marking = k }
+abbrev pub stays : StepRefusal → Marking → Stepped
+stays e k = record { answer = Err e; marking = k }
 
 unfoldable pub stepped : Marking → Tried → Stepped
-stepped k (fires next μ) = record { answer = Fired next; marking = hold_marking μ }
-stepped k (stops a) = stays a k
+stepped k (fires next μ) = record { answer = Ok next; marking = hold_marking μ }
+stepped k (stops e) = stays e k
 
 -- a step on a held marking of a held model, without the held test
 unfoldable pub held_step : ℕ → Model → Marking → Text → Stepped
@@ -69,11 +71,11 @@ held_step room m k s = stepped k (tried room (model_of m) (sizes_for m) (tokens_
 
 unfoldable pub where_held : Bool → ℕ → Model → Marking → Text → Stepped
 where_held true room m k s = held_step room m k s
-where_held false room m k s = stays NotHeld k
+where_held false room m k s = stays (Unread NotHeld) k
 
 -- a step on a marking with its room: 1, 14, then as above
 unfoldable pub stepping_in : ℕ → Model → Marking → Text → Stepped
-stepping_in room m k s = elim (leb (length s) longest) [ true ↦ where_held (held_in room m k) room m k s | false ↦ stays TooLong k ]
+stepping_in room m k s = elim (leb (length s) longest) [ true ↦ where_held (held_in room m k) room m k s | false ↦ stays (Unread TooLong) k ]
 
 -- the step call
 abbrev pub stepping : Model → Marking → Text → Stepped

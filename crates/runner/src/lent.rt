@@ -10,16 +10,16 @@ ghost use Rattle.reader.specs.Answers.{held_both};
 ghost use Rattle.runner.specs.Parts.{ruled};
 ghost use Rattle.runner.specs.Answers.{held_step};
 
-use super::StepAnswer;
+use super::StepRefusal;
 use marking::{Marking, NetToken, PlaceSizes};
 use model::Model;
+use reader::faulty;
 use step::Rule;
 use step_change::change;
 use step_read::read_step;
 use step_rule::rule_of;
 use step_verdict::verdict;
 use text_reader::Reader;
-use text_scan::spot_of;
 
 // A step whose lines were read, up to `next`: it is turned down, or the marking is changed.
 fn fire(
@@ -29,19 +29,14 @@ fn fire(
     taken: &[NetToken],
     given: &[NetToken],
     next: usize,
-) -> StepAnswer
+) -> Result<usize, StepRefusal>
     requires { (room ≤ room_limit) × Sound rule.now × Placed taken.now × Placed given.now × Kept k.old }
     ensures { record { answer = result; marking = k.new }
         ≡ ruled next k.old taken.now given.now (verdict_of (length taken.now) (first (causes_in room rule.now taken.now given.now (tokens_in k.old)))) }
 {
-    if let Err(refusal) = verdict(room, rule, taken, given, k.held()) {
-        return StepAnswer::Turned {
-            cause: refusal.cause.number(),
-            beside: refusal.beside,
-        };
-    }
+    verdict(room, rule, taken, given, k.held())?;
     change(k, taken, given);
-    StepAnswer::Fired { bytes: next }
+    Ok(next)
 }
 
 // A step on a lent held marking, with its room, of a held model: for a run over many steps, the held test stands once in front of the run.
@@ -54,18 +49,15 @@ pub fn step_on(
     s: &[u8],
     taken: &mut [NetToken; Marking::ROOM],
     given: &mut [NetToken; Marking::ROOM],
-) -> StepAnswer
+) -> Result<usize, StepRefusal>
     requires { (room ≤ room_limit) × (held_both m.now k.old ≡ true) × (z.now ≡ place_sizes m.now) × (length s.now ≤ longest) × (length k.old.tokens ≡ room_limit) }
     ensures { record { answer = result; marking = k.new } ≡ held_step room m.now k.old s.now }
 {
     let mut r = Reader { src: s, at: 0 };
+    // A held model lists at most 64 events, so their number fits.
     let lines = match read_step(&mut r, m.listed as u16, z, taken, given) {
         Ok(lines) => lines,
-        Err(fault) => {
-            return StepAnswer::Faulty {
-                spot: spot_of(s, fault),
-            };
-        }
+        Err(fault) => return Err(StepRefusal::Unread(faulty(s, fault))),
     };
     let mut rule = Rule::empty();
     rule_of(m, lines.event, &mut rule);

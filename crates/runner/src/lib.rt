@@ -1,25 +1,34 @@
 // The Runner level: a step's text is tried on a held marking of a held model.
 #![tactic(auto)]
 
-use marking::Marking;
-use text::Spot;
+ghost use Rattle.std.specs.Prelude.{◌≡◌};
+ghost use Rattle.runner.specs.declared.StepRefusal.TheVariants.{Unread, Turned};
+
+use reader::ReadRefusal;
+use step::Refusal;
 
 pub mod lent;
 pub mod stepping;
 
-// How a step call ended: fired, with the bytes that its lines used, or why not.
+// Why a step is not fired: its text is not read, or the step is turned down.
 #[derive(Clone, Copy)]
-pub enum StepAnswer {
-    Fired { bytes: usize },
-    TooLong,
-    NotHeld,
-    Faulty { spot: Spot },
-    Turned { cause: u8, beside: usize },
+pub enum StepRefusal {
+    Unread(ReadRefusal),
+    Turned(Refusal),
 }
 
-// A step call's answer, and the marking after it.
-#[derive(Clone, Copy)]
-pub struct Stepped {
-    pub answer: StepAnswer,
-    pub marking: Marking,
+impl From<ReadRefusal> for StepRefusal {
+    ghost from_gives = { λ refusal answer. answer ≡ Unread refusal };
+
+    fn from(refusal: ReadRefusal) -> StepRefusal {
+        StepRefusal::Unread(refusal)
+    }
+}
+
+impl From<Refusal> for StepRefusal {
+    ghost from_gives = { λ refusal answer. answer ≡ Turned refusal };
+
+    fn from(refusal: Refusal) -> StepRefusal {
+        StepRefusal::Turned(refusal)
+    }
 }

@@ -23,53 +23,25 @@ use Rattle.reader.proofs.GivenLaws.{Given}
 use Rattle.marking.specs.Sizes.{sizes_for}
 use Rattle.step.specs.Printed.{step_text}
 use Rattle.step.proofs.StepExactly.{step_exactly}
-use Rattle.runner.specs.declared.StepAnswer.{StepAnswer}
-use Rattle.runner.specs.declared.StepAnswer.TheVariants.{Fired, TooLong, NotHeld, Faulty, Turned}
-use Rattle.runner.specs.declared.Stepped.{Stepped}
-use Rattle.runner_trace.specs.declared.Stop.{Stop}
-use Rattle.runner_trace.specs.declared.Stop.TheVariants as stop
 use Rattle.std.specs.Prelude.{Result}
 use Rattle.std.specs.declared.result.Result.TheVariants.{Ok, Err}
-use Rattle.runner_trace.specs.declared.Ran.{Ran}
-use Rattle.runner.specs.Answers.{Tried, fires, stops, tried, stepped, held_step}
-use Rattle.runner_trace.specs.Parts.{turn_of}
-use Rattle.runner_trace.specs.Running.{stopped_by, ran, onward, run_from, headed, run_where_held, running}
+use Rattle.runner.specs.Answers.{Tried, fires, stops, tried, stepped, held_step, Stepped}
+use Rattle.runner_trace.specs.Running.{ran, onward, run_from, headed, run_where_held, running, Ran}
 use Rattle.runner.proofs.KeepLaws.{Keeps, step_keeps}
 use Rattle.runner.proofs.GivenSteps.{held-given}
 use Rattle.runner.proofs.FiresExactly.{held-brings, brings-tried, brings-fires}
+use Rattle.runner.specs.declared.StepRefusal.{StepRefusal}
 
 -- ---- a step's answer, as a run takes it
 
-pub turn_on : (a : StepAnswer) (n : ℕ) → turn_of a ≡ Ok n → a ≡ Fired n
-turn_on (Fired k) n e = let z : k ≡ n = cc in ap Fired z
-turn_on TooLong n e = let z : ◌≡◌ {A = ℕ} 0 1 = cc in absurd (omega arith)
-turn_on NotHeld n e = let z : ◌≡◌ {A = ℕ} 0 1 = cc in absurd (omega arith)
-turn_on (Faulty d) n e = let z : ◌≡◌ {A = ℕ} 0 1 = cc in absurd (omega arith)
-turn_on (Turned cause beside) n e = let z : ◌≡◌ {A = ℕ} 0 1 = cc in absurd (omega arith)
+-- a step fired, or it is turned down
+pub by_answer : {G : Type 0} (a : Result ℕ StepRefusal) → ((n : ℕ) → a ≡ Ok n → G) → ((e : StepRefusal) → a ≡ Err e → G) → G
+by_answer (Ok n) f g = f n refl
+by_answer (Err e) f g = g e refl
 
-pub off_is : {a b : Stop} → ◌≡◌ {A = Result ℕ Stop} (Err a) (Err b) → a ≡ b
-off_is e = cc
-
-pub on≢off : {A : Type 0} {n : ℕ} {a : Stop} → ◌≡◌ {A = Result ℕ Stop} (Ok n) (Err a) → A
-on≢off e = let z : ◌≡◌ {A = ℕ} 0 1 = cc in absurd (omega arith)
-
-pub fired_on : {G : Type 0} (a : StepAnswer) (b : Stop) (n : ℕ) → turn_of a ≡ Err b → a ≡ Fired n → G
-fired_on a b n e f = on≢off (ap turn_of (sym f) ∙ e)
-
-pub turn_off : (a : StepAnswer) (b : Stop) → turn_of a ≡ Err b → stopped_by a ≡ b
-turn_off (Fired k) b e = on≢off e
-turn_off TooLong b e = off_is e
-turn_off NotHeld b e = off_is e
-turn_off (Faulty d) b e = off_is e
-turn_off (Turned cause beside) b e = off_is e
-
--- a step fired or did not
-pub by_turn : {G : Type 0} (a : StepAnswer) → ((n : ℕ) → a ≡ Fired n → G) → (((n : ℕ) → a ≡ Fired n → ⊥) → G) → G
-by_turn (Fired n) f g = f n refl
-by_turn TooLong f g = g (λ n e. fired_on TooLong _ n refl e)
-by_turn NotHeld f g = g (λ n e. fired_on NotHeld _ n refl e)
-by_turn (Faulty d) f g = g (λ n e. fired_on (Faulty d) _ n refl e)
-by_turn (Turned cause beside) f g = g (λ n e. fired_on (Turned cause beside) _ n refl e)
+-- one that is turned down fired nothing
+pub fired≢turned : {G : Type 0} {a : Result ℕ StepRefusal} {n : ℕ} {e : StepRefusal} → a ≡ Ok n → a ≡ Err e → G
+fired≢turned h k = let z : ◌≡◌ {A = ℕ} 0 1 = cc in absurd (omega arith)
 
 -- ---- one step of a run
 
@@ -78,7 +50,7 @@ pub record Uses (s : Text) (used : ℕ) : Type 0 where
   pub some_byte : 1 ≤ used
   pub within : used ≤ length s
 
-pub fired_uses : (m : Model) (k : Marking) (s : Text) (used : ℕ) → (held_step room_limit m k s).answer ≡ Fired used → Uses s used
+pub fired_uses : (m : Model) (k : Marking) (s : Text) (used : ℕ) → (held_step room_limit m k s).answer ≡ Ok used → Uses s used
 unfolding step_text number_text
 fired_uses m k s used h =
     let b = held-brings m k s used h in
@@ -88,17 +60,17 @@ fired_uses m k s used h =
     record { some_byte = omega (arith, r.next_is); within = omega (arith, r.next_is, n) }
 
 -- a step that does not fire is turned down
-tried-stops : (k : Marking) (t : Tried) → ((n : ℕ) → (stepped k t).answer ≡ Fired n → ⊥) → (t ≡ stops (stepped k t).answer) × ((stepped k t).marking ≡ k)
+tried-stops : (k : Marking) (t : Tried) (e : StepRefusal) → (stepped k t).answer ≡ Err e → (t ≡ stops e) × ((stepped k t).marking ≡ k)
 unfolding stepped
-tried-stops k (fires used μ) h = absurd (h used refl)
-tried-stops k (stops a) h = (refl, refl)
+tried-stops k (fires used μ) e h = fired≢turned refl h
+tried-stops k (stops a) e h = (cc, refl)
 
 module _ (fuel : ℕ) (m : Model) (k : Marking) (n at : ℕ) where
   -- at the end of the text
-  pub run_end : (s : Text) → length s ≡ 0 → run_from fuel m k s n at ≡ ran n at stop.AtEnd k
+  pub run_end : (s : Text) → length s ≡ 0 → run_from fuel m k s n at ≡ ran n at (Ok tt) k
   run_end s e = go fuel s e
     where
-      go : (f : ℕ) (s : Text) → length s ≡ 0 → run_from f m k s n at ≡ ran n at stop.AtEnd k
+      go : (f : ℕ) (s : Text) → length s ≡ 0 → run_from f m k s n at ≡ ran n at (Ok tt) k
       go zero s e = unfold run_from in refl
       go (suc f) [] e = unfold run_from onward in refl
       go (suc f) (b ∷ s) e = absurd (omega arith)
@@ -108,14 +80,14 @@ module _ (fuel : ℕ) (m : Model) (k : Marking) (n at : ℕ) where
   onward-fires rest [] t used μ h e = absurd (omega arith)
   onward-fires rest (b ∷ s) t used μ h e = rw e
 
-  onward_stops : (rest : ℕ → eos.Marking → Ran) (s : Text) (t : Tried) (a : StepAnswer) → 0 < length s → t ≡ stops a → onward rest n at k s t ≡ ran n at (stopped_by a) k
+  onward_stops : (rest : ℕ → eos.Marking → Ran) (s : Text) (t : Tried) (a : StepRefusal) → 0 < length s → t ≡ stops a → onward rest n at k s t ≡ ran n at (Err a) k
   unfolding onward
   onward_stops rest [] t a h e = absurd (omega arith)
   onward_stops rest (b ∷ s) t a h e = rw e
 
   module _ (s : Text) (more : 0 < length s) where
     -- the step call on what is left fires: the run goes on behind its bytes, on the marking that it left
-    pub run-fires : (used : ℕ) → (held_step room_limit m k s).answer ≡ Fired used
+    pub run-fires : (used : ℕ) → (held_step room_limit m k s).answer ≡ Ok used
         → run_from (suc fuel) m k s n at ≡ run_from fuel m (held_step room_limit m k s).marking (drop used s) (n + 1) (at + used)
     unfolding run_from
     run-fires used h =
@@ -124,14 +96,14 @@ module _ (fuel : ℕ) (m : Model) (k : Marking) (n at : ℕ) where
         ∙ ap (λ (r : Stepped). run_from fuel m r.marking (drop used s) (n + 1) (at + used)) (sym (brings-fires m k s used b))
 
     -- it is turned down: the run stops with its answer, on the marking that it left
-    pub run-stops : ((used : ℕ) → (held_step room_limit m k s).answer ≡ Fired used → ⊥)
-        → run_from (suc fuel) m k s n at ≡ ran n at (stopped_by (held_step room_limit m k s).answer) (held_step room_limit m k s).marking
+    pub run-stops : (e : StepRefusal) → (held_step room_limit m k s).answer ≡ Err e
+        → run_from (suc fuel) m k s n at ≡ ran n at (Err e) (held_step room_limit m k s).marking
     unfolding run_from held_step
-    run-stops h =
+    run-stops e h =
         let t = tried room_limit (model_of m) (sizes_for m) (tokens_of (sizes_for m) k) s in
-        let p = tried-stops k t h in
-        onward_stops (λ u μ. run_from fuel m (hold_marking μ) (drop u s) (n + 1) (at + u)) s t _ more p.0
-        ∙ ap (ran n at (stopped_by (stepped k t).answer)) (sym p.1)
+        let p = tried-stops k t e h in
+        onward_stops (λ u μ. run_from fuel m (hold_marking μ) (drop u s) (n + 1) (at + u)) s t e more p.0
+        ∙ ap (ran n at (Err e)) (sym p.1)
 
 -- what a step hands on from marking to marking, a run does
 module _ (m : Model) (P : Marking → Type 0) (step : (k : Marking) → P k → (s : Text) → P (held_step room_limit m k s).marking) where
@@ -139,11 +111,11 @@ module _ (m : Model) (P : Marking → Type 0) (step : (k : Marking) → P k → 
   from_hands_on zero k s n at h = unfold run_from in h
   from_hands_on (suc f) k s n at h =
       by_index (length s) 0
-      (λ p. by_turn (held_step room_limit m k s).answer
+      (λ p. by_answer (held_step room_limit m k s).answer
       (λ used e.
       subst (λ (r : Ran). P r.marking) (sym (run-fires f m k n at s p used e))
       (from_hands_on f (held_step room_limit m k s).marking (drop used s) (n + 1) (at + used) (step k h s)))
-      (λ e. subst (λ (r : Ran). P r.marking) (sym (run-stops f m k n at s p e)) (step k h s)))
+      (λ a e. subst (λ (r : Ran). P r.marking) (sym (run-stops f m k n at s p a e)) (step k h s)))
       (λ p. subst (λ (r : Ran). P r.marking) (sym (run_end (suc f) m k n at s (omega arith))) h)
 
   headed_hands_on : (k : Marking) (s : Text) (o : Outcome (Unit {0})) → P k → P (headed m k s o).marking
@@ -177,11 +149,11 @@ run_fuel zero g m k s n at a b = run_end zero m k n at s (omega arith) ∙ sym (
 run_fuel (suc f) zero m k s n at a b = run_end (suc f) m k n at s (omega arith) ∙ sym (run_end zero m k n at s (omega arith))
 run_fuel (suc f) (suc g) m k s n at a b =
     by_index (length s) 0
-    (λ h. by_turn (held_step room_limit m k s).answer
+    (λ h. by_answer (held_step room_limit m k s).answer
     (λ used e.
     let u = fired_uses m k s used e in
     run-fires f m k n at s h used e
     ∙ run_fuel f g m (held_step room_limit m k s).marking (drop used s) (n + 1) (at + used) (omega (arith, u.some_byte, length-drop used s)) (omega (arith, u.some_byte, length-drop used s))
     ∙ sym (run-fires g m k n at s h used e))
-    (λ e. run-stops f m k n at s h e ∙ sym (run-stops g m k n at s h e)))
+    (λ a e. run-stops f m k n at s h a e ∙ sym (run-stops g m k n at s h a e)))
     (λ h. run_end (suc f) m k n at s (omega arith) ∙ sym (run_end (suc g) m k n at s (omega arith)))

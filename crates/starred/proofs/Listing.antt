@@ -11,14 +11,13 @@ use Rattle.model.specs.declared.Model.{Model}
 use Rattle.marking.specs.Held.{hold_marking}
 use Rattle.marking.specs.declared.Marking.{Marking}
 use Rattle.reader.specs.Answers.{model_reading}
-use Rattle.reader.specs.declared.ReadAnswer.TheVariants.{Accepted}
 use Rattle.keeper.specs.Answers.{weight_checking}
 use Rattle.keeper.specs.declared.Sum.{Sum}
-use Rattle.keeper.specs.declared.WeightAnswer.TheVariants.{Passed}
 use Rattle.promises.specs.WholeRun.{own_fired, left_by, answers_of, says_fired, Covered, WholeRun}
 use Rattle.starred.specs.Texts.{listed_model, listed_weights, first_step, second_step}
 use Rattle.promises.proofs.WholeRunLaws.{whole_run}
 use Rattle.starred.proofs.Opened.{opened}
+use Rattle.std.specs.Prelude.{Ok}
 
 abbrev onward : eos.Transition
 onward = record { pre = 1 ∷ 0 ∷ []; post = 0 ∷ 1 ∷ [] }
@@ -47,11 +46,11 @@ sum = record { above = 3; below = 0 }
 abbrev steps : List Text
 steps = first_step ∷ second_step ∷ []
 
-accepted : model_reading listed_model ≡ record { answer = Accepted; model = model; start = start }
+accepted : model_reading listed_model ≡ Ok (record { model = model; start = start })
 unfolding opened
 accepted = refl
 
-passed : weight_checking model start listed_weights ≡ record { answer = Passed; sum = sum; cover = true }
+passed : weight_checking model start listed_weights ≡ Ok (record { sum = sum; cover = true })
 unfolding opened
 passed = refl
 

@@ -29,7 +29,7 @@ use Rattle.runner.specs.Answers.{step_judged, read_then, tried}
 use Rattle.runner_trace.specs.Running.{onward, run_from, headed, run_where_held, running}
 use Rattle.keeper.specs.Reading.{read_inner, read_weights_at}
 use Rattle.keeper.specs.Answers.{turned_or, judged_weights, weighed, weights_or, weight_checking}
-use Rattle.listing.specs.Listing.{model_file, weights_file, trace_file, pair_text, pair_then, sum_text, cover_text, run_text, after_model, listing_text}
+use Rattle.listing.specs.Listing.{model_file, weights_file, trace_file, pair_text, sum_text, cover_text, run_text, listing_text, with_model, with_weights}
 
 -- the files of 01's listing
 abbrev pub model : Text
@@ -47,7 +47,7 @@ pub listing-cases :
     × (listing_text (bytes "nets=1\n") weights trace ≡ bytes "model=2,1\n")
     × (listing_text model (bytes "inv=1\nouter=1,0\ninner=1,1\n") trace ≡ bytes "model=0,0\nweights=7,1\n")
     × (listing_text model (bytes "inv=1\nouter=-1,-1\ninner=0,0\n") (bytes "") ≡ bytes "model=0,0\nweights=0,0\nsum=-2\ncover=0\nfired=0\nstop=2,1\nheld=2\ntoken=1:0,0\ntoken=1:1,0\n")
-unfolding listing_text after_model run_text cover_text sum_text pair_then pair_text trace_file weights_file model_file model_reading loaded read_model_at read_lines read_end
+unfolding listing_text with_model with_weights run_text cover_text sum_text pair_text trace_file weights_file model_file model_reading loaded read_model_at read_lines read_end
     read_plant read_event read_sync read_act read_move read_idle read_net read_sides keeps_types
     weight_checking weights_or weighed judged_weights turned_or weight_refusal read_weights_at read_inner read_weights effect value weigh covers
     running run_where_held headed run_from onward held_in held_model held_types held_moves held_nets held_net held_events held_event empty_event held_act right_act empty_past monotonous

@@ -18,9 +18,10 @@ use Rattle.model.specs.Limits.{cover_limit}
 use Rattle.reader.specs.Reading.{read_end}
 use Rattle.keeper.specs.Printed.{weight_file_text}
 use Rattle.keeper.specs.Reading.{read_inner, read_weights_at, read_weight_file}
-use Rattle.keeper.specs.Answers.{refused_weights, turned_or, judged_weights}
-use Rattle.keeper.specs.declared.WeightAnswer.TheVariants.{Passed, Turned}
+use Rattle.keeper.specs.Answers.{turned_or, judged_weights}
 use Rattle.text.specs.declared.Cause.TheVariants.{Syntax, Range}
+use Rattle.std.specs.Prelude.{Ok, Err}
+use Rattle.keeper.specs.declared.WeightRefusal.TheVariants.{Unbalanced, Weightless}
 
 abbrev onward : Transition
 onward = record { pre = 1 ∷ 0 ∷ []; post = 0 ∷ 1 ∷ [] }
@@ -51,10 +52,10 @@ read-cases = (refl, refl, refl, refl)
 
 -- 01: that model and weights have sum 3 and cover 1; outer weights 1,0 are turned down for event 1; all weights 0, for the last line
 pub judged-cases :
-    (judged_weights cover_limit listing start (weights (pos 1) (pos 1) (pos 1)) ≡ record { answer = Passed; sum = record { above = 3; below = 0 }; cover = true })
-    × (judged_weights cover_limit listing start (weights (pos 1) (pos 0) (pos 1)) ≡ refused_weights (Turned 7 1))
-    × (judged_weights cover_limit listing start (weights (pos 0) (pos 0) (pos 0)) ≡ refused_weights (Turned 6 3))
-    × (judged_weights cover_limit listing start (weights (negsuc 0) (negsuc 0) (pos 0)) ≡ record { answer = Passed; sum = record { above = 0; below = 2 }; cover = false })
+    (judged_weights cover_limit listing start (weights (pos 1) (pos 1) (pos 1)) ≡ Ok (record { sum = record { above = 3; below = 0 }; cover = true }))
+    × (judged_weights cover_limit listing start (weights (pos 1) (pos 0) (pos 1)) ≡ Err (Unbalanced 1))
+    × (judged_weights cover_limit listing start (weights (pos 0) (pos 0) (pos 0)) ≡ Err (Weightless 3))
+    × (judged_weights cover_limit listing start (weights (negsuc 0) (negsuc 0) (pos 0)) ≡ Ok (record { sum = record { above = 0; below = 2 }; cover = false }))
 unfolding judged_weights turned_or weight_refusal first unless at effect value weigh covers outer inner outer_of inner_of
 judged-cases = (refl, refl, refl, refl)
 

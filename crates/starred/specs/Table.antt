@@ -1,5 +1,6 @@
 -- The starred cases of 01 ("Edges") as a table: what is lent to the calls, and what comes of it.
-use Rattle.std.specs.Prelude.{ℕ, Bool, true, false, List, [], ◌∷◌, ◌++◌, replicate}
+use Rattle.std.specs.Prelude.{ℕ, Bool, true, false, List, [], ◌∷◌, ◌++◌, replicate, Ok, Err}
+use Rattle.std.specs.Prelude as code
 use Rattle.text.specs.Bytes.{Text, bytes}
 use Rattle.text.specs.Printed.{texts}
 use Rattle.eos.specs.Causes.{Refusal}
@@ -7,14 +8,13 @@ use Rattle.model.specs.declared.Model.{Model}
 use Rattle.marking.specs.Held.{tokens_of}
 use Rattle.marking.specs.Printed.{marking_text}
 use Rattle.marking.specs.Sizes.{sizes_for}
-use Rattle.reader.specs.Answers.{pair, read_pair, model_reading, marking_reading}
-use Rattle.reader.specs.declared.ReadAnswer.{ReadAnswer}
-use Rattle.reader.specs.declared.ReadAnswer.TheVariants.{Accepted, TooLong, NotHeld, Faulty}
+use Rattle.marking.specs.declared.Marking.{Marking}
+use Rattle.reader.specs.Answers.{pair, unread_pair, model_reading, marking_reading}
+use Rattle.reader.specs.declared.ReadRefusal.{ReadRefusal}
 use Rattle.reader.specs.declared.ModelReading.{ModelReading}
-use Rattle.reader.specs.declared.MarkingReading.{MarkingReading}
-use Rattle.runner.specs.Answers.{step_pair, stepping}
-use Rattle.runner.specs.declared.Stepped.{Stepped}
-use Rattle.keeper.specs.Answers.{weight_pair, weight_checking}
+use Rattle.runner.specs.Answers.{Stepped, step_pair, stepping}
+use Rattle.keeper.specs.Answers.{weight_pair, check_given, weight_checking}
+use Rattle.keeper.specs.declared.WeightRefusal.{WeightRefusal}
 use Rattle.keeper.specs.declared.WeightCheck.{WeightCheck}
 use Rattle.keeper.specs.declared.Sum.{Sum}
 use Rattle.spread.specs.Call.{spread_pair, spread_value, spread_call}
@@ -45,14 +45,12 @@ pub data Result : Type 0 where
 -- ---- what the definitions give
 
 -- a refused reading ends a case
-unfoldable pub once_read : ReadAnswer → Result → Result
-once_read Accepted o = o
-once_read TooLong o = unread (read_pair TooLong)
-once_read NotHeld o = unread (read_pair NotHeld)
-once_read (Faulty d) o = unread (read_pair (Faulty d))
+unfoldable pub once_read : {A : Type 0} → code.Result A ReadRefusal → (A → Result) → Result
+once_read (Ok a) f = f a
+once_read (Err e) f = unread (unread_pair e)
 
-unfoldable pub checked : WeightCheck → Result
-checked c = of_weights (weight_pair c.answer) c.sum c.cover
+unfoldable pub checked : code.Result WeightCheck WeightRefusal → Result
+checked c = of_weights (weight_pair c) (check_given c).sum (check_given c).cover
 
 unfoldable pub step_outcome : Model → Stepped → Result
 step_outcome m r = of_step (step_pair r.answer) (marking_text (tokens_of (sizes_for m) r.marking))
@@ -62,17 +60,17 @@ counted n k = let a = spread_call n k in of_spread (spread_pair a) (spread_value
 
 -- once the model is read, and once the marking is
 unfoldable pub check_for : Text → ModelReading → Result
-check_for file r = once_read r.answer (checked (weight_checking r.model r.start file))
+check_for file r = checked (weight_checking r.model r.start file)
 
-unfoldable pub step_on : Text → Model → MarkingReading → Result
-step_on text m r = once_read r.answer (step_outcome m (stepping m r.marking text))
+unfoldable pub step_on : Text → Model → Marking → Result
+step_on text m k = step_outcome m (stepping m k text)
 
 unfoldable pub step_for : Text → Text → ModelReading → Result
-step_for marking text r = once_read r.answer (step_on text r.model (marking_reading r.model marking))
+step_for marking text r = once_read (marking_reading r.model marking) (step_on text r.model)
 
 unfoldable pub outcome_of : Input → Result
-outcome_of (weights model file) = check_for file (model_reading model)
-outcome_of (step model marking text) = step_for marking text (model_reading model)
+outcome_of (weights model file) = once_read (model_reading model) (check_for file)
+outcome_of (step model marking text) = once_read (model_reading model) (step_for marking text)
 outcome_of (spread n k) = counted n k
 
 -- ---- the rows

@@ -72,17 +72,7 @@ marking_causes room taken give held =
 unfoldable pub causes_in : ℕ → Rule → List NetToken → List NetToken → List NetToken → List (Option Cause)
 causes_in room q taken given held = outer_causes q.pre q.post taken given ++ (inner_causes q taken given ++ marking_causes room taken (length given) held)
 
--- 01's table: a cause's number, and what stands beside it. Nets are numbered from 1, lines from the step's `fire` line: `take` is line 2,
--- its `lines` token lines follow, then `give`
-abbrev pub cause_pair : ℕ → Cause → Refusal
-cause_pair lines taking = record { number = 8; beside = 2 }
-cause_pair lines giving = record { number = 8; beside = 3 + lines }
-cause_pair lines (short n) = record { number = 9; beside = suc n }
-cause_pair lines (unequal n) = record { number = 10; beside = suc n }
-cause_pair lines (missing i) = record { number = 11; beside = 3 + i }
-cause_pair lines crowded = record { number = 12; beside = 3 + lines }
-
--- a cause as the code says it, and its number in the table
+-- a cause as the code says it, and its number in 01's table
 abbrev pub cause_of : Cause → cause.Cause
 cause_of taking = Places
 cause_of giving = Places
@@ -98,10 +88,31 @@ number_of Unequal = 10
 number_of Missing = 11
 number_of Crowded = 12
 
+-- what stands beside it. Nets are numbered from 1, lines from the step's `fire` line: `take` is line 2, its `lines` token lines follow, then
+-- `give`
+abbrev pub beside_of : ℕ → Cause → ℕ
+beside_of lines taking = 2
+beside_of lines giving = 3 + lines
+beside_of lines (short n) = suc n
+beside_of lines (unequal n) = suc n
+beside_of lines (missing i) = 3 + i
+beside_of lines crowded = 3 + lines
+
+-- a step is turned down by a cause
+abbrev pub turned_by : ℕ → Cause → refusal.Refusal
+turned_by lines c = record { cause = cause_of c; beside = beside_of lines c }
+
+-- the number and what stands beside it
+abbrev pub turned_pair : refusal.Refusal → Refusal
+turned_pair r = record { number = number_of r.cause; beside = r.beside }
+
+abbrev pub cause_pair : ℕ → Cause → Refusal
+cause_pair lines c = turned_pair (turned_by lines c)
+
 -- a step fires where it meets no cause, and is turned down by the first that it meets
 unfoldable pub verdict_of : ℕ → Option Cause → Result (Unit {0}) refusal.Refusal
 verdict_of lines none = Ok tt
-verdict_of lines (some c) = Err (record { cause = cause_of c; beside = (cause_pair lines c).beside })
+verdict_of lines (some c) = Err (turned_by lines c)
 
 -- an index of the theory as the code answers it
 abbrev pub told : Option ℕ → code.Option ℕ

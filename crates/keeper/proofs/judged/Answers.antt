@@ -17,10 +17,11 @@ use Rattle.keeper.specs.declared.HeldWeights.{HeldWeights}
 use Rattle.keeper.proofs.HeldRows.{Kept}
 use Rattle.keeper.proofs.ZeroLaws.{zero_is}
 use Rattle.keeper.proofs.JudgeLaws.{model-held, marking_held, tokens-few, places_in, turned_zero, turned-event, none_turned, passed_is}
+use Rattle.std.specs.Prelude.{Ok}
 use Rattle.keeper.proofs.judged.Goals as goal
 
-pub overflow_add-last : goal.overflow_add-last
-overflow_add-last c = omega (arith, most-nets _ (held-is _ (model-held _ _ c.requires.both)))
+pub overflow_add-result : goal.overflow_add-result
+overflow_add-result c = omega (arith, most-nets _ (held-is _ (model-held _ _ c.requires.both)))
 
 pub unbalanced-requires : goal.unbalanced-requires
 unbalanced-requires c = record { tested = model-held _ _ c.requires.both; room = c.requires.room }
@@ -31,7 +32,7 @@ returns-then-all_zero c =
     λ w h.
     let kept : Kept m w = record { held = model-held _ _ c.requires.both; types = search rules; objects = c.requires.room.0; shaped = h.shaped } in
     let zero = zero_is m w kept ∙ sym (ap (λ (x : HeldWeights). every (every is_zero) x.rows) h.is) ∙ sym c.all_zero.ensures in
-    c.weights_refused.ensures ∙ turned_zero _ _ w _ (zero ∙ c.if-all_zero.true)
+    turned_zero _ _ w _ (zero ∙ c.if-all_zero.true)
 
 pub held-requires : goal.held-requires
 held-requires c = tokens-few _ _ c.requires.both
@@ -55,7 +56,7 @@ returns-in-Some c =
     λ w h.
     let kept : Kept m w = record { held = model-held _ _ c.requires.both; types = search rules; objects = c.requires.room.0; shaped = h.shaped } in
     let zero = zero_is m w kept ∙ sym (ap (λ (x : HeldWeights). every (every is_zero) x.rows) h.is) ∙ sym c.all_zero.ensures in
-    c.weights_refused-in-Some.ensures ∙ turned-event _ _ w _ (zero ∙ c.if-all_zero.false) _ (c.unbalanced.ensures.first w h) c.in-Some.event c.in-Some.is
+    turned-event _ _ w _ (zero ∙ c.if-all_zero.false) _ (c.unbalanced.ensures.first w h) c.in-Some.event c.in-Some.is
 
 pub returns : goal.returns
 returns c =
@@ -64,6 +65,6 @@ returns c =
     let kept : Kept m w = record { held = model-held _ _ c.requires.both; types = search rules; objects = c.requires.room.0; shaped = h.shaped } in
     let zero = zero_is m w kept ∙ sym (ap (λ (x : HeldWeights). every (every is_zero) x.rows) h.is) ∙ sym c.all_zero.ensures in
     let sum : to_z w64 (of_z w64 c.marking_weight-sum.result) ≡ c.marking_weight-sum.result = omega (arith, ints) in
-    passed_is m w kept c.args.k.now (marking_held _ _ c.requires.both) c.args.held.now h.is c.marking_weight-sum.result (rw c.held.ensures.tokens at c.marking_weight-sum.ensures.value) _ (c.from.ensures ∙ ap sum_of sum) _ _
-    (c.covers-cover.ensures ∙ ap (covered c.args.most m.places m.nets m.objects c.args.held.now.rows) (c.unsigned_abs.ensures.value ∙ ap nat_abs sum))
+    ap Ok (passed_is m w kept c.args.k.now (marking_held _ _ c.requires.both) c.args.held.now h.is c.marking_weight-sum.result (rw c.held.ensures.tokens at c.marking_weight-sum.ensures.value) _ (c.from.ensures ∙ ap sum_of sum) _ _
+    (c.covers-cover.ensures ∙ ap (covered c.args.most m.places m.nets m.objects c.args.held.now.rows) (c.unsigned_abs.ensures.value ∙ ap nat_abs sum)))
     ∙ none_turned _ _ w _ (zero ∙ c.if-all_zero.false) _ (c.unbalanced.ensures.first w h) c.in_default.is

@@ -4,27 +4,28 @@ use native.Mathlib.Omega.{arith}
 use lib.Seq.{length-take-le}
 use Rattle.text.specs.Bytes.{Text}
 use Rattle.reader.specs.Answers.{lay_whole}
+use Rattle.keeper.specs.Answers.{unpassed_pair}
+use Rattle.pairs.proofs.AnswerLaws.{answered}
 use Rattle.listing.proofs.StageLaws.{weights_end, weights-listed}
 use Rattle.listing.proofs.after_model.Goals as goal
 
-pub slice_bounds-lay_head-end-then-not-is_accepted : goal.slice_bounds-lay_head-end-then-not-is_accepted
-slice_bounds-lay_head-end-then-not-is_accepted c =
-    sym (length-take-le _ _ (omega (arith, c.put_pair-next.ensures.2, c.put_pair-next.auto.out)))
+pub slice_bounds-lay_head-end-in_default : goal.slice_bounds-lay_head-end-in_default
+slice_bounds-lay_head-end-in_default c = sym (length-take-le _ _ (omega (arith, c.put_pair-next.ensures.2, c.put_pair-next.auto.out)))
 
-pub returns-then-not-is_accepted : goal.returns-then-not-is_accepted
-returns-then-not-is_accepted c =
+pub returns-in_default : goal.returns-in_default
+returns-in_default c =
     let a = c.args in
     c.lay_head.ensures
     ∙ ap (λ (text : Text). lay_whole text a.out.now)
-    (weights_end a.head.now a.at a.m a.k a.weights.now a.trace.now c.weights_file-check.result c.weights_file-check.ensures _ c.from-judged.ensures
-    (sym c.is_accepted.ensures ∙ c.if-not-is_accepted.true) (c.put_pair-next.ensures.0, c.put_pair-next.ensures.1) (omega (arith, c.put_pair-next.ensures.2, c.requires.1)))
+    (weights_end a.head.now a.at a.m a.k a.weights.now a.trace.now c.weights_file-check.result c.weights_file-check.ensures _ (answered unpassed_pair _ _ c.from.ensures)
+    _ c.in_default.is (c.put_pair-next.ensures.0, c.put_pair-next.ensures.1) (omega (arith, c.put_pair-next.ensures.2, c.requires.1)))
 
 pub returns : goal.returns
 returns c =
     let a = c.args in
     c.after_weights.ensures
     ∙ ap (λ (text : Text). lay_whole text a.out.now)
-    (weights-listed a.head.now a.at a.m a.k a.weights.now a.trace.now c.weights_file-check.result c.weights_file-check.ensures _ c.from-judged.ensures
-    (sym c.is_accepted.ensures ∙ c.if-not-is_accepted.false) (c.put_pair-next.ensures.0, c.put_pair-next.ensures.1)
+    (weights-listed a.head.now a.at a.m a.k a.weights.now a.trace.now c.weights_file-check.result c.weights_file-check.ensures _ (answered unpassed_pair _ _ c.from.ensures)
+    _ c.in-Ok.is (c.put_pair-next.ensures.0, c.put_pair-next.ensures.1)
     (c.put_sum-cover.ensures.0, c.put_sum-cover.ensures.1) (c.put_cover-end.ensures.0, c.put_cover-end.ensures.1)
     (omega (arith, c.put_pair-next.ensures.2, c.put_sum-cover.ensures.2, c.put_cover-end.ensures.2, c.requires.1)))

@@ -1,6 +1,6 @@
 -- `after_weights` meets its contract: the lines before the net-tokens stand in the head, and the rest is laid behind them.
 use Prim.Native.Nat.{◌+◌, ◌≤◌}
-use mathlib.Core.Path.{◌≡◌, ap, sym, ◌∙◌}
+use mathlib.Core.Path.{◌≡◌, ap, sym, subst, ◌∙◌}
 use mathlib.Core.Bool.{true}
 use native.Mathlib.Omega.{arith}
 use lib.ListN.{length}
@@ -12,13 +12,18 @@ use Rattle.reader.specs.Answers.{held_both, lay_whole}
 use Rattle.listing.proofs.ThreeFiles.{trace_held}
 use Rattle.listing.proofs.ListingLines.{long-line}
 use Rattle.listing.proofs.StageLaws.{run-listed}
+use Rattle.pairs.proofs.AnswerLaws.{answered}
+use Rattle.runner.specs.Answers.{unfired_pair}
+use Rattle.runner_trace.specs.Running.{Ran, ran_to}
 use Rattle.listing.proofs.after_weights.Goals as goal
 use Rattle.listing.proofs.after_weights.Goals.{After-put_pair-end, After-trace_file-ran}
 
 -- the marking that the run leaves is held
-held : (c : After-trace_file-ran) → held_both c.args.m c.trace_file-ran.result.marking ≡ true
-held c = let long : length c.args.k.tokens ≡ 256 = (marking_sized c.args.k _ c.well_formed.1.0).long in
-    rw c.trace_file-ran.ensures (trace_held c.args.m c.args.k c.args.trace.now (record { held = c.requires.0; long = long }))
+held : (c : After-trace_file-ran) → held_both c.args.m c.trace_file-ran.new.k ≡ true
+held c =
+    let long : length c.args.k.tokens ≡ 256 = (marking_sized c.args.k _ c.well_formed.1.0).long in
+    subst (λ (r : Ran). held_both c.args.m r.marking ≡ true) (sym c.trace_file-ran.ensures)
+    (trace_held c.args.m c.args.k c.args.trace.now (record { held = c.requires.0; long = long }))
 
 -- the lines end within the head, whose length stays
 ends : (c : After-put_pair-end) →
@@ -54,5 +59,6 @@ returns c =
     let a = c.args in
     c.lay_with_held.ensures
     ∙ ap (λ (text : Text). lay_whole text a.out.now)
-    (run-listed a.head.now a.at a.m a.k a.trace.now c.trace_file-ran.result c.trace_file-ran.ensures _ c.from.ensures
+    (run-listed a.head.now a.at a.m a.k a.trace.now (ran_to c.trace_file-ran.result c.trace_file-ran.new.k) c.trace_file-ran.ensures _
+    (answered unfired_pair _ _ c.from.ensures)
     c.put_number_line-next.ensures (c.put_pair-end.ensures.0, c.put_pair-end.ensures.1) (ends (goal.at.returns c).After-put_pair-end).0)

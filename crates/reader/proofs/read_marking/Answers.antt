@@ -1,9 +1,10 @@
 -- `read_marking` meets its contract: a text that is too long, a model that is not held, a line that is refused, or a marking.
 use mathlib.Core.Path.{◌≡◌, sym, ap, ◌∙◌}
 use mathlib.Core.Bool.{true}
+use Rattle.std.proofs.lemmas.Result.{err_from_is_err_and}
+use Rattle.std.specs.Prelude.{Err}
 use Rattle.model.specs.Test.{held_model}
-use Rattle.reader.specs.Answers.{no_tokens}
-use Rattle.reader.proofs.ReadingLaws.{sizes_roomy, marking_long, marking_unheld, marking_refused, marking_accepted}
+use Rattle.reader.proofs.ReadingLaws.{short_ok, sizes_roomy, marking_long, marking_unheld, marking_refused, marking_accepted}
 use Rattle.reader.proofs.read_marking.Goals as goal
 use Rattle.reader.proofs.read_marking.Goals.{Else-not-is_held}
 
@@ -11,12 +12,13 @@ use Rattle.reader.proofs.read_marking.Goals.{Else-not-is_held}
 passed : (c : Else-not-is_held) → held_model c.args.m.now ≡ true
 passed c = sym c.is_held.ensures ∙ c.if-not-is_held.false
 
-pub returns-then-s-gt-LONGEST : goal.returns-then-s-gt-LONGEST
-returns-then-s-gt-LONGEST c = c.no_tokens.ensures ∙ marking_long _ _ c.if-s-gt-LONGEST.true
+pub returns-in_err-short : goal.returns-in_err-short
+returns-in_err-short c =
+    let p = err_from_is_err_and c.from_residual.result c.from_residual.ensures.1 in
+    rw (p.1, p.2) (marking_long _ _ _ c.in_err-short.ensures)
 
 pub returns-then-not-is_held : goal.returns-then-not-is_held
-returns-then-not-is_held c =
-    c.no_tokens-then-not-is_held.ensures ∙ marking_unheld _ _ c.if-s-gt-LONGEST.false (sym c.is_held.ensures ∙ c.if-not-is_held.true)
+returns-then-not-is_held c = marking_unheld _ _ (short_ok _ c.in_ok-short.ensures) (sym c.is_held.ensures ∙ c.if-not-is_held.true)
 
 pub place_sizes-requires : goal.place_sizes-requires
 place_sizes-requires c = passed (goal.at.place_sizes-requires c).Else-not-is_held
@@ -26,9 +28,9 @@ marking_lines-requires c = sizes_roomy _ (passed (goal.at.marking_lines-requires
 
 pub returns-in-Err : goal.returns-in-Err
 returns-in-Err c =
-    c.no_tokens-in-Err.ensures ∙ ap no_tokens c.faulty.ensures
-    ∙ marking_refused _ _ c.if-s-gt-LONGEST.false (passed (goal.at.returns-in-Err c).Else-not-is_held) _ c.place_sizes.ensures _ c.in-Err.ensures
+    ap Err c.faulty.ensures
+    ∙ marking_refused _ _ (short_ok _ c.in_ok-short.ensures) (passed (goal.at.returns-in-Err c).Else-not-is_held) _ c.place_sizes.ensures _ c.in-Err.ensures
 
 pub returns : goal.returns
 returns c =
-    marking_accepted _ _ c.if-s-gt-LONGEST.false (passed (goal.at.returns c).Else-not-is_held) _ c.place_sizes.ensures _ c.in_default.ensures
+    marking_accepted _ _ (short_ok _ c.in_ok-short.ensures) (passed (goal.at.returns c).Else-not-is_held) _ c.place_sizes.ensures _ c.in_default.ensures

@@ -1,16 +1,17 @@
 -- `read_model` meets its contract: a text that is too long, a line that is refused, or a model with its start.
 use mathlib.Core.Path.{ap, ◌∙◌}
-use Rattle.reader.specs.Answers.{no_reading}
-use Rattle.reader.proofs.ReadingLaws.{model-long, model_refused, model_accepted}
+use Rattle.std.proofs.lemmas.Result.{err_from_is_err_and}
+use Rattle.std.specs.Prelude.{Err}
+use Rattle.reader.proofs.ReadingLaws.{short_ok, model-long, model_refused, model_accepted}
 use Rattle.reader.proofs.read_model.Goals as goal
 
-pub returns-then-s-gt-LONGEST : goal.returns-then-s-gt-LONGEST
-returns-then-s-gt-LONGEST c = c.no_reading.ensures ∙ model-long _ c.if-s-gt-LONGEST.true
+pub returns-in_err-short : goal.returns-in_err-short
+returns-in_err-short c =
+    let p = err_from_is_err_and c.from_residual.result c.from_residual.ensures.1 in
+    rw (p.1, p.2) (model-long _ _ c.in_err-short.ensures)
 
 pub returns-in-Err : goal.returns-in-Err
-returns-in-Err c =
-    c.no_reading-in-Err.ensures ∙ ap no_reading c.faulty.ensures
-    ∙ model_refused _ c.if-s-gt-LONGEST.false _ c.in-Err.ensures
+returns-in-Err c = ap Err c.faulty.ensures ∙ model_refused _ (short_ok _ c.in_ok-short.ensures) _ c.in-Err.ensures
 
 pub returns : goal.returns
-returns c = model_accepted _ c.if-s-gt-LONGEST.false _ _ c.in_default.ensures
+returns c = model_accepted _ (short_ok _ c.in_ok-short.ensures) _ _ c.in_default.ensures

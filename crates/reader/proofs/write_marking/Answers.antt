@@ -1,5 +1,6 @@
 -- `write_marking` meets its contract: not held, or what the writer of a marking answers.
-use mathlib.Core.Path.{◌≡◌, sym, ◌∙◌}
+use mathlib.Core.Path.{◌≡◌, refl, sym, ◌∙◌}
+use Rattle.std.proofs.lemmas.Result.{err_from_is_err_and}
 use mathlib.Core.Bool.{true}
 use native.Mathlib.Omega.{arith}
 use Rattle.marking.specs.Printed.{marking_text}
@@ -24,7 +25,12 @@ write-requires c =
     let a = write_asks _ _ (passed (goal.at.write-requires c).Else-not-test_marking) _ c.place_sizes.ensures in
     (a.0, a.1, omega arith, omega arith)
 
+pub returns-in_err-write : goal.returns-in_err-write
+unfolding marking_text
+returns-in_err-write c =
+    let p = err_from_is_err_and c.from_residual.result c.from_residual.ensures.1 in
+    rw (p.1, p.2) (write_laid _ _ _ (passed (goal.at.returns-in_err-write c).Else-not-test_marking) _ c.place_sizes.ensures _ _ _ refl c.in_err-write.ensures)
+
 pub returns : goal.returns
 unfolding marking_text
-returns c =
-    write_laid _ _ _ (passed (goal.at.returns c).Else-not-test_marking) _ c.place_sizes.ensures _ _ _ c.written_as.ensures c.write.ensures
+returns c = write_laid _ _ _ (passed (goal.at.returns c).Else-not-test_marking) _ c.place_sizes.ensures _ _ _ refl c.in_ok-write.ensures

@@ -6,8 +6,8 @@ use lib.ListN.{length}
 use Rattle.runner_trace.proofs.TurnLaws.{Going}
 use Rattle.runner_trace.proofs.steps.Given as goal
 
-abbrev pub invariant-loop-bytes : goal.invariant-loop-bytes
-invariant-loop-bytes l = (l.r.src.now ≡ l.fn.r.src.now) × Going l.m l.fn.k l.fn.r.src.now l.fn.r.at l.fired l.r.at l.k
+abbrev pub invariant-loop-answer : goal.invariant-loop-answer
+invariant-loop-answer l = (l.r.src.now ≡ l.fn.r.src.now) × Going l.m l.fn.k l.fn.r.src.now l.fn.r.at l.fired l.r.at l.k
 
-abbrev pub decreases-loop-bytes : goal.decreases-loop-bytes
-decreases-loop-bytes l = length l.r.src.now - l.r.at
+abbrev pub decreases-loop-answer : goal.decreases-loop-answer
+decreases-loop-answer l = length l.r.src.now - l.r.at

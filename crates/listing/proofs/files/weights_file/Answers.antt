@@ -4,7 +4,7 @@ use Rattle.listing.proofs.ThreeFiles.{weights-long, weights-short}
 use Rattle.listing.proofs.files.weights_file.Goals as goal
 
 pub returns-then-s-gt-LONGEST : goal.returns-then-s-gt-LONGEST
-returns-then-s-gt-LONGEST c = c.weights_refused.ensures ∙ weights-long _ _ _ c.if-s-gt-LONGEST.true
+returns-then-s-gt-LONGEST c = weights-long _ _ _ c.if-s-gt-LONGEST.true
 
 pub returns : goal.returns
 returns c = c.check_weights.ensures ∙ weights-short _ _ _ c.if-s-gt-LONGEST.false

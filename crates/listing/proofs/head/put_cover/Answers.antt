@@ -16,12 +16,10 @@ one_digit true = omega arith
 one_digit false = omega arith
 
 pub put_number_line-requires : goal.put_number_line-requires
-put_number_line-requires c =
-    let cover = c.args.cover in
-    omega (arith, cover_length (bool_byte cover) (one_digit cover))
+put_number_line-requires c = rw c.from.ensures (omega (arith, cover_length _ (one_digit c.args.cover)))
 
 pub returns : goal.returns
 returns c =
     let a = c.args in
     let n = bool_byte a.cover in
-    laid_as _ _ a.out.now a.at 8 (cover_is a.cover n (byte_is a.cover)) (cover_length n (one_digit a.cover)) c.put_number_line.ensures
+    laid_as _ _ a.out.now a.at 8 (cover_is a.cover n (byte_is a.cover)) (cover_length n (one_digit a.cover)) (rw c.from.ensures at c.put_number_line.ensures)

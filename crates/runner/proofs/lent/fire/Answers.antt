@@ -1,8 +1,10 @@
 -- `fire` meets its contract: a step that meets no cause has its net-tokens in the marking and room, so the marking is changed; one that
 -- meets a cause leaves it.
-use mathlib.Core.Path.{◌≡◌, sym, ◌∙◌}
+use mathlib.Core.Path.{◌≡◌, sym}
 use native.Mathlib.Omega.{arith}
-use Rattle.std.specs.Prelude.{Ok}
+use Rattle.std.specs.Prelude.{Result, Ok}
+use Rattle.step.specs.declared.Refusal.{Refusal}
+use Rattle.std.proofs.lemmas.Result.{err_from_is_err_and}
 use lib.ListN.{length}
 use Rattle.eos.specs.Causes.{first}
 use Rattle.marking.specs.Tokens.{tokens_in}
@@ -11,16 +13,15 @@ use Rattle.step.specs.Verdict.{causes_in, verdict_of}
 use Rattle.step.proofs.FiresLaws.{fires-within, fires-room}
 use Rattle.runner.proofs.StepAnswers.{fired_tokens, turned_tokens}
 use Rattle.runner.proofs.lent.fire.Goals as goal
-use Rattle.runner.proofs.lent.fire.Goals.{After-verdict, In_default}
+use Rattle.runner.proofs.lent.fire.Goals.{Start, In_ok-verdict}
 
--- the verdict is on the marking's net-tokens
-judged : (c : After-verdict) → let a = c.args in
-    c.verdict.result ≡ verdict_of (length a.taken.now) (first (causes_in a.room a.rule.now a.taken.now a.given.now (tokens_in a.k.now)))
-judged c = rw c.held.ensures.tokens at c.verdict.ensures
+-- the verdict on the marking's net-tokens
+abbrev Judged : (c : Start) → Result (Unit {0}) Refusal → Type 0
+Judged c v = let a = c.args in v ≡ verdict_of (length a.taken.now) (first (causes_in a.room a.rule.now a.taken.now a.given.now (tokens_in a.k.now)))
 
 -- the step meets no cause
-fires : (c : In_default) → let a = c.args in verdict_of (length a.taken.now) (first (causes_in a.room a.rule.now a.taken.now a.given.now (tokens_in a.k.now))) ≡ Ok tt
-fires c = sym (judged (goal.at.In_default c).After-verdict) ∙ c.in_default.is
+fires : (c : In_ok-verdict) → Judged (goal.at.In_ok-verdict c).Start (Ok tt)
+fires c = rw c.held.ensures.tokens at c.in_ok-verdict.ensures
 
 pub held-requires : goal.held-requires
 held-requires c = c.requires.4.few
@@ -30,13 +31,15 @@ verdict-requires c =
     let k = c.requires.4 in
     rw c.held.ensures.tokens (c.requires.0, c.requires.1, c.requires.2, c.requires.3, omega (arith, length-held c.args.k.now k, k.few), k.sorted)
 
-pub returns-in-Err : goal.returns-in-Err
-returns-in-Err c = turned_tokens _ _ _ _ _ c.in-Err.refusal (sym (judged (goal.at.returns-in-Err c).After-verdict) ∙ c.in-Err.is) _ c.number.ensures
+pub returns-in_err-verdict : goal.returns-in_err-verdict
+returns-in_err-verdict c =
+    let p = err_from_is_err_and c.from_residual.result c.from_residual.ensures.1 in
+    rw (p.1, p.2) (turned_tokens _ _ _ _ _ _ (sym (rw c.held.ensures.tokens at c.in_err-verdict.ensures)))
 
 pub change-requires : goal.change-requires
 change-requires c =
     let a = c.args in
-    let f = fires (goal.at.change-requires c).In_default in
+    let f = sym (fires (goal.at.change-requires c).In_ok-verdict) in
     let r = fires-room a.room _ a.rule.now a.taken.now a.given.now (tokens_in a.k.now) f in (
       c.requires.4,
       fires-within a.room _ a.rule.now a.taken.now a.given.now (tokens_in a.k.now) f,
@@ -44,4 +47,4 @@ change-requires c =
     )
 
 pub returns : goal.returns
-returns c = fired_tokens _ _ _ _ _ (fires (goal.at.returns c).In_default) _ c.change.ensures
+returns c = fired_tokens _ _ _ _ _ (sym (fires (goal.at.returns c).In_ok-verdict)) _ c.change.ensures

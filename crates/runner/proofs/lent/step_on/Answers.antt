@@ -2,7 +2,6 @@
 use mathlib.Core.Path.{ap, sym, subst, ◌∙◌}
 use Rattle.text.specs.Lines.{Outcome}
 use Rattle.text.specs.Answers.{kept}
-use Rattle.text.specs.declared.Spot.{Spot}
 use Rattle.text_reader.specs.Place.{Reads}
 use Rattle.text_reader.proofs.ReadsLaws.{refused_of}
 use Rattle.eos.specs.Firing.{Step}
@@ -14,13 +13,14 @@ use Rattle.reader.proofs.ReadingLaws.{both_model}
 use Rattle.std.specs.declared.result.Result.TheVariants.{Ok}
 use Rattle.text_reader.specs.declared.Reader.{Reader}
 use Rattle.step.specs.Answers.{hold_step, rows_of}
-use Rattle.runner.specs.declared.StepAnswer.TheVariants.{Faulty}
 use Rattle.runner.specs.Answers.{stays}
 use Rattle.runner.proofs.ReadLaws.{ReadTokens, lines-got}
 use Rattle.runner.proofs.RuledLaws.{RightStep, read_right, rule_is_sound, read_placed}
 use Rattle.runner.proofs.StepAnswers.{both_stands, reading, reading_is, step-refused, step-ruled}
 use Rattle.runner.proofs.lent.step_on.Goals as goal
 use Rattle.runner.proofs.lent.step_on.Goals.{In-Ok}
+use Rattle.reader.specs.declared.ReadRefusal.{ReadRefusal}
+use Rattle.runner.specs.declared.StepRefusal.TheVariants.{Unread}
 
 -- the step that was read
 read : (c : In-Ok) → let a = c.args in let r = c.read_step in
@@ -42,7 +42,7 @@ overflow_cast-m c = omega (arith, most-events _ (held-is _ (both_model _ _ c.req
 pub returns-in-Err : goal.returns-in-Err
 returns-in-Err c =
     let a = c.args in
-    ap (λ (x : Spot). stays (Faulty x) a.k.now) c.spot_of.ensures
+    ap (λ (x : ReadRefusal). stays (Unread x) a.k.now) c.faulty.ensures
     ∙ step-refused a.m.now a.k.now a.s.now a.room _
     (sym (reading_is a.m.now a.k.now a.s.now a.z.now c.requires.2) ∙ (refused_of hold_step _ _ c.in-Err.ensures).is)
 

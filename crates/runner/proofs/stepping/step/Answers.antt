@@ -1,35 +1,25 @@
 -- `step` meets its contract: 1, then 14, then the step on the marking.
+use mathlib.Core.Path.{◌∙◌}
 use native.Mathlib.Omega.{arith}
-use mathlib.Core.Path.{◌≡◌, sym, ◌∙◌}
-use mathlib.Core.Bool.{true}
-use Rattle.reader.specs.Answers.{held_both}
-use Rattle.reader.proofs.ReadingLaws.{both_model}
-use Rattle.marking.proofs.SizedLaws.{marking_sized}
-use Rattle.runner.proofs.StepAnswers.{step-long, step-unheld, step-held}
+use Rattle.std.proofs.lemmas.Result.{err_from_is_err_and}
+use Rattle.reader.proofs.ReadingLaws.{admitted_ok, both_model}
+use Rattle.runner.proofs.StepAnswers.{step-unread, step-held}
 use Rattle.runner.proofs.stepping.step.Goals as goal
-use Rattle.runner.proofs.stepping.step.Goals.{Else-not-test_marking}
 
--- the two passed the held test
-passed : (c : Else-not-test_marking) → held_both c.args.m.now c.args.k ≡ true
-passed c = sym c.test_marking.ensures ∙ c.if-not-test_marking.false
-
-pub returns-then-s-gt-LONGEST : goal.returns-then-s-gt-LONGEST
-returns-then-s-gt-LONGEST c = step-long _ _ _ c.if-s-gt-LONGEST.true
-
-pub returns-then-not-test_marking : goal.returns-then-not-test_marking
-returns-then-not-test_marking c = step-unheld _ _ _ c.if-s-gt-LONGEST.false (sym c.test_marking.ensures ∙ c.if-not-test_marking.true)
+pub returns-in_err-admitted : goal.returns-in_err-admitted
+returns-in_err-admitted c =
+    let p = err_from_is_err_and c.from_residual.result c.from_residual.ensures.1 in
+    rw (p.1, p.2) (step-unread _ _ _ _ c.in_err-admitted.ensures)
 
 pub place_sizes-requires : goal.place_sizes-requires
-place_sizes-requires c = both_model _ _ (passed (goal.at.place_sizes-requires c).Else-not-test_marking)
+place_sizes-requires c = both_model _ _ (admitted_ok _ _ _ c.in_ok-admitted.ensures).1
 
-pub step_on-answer-requires : goal.step_on-answer-requires
-step_on-answer-requires c = (
-  omega arith,
-  passed (goal.at.step_on-answer-requires c).Else-not-test_marking,
-  c.place_sizes.ensures,
-  c.if-s-gt-LONGEST.false,
-  (marking_sized c.args.k _ c.well_formed.1.0).long,
-)
+pub step_on-requires : goal.step_on-requires
+step_on-requires c =
+    let a = admitted_ok _ _ _ c.in_ok-admitted.ensures in
+    (omega (arith, c.room.ensures.value), a.1, c.place_sizes.ensures, a.0, c.room.ensures.tokens)
 
 pub returns : goal.returns
-returns c = c.step_on-answer.ensures ∙ step-held _ _ _ c.if-s-gt-LONGEST.false (passed (goal.at.returns c).Else-not-test_marking)
+returns c =
+    let a = admitted_ok _ _ _ c.in_ok-admitted.ensures in
+    c.step_on.ensures ∙ rw c.room.ensures.value (step-held _ _ _ a.0 a.1)
