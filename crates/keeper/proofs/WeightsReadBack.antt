@@ -27,7 +27,7 @@ use Rattle.model.specs.Limits.{weight_limit}
 use Rattle.model.proofs.SlotLaws.{by_index}
 use Rattle.reader.specs.Reading.{read_end}
 use Rattle.keeper.specs.Printed.{weight_file_text}
-use Rattle.reader.proofs.ReadsWhatItSays.{ended, to_end_lem}
+use Rattle.reader.proofs.EndLaws.{ended, to_end_lem}
 use Rattle.keeper.specs.Reading.{read_inner, read_weights_at, read_weight_file, right_inner, right_weights}
 
 -- the lines, without the end of the text

@@ -45,7 +45,8 @@ use Rattle.reader.specs.Answers.{loaded, model_reading, restored, marking_or, ma
 use Rattle.reader.specs.declared.ReadAnswer.TheVariants.{Accepted, TooLong, Faulty}
 use Rattle.reader.specs.declared.ModelReading.{ModelReading}
 use Rattle.reader.specs.declared.MarkingReading.{MarkingReading}
-use Rattle.reader.proofs.ReadsWhatItSays.{ended, lines_exactly, reads_what_it_says, reads_what_marking_says}
+use Rattle.reader.proofs.EndLaws.{ended}
+use Rattle.reader.proofs.ReadsWhatItSays.{lines_exactly, reads_what_it_says, reads_what_marking_says}
 use Rattle.marking.proofs.SizeLaws.{held_roomy, sizes_same}
 
 -- ---- accepted is printed
