@@ -1,13 +1,12 @@
 -- `dot` is the product of weights and counts: each summand is at most 32,768 times 65,535.
 use borrow.Author.Rules.{rules}
-use mathlib.Core.Path.{◌≡◌, ap, ◌∙◌}
+use mathlib.Core.Path.{ap, ◌∙◌}
 use mathlib.Core.List.{map}
 use mathlib.Core.Logic.{inl, inr}
 use native.Mathlib.Omega.{arith}
 use lib.ListN.{length-map}
 use mir.Syntax.{w16}
-use mir.Val.{SFits, to_z, of_z}
-use Rattle.std.proofs.lemmas.Int.{ints}
+use Rattle.std.proofs.lemmas.Int.{to_z-of_z}
 use Rattle.weigh.proofs.DotLaws.{added_next, added_up, added_within}
 use Rattle.weigh.proofs.dot.Goals as goal
 
@@ -17,8 +16,7 @@ loop-weight-preserved g c =
     let s = c.in-Some.ensures.steps in
     let i = l.invariant in
     let t = c.times-sum.ensures in
-    let fits : SFits w16 c.in-Some.weight.now = search rules in
-    let held : to_z w16 (of_z w16 c.in-Some.weight.now) ≡ c.in-Some.weight.now = omega (arith, ints) in
+    let held = to_z-of_z w16 c.in-Some.weight.now (search rules) in
     (i.0, i.1, added_next _ l.sum-bits l.yielded _ (omega (arith, c.requires)) i.2 s.0 (ap (map g.C.Count.count) s.1) held t.value t.low t.high)
 
 pub returns-clause-value : goal.returns-clause-value

@@ -1,20 +1,16 @@
 -- `counts_gain` is the product of gains and counts: each summand is at most 137,436,856,320 times 255.
 use borrow.Author.Rules.{rules}
-use mathlib.Core.Path.{◌≡◌}
 use mathlib.Core.Logic.{inl, inr}
 use native.Mathlib.Omega.{arith}
 use mir.Syntax.{w64}
-use mir.Val.{SFits, to_z, of_z}
-use Rattle.std.proofs.lemmas.Int.{ints}
+use Rattle.std.proofs.lemmas.Int.{to_z-of_z}
 use Rattle.weigh.proofs.DotLaws.{added_next, added_up, added_within}
 use Rattle.weigh.proofs.GainLaws.{small_here, small_rest}
 use Rattle.weigh_events.proofs.counts_gain.Goals as goal
 
 pub counted-sum-requires : goal.counted-sum-requires
 counted-sum-requires c =
-    let fits : SFits w64 c.in-Some.gain.now = search rules in
-    let held : to_z w64 (of_z w64 c.in-Some.gain.now) ≡ c.in-Some.gain.now = omega (arith, ints) in
-    rw held (small_here _ _ _ c.in-Some.ensures.steps.0 c.loop-gain.invariant.3)
+    rw (to_z-of_z w64 c.in-Some.gain.now (search rules)) (small_here _ _ _ c.in-Some.ensures.steps.0 c.loop-gain.invariant.3)
 
 pub loop-gain-preserved : goal.loop-gain-preserved
 loop-gain-preserved c =
@@ -22,8 +18,7 @@ loop-gain-preserved c =
     let s = c.in-Some.ensures.steps in
     let i = l.invariant in
     let t = c.counted-sum.ensures in
-    let fits : SFits w64 c.in-Some.gain.now = search rules in
-    let held : to_z w64 (of_z w64 c.in-Some.gain.now) ≡ c.in-Some.gain.now = omega (arith, ints) in (
+    let held = to_z-of_z w64 c.in-Some.gain.now (search rules) in (
       i.0,
       i.1,
       added_next _ l.sum-bits l.yielded _ (omega (arith, c.requires.0)) i.2 s.0 s.1 held t.value t.low t.high,
