@@ -4,6 +4,7 @@ pub mod OrderLaws
 pub mod VectorLaws
 pub mod VectorSums
 pub mod FiringLaws
+pub mod FailingLaws
 pub mod CauseLaws
 pub mod FirstLaws
 pub mod WeightLaws

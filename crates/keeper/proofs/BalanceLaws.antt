@@ -1,20 +1,21 @@
 -- An event's effect is what it gains, by the rows of gains; the first event that gains something.
-use Prim.Native.Nat.{ℕ, zero, suc, ◌+◌, ◌≤◌, ◌<◌}
+use Prim.Native.Nat.{ℕ, suc, ◌≤◌, ◌<◌}
 use mathlib.Core.Path.{◌≡◌, refl, ap, ap₂, sym, ◌∙◌}
-use mathlib.Core.Bool.{Bool, true, cond}
+use mathlib.Core.Bool.{Bool, true}
 use mathlib.Core.List.{List}
-use mathlib.Core.Option.{Option, some}
+use mathlib.Core.Option.{Option, none, some}
 use native.Mathlib.Omega.{arith}
 use lib.IntN.{ℤ, pos, ◌-ℤ◌, ◌*ℤ◌}
 use lib.ListN.{length, take, get_or}
 use lib.Seq.{get_or-take, length-take-le}
 use borrow.Author.Tests.{ltb-true}
 use Rattle.std.specs.Prelude as answer
-use Rattle.text.proofs.Basics.{by_test}
 use Rattle.std.proofs.lemmas.Int.{ints}
 use Rattle.eos.specs.Model as eos
 use Rattle.eos.specs.Firing.{pre, post, outer_of, inner_of}
 use Rattle.eos.specs.Causes.{failing}
+use Rattle.eos.proofs.FailingLaws.{failing_same}
+use Rattle.eos.proofs.FirstLaws.{failing-least}
 use Rattle.eos.specs.Weights.{Weights, dot, dots, value, is_zero, effect}
 use Rattle.model.specs.Rules.{nth, right_act}
 use Rattle.model.specs.Acts.{act_of, move_of}
@@ -28,8 +29,10 @@ use Rattle.keeper.specs.Held.{hold_weights}
 use Rattle.weigh.specs.Sums.{total, row_of, gain_of, Gains, move_gain, event_gain, balanced_at, ActIn, found}
 use Rattle.weigh.proofs.TotalLaws.{total_same, total_minus}
 use Rattle.keeper.proofs.DotLaws.{dot_total, minus_times}
-use Rattle.keeper.proofs.HeldRows.{Kept, event-test}
-use Rattle.keeper.proofs.EffectLaws.{event-is, inside_is, outside_move, outside_idle}
+use Rattle.model.proofs.UsedLaws.{event_used}
+use Rattle.keeper.proofs.HeldRows.{Kept}
+use Rattle.model.proofs.ShapeLaws.{event-is}
+use Rattle.keeper.proofs.EffectLaws.{inside_is, outside_move, outside_idle}
 
 module _ (m : Model) (w : Weights) (kept : Kept m w) (k : ℕ) (listed : k < m.listed) where
   abbrev held : Event
@@ -67,10 +70,10 @@ module _ (m : Model) (w : Weights) (kept : Kept m w) (k : ℕ) (listed : k < m.l
 
   act-held : event.act ≡ act
   unfolding event_of
-  act-held = ap (λ (e : eos.Event). e.act) (event-is m w kept k listed)
+  act-held = ap (λ (e : eos.Event). e.act) (event-is m k listed)
 
   act_right : right_act (frame_in m) act ≡ true
-  act_right = (act-is (frame_in m) held.kind held.index (event-test m kept.held k listed).act).right
+  act_right = (act-is (frame_in m) held.kind held.index (event_used m (held-is m kept.held) k listed).act).right
 
   module _ (gains : List (List ℤ)) (is : Gains m rows gains) where
     net_gain : (n : ℕ) → n < m.nets → dot (row_of gains (suc n)) (row_in 32 held.sync n) ≡ total 32 (counted posts n) -ℤ total 32 (counted pres n)
@@ -112,13 +115,8 @@ pub act_in : (m : Model) → held_model m ≡ true → (k : ℕ) → k < m.liste
 act_in m held k listed =
     let e = get_or m.events k no_event in
     let h = held-is m held in
-    let r = act_range (frame_in m) e.kind e.index (event-test m held k listed).act (most-moves m h) (most-places m h) in
+    let r = act_range (frame_in m) e.kind e.index (event_used m h k listed).act (most-moves m h) (most-places m h) in
     record { least = r.0; most = r.1 }
-
--- tests that are the same fail at the same index
-failing_same : (f g : ℕ → Bool) (d i : ℕ) → ((k : ℕ) → k < i + d → f k ≡ g k) → failing d i f ≡ failing d i g
-failing_same f g zero i h = refl
-failing_same f g (suc d) i h = ap₂ (λ (t : Bool) (o : Option ℕ). cond t o (some i)) (h i (omega arith)) (failing_same f g d (suc i) (λ k p. h k (omega arith)))
 
 -- the listed events of a model, as they are lent
 pub event_listed : (m : Model) (k : ℕ) → k < m.listed → get_or (take m.listed m.events) k no_event ≡ get_or m.events k no_event
@@ -132,16 +130,15 @@ pub first-unbalanced : (m : Model) (w : Weights) → Kept m w → (gains : List 
 first-unbalanced m w kept gains is room =
     ap (λ (n : ℕ). found (failing n 0 (balanced_at m.nets (take m.listed m.events) gains))) (length-take-le m.listed m.events room)
     ∙ ap found
-    (failing_same (balanced_at m.nets (take m.listed m.events) gains) (λ k. is_zero (effect (model_of m) w (eos.event (model_of m) k))) m.listed 0
+    (failing_same m.listed 0 (balanced_at m.nets (take m.listed m.events) gains) (λ k. is_zero (effect (model_of m) w (eos.event (model_of m) k)))
     (λ k l.
     ap (λ (e : Event). is_zero (event_gain m.nets e gains)) (event_listed m k (omega arith))
     ∙ ap is_zero (sym (effect_gain m w kept k (omega arith) gains is))))
 
 -- an index that is found is one of those tested
-failing_within : (f : ℕ → Bool) (d i n : ℕ) → i + d ≤ n → answer.IfSome (found (failing d i f)) (λ k. k < n)
-failing_within f zero i n h = tt
-failing_within f (suc d) i n h =
-    by_test (f i) (λ e. rw e (failing_within f d (suc i) n (omega arith))) (λ e. rw e (omega arith))
-
 pub found_within : (f : ℕ → Bool) (d n : ℕ) → d ≤ n → answer.IfSome (found (failing d 0 f)) (λ k. k < n)
-found_within f d n h = failing_within f d 0 n (omega arith)
+found_within f d n h = go (failing d 0 f) refl
+  where
+    go : (o : Option ℕ) → failing d 0 f ≡ o → answer.IfSome (found o) (λ k. k < n)
+    go none e = tt
+    go (some k) e = omega (arith, (failing-least d f k e).within)

@@ -34,7 +34,7 @@ use Rattle.keeper.specs.Held.{no_rows, weight_row, hold_weights}
 use Rattle.keeper.specs.Parts.{read_outer, read_weight_lines, put_next, behind_outer}
 use Rattle.keeper.specs.declared.HeldWeights.{HeldWeights}
 use Rattle.keeper.proofs.ChainLaws.{all_held}
-use Rattle.keeper.proofs.ShapeLaws.{nets-long, places-long, net-is}
+use Rattle.model.proofs.ShapeLaws.{nets-long, places-long, net-is}
 use Rattle.keeper.proofs.WeightLineLaws.{weights_read}
 
 -- a line of n weights, as the reader answers it

@@ -1,28 +1,26 @@
 -- The lines of a weight file block by block: the outer weights, those of the nets behind them, and the end of the text say what the whole
 -- says.
 use Prim.Native.Nat.{ℕ, suc}
-use mathlib.Core.Path.{◌≡◌, refl, ap, sym, ◌∙◌}
+use mathlib.Core.Path.{◌≡◌, refl, ap}
 use mathlib.Core.List.{List, [], ◌∷◌}
 use native.Mathlib.Numerals.{add-one}
-use lib.Dec.{leb}
 use lib.IntN.{ℤ}
-use lib.ListN.{length, set}
+use lib.ListN.{set}
 use Rattle.std.specs.Prelude.{Result}
 use Rattle.std.specs.declared.result.Result.TheVariants.{Ok, Err}
 use Rattle.text.specs.Bytes.{Text}
-use Rattle.text.specs.Lines.{Outcome, then, need}
+use Rattle.text.specs.Lines.{Outcome, then}
 use Rattle.text.specs.Repeat.{fill}
 use Rattle.text.specs.Answers.{kept, accepted}
 use Rattle.text.specs.declared.Fault.{Fault}
-use Rattle.text.proofs.Basics.{by_test}
 use Rattle.text.proofs.Exactly.{then-then}
 use Rattle.text_reader.specs.Place.{Reads, lent, closed}
 use Rattle.text_reader.specs.declared.Reader.{Reader}
-use Rattle.text_reader.proofs.ReadsLaws.{read_of, refused_of}
 use Rattle.eos.specs.Model as eos
 use Rattle.eos.specs.Weights.{Weights}
 use Rattle.model.specs.Held.{put_at}
 use Rattle.reader.specs.Reading.{read_end}
+use Rattle.reader.proofs.EndLaws.{refused_to_end, read_to_end}
 use Rattle.keeper.specs.Reading.{read_weights_at}
 use Rattle.keeper.specs.Held.{no_rows, weight_row, hold_weights}
 use Rattle.keeper.specs.Parts.{read_outer, read_weight_lines, put_next, behind_outer}
@@ -47,25 +45,12 @@ module _ (m : eos.Model) where
   unfolding read_weight_lines read_outer read_weights_at then
   blocks_are_lines s at = simp then-then
 
--- the end behind weights that were read
-ends : (s : Text) (w : Weights) (next : ℕ) → lent (hold_weights w) (accepted (closed s next)) ≡ accepted (kept hold_weights (read_end s w next))
-unfolding accepted kept closed read_end need
-ends s w next = by_test (leb (length s) next) (λ t. rw t) (λ t. rw t)
-
 module _ (o : Outcome Weights) (old new : Reader) where
   -- a line of them is refused
   pub lines_refused : (e : Fault) → Reads (kept hold_weights o) old new (Err e) → Err e ≡ accepted (kept hold_weights (then o (read_end old.src.now)))
-  unfolding accepted kept then
-  lines_refused e k = rw (refused_of hold_weights o e k).is
+  lines_refused = refused_to_end hold_weights o old new
 
   -- behind lines that ended where they did, it is the reading of the whole text
   pub lines_end : (h : HeldWeights) → Reads (kept hold_weights o) old new (Ok h) → (end : Result (Unit {0}) Fault) → end ≡ accepted (closed new.src.now new.at)
       → lent h end ≡ accepted (kept hold_weights (then o (read_end old.src.now)))
-  unfolding then
-  lines_end h k end e =
-      let q = read_of hold_weights o h k in
-      let same : new.src.now ≡ old.src.now = ap (λ (x : Reader). x.src.now) q.moved in
-      ap (λ (x : HeldWeights). lent x end) q.held
-      ∙ ap (lent (hold_weights q.value)) (e ∙ ap (λ (s : Text). accepted (closed s new.at)) same)
-      ∙ ends old.src.now q.value new.at
-      ∙ sym (ap (λ (x : Outcome Weights). accepted (kept hold_weights (then x (read_end old.src.now)))) q.is)
+  lines_end = read_to_end hold_weights o old new

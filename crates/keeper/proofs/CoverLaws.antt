@@ -1,7 +1,7 @@
 -- Weights cover exactly where the code's test of each weight passes.
 use Prim.Native.Nat.{ℕ, zero, suc, ◌*◌, ◌/◌, ◌≤◌, ◌<◌, min}
 use mathlib.Core.Path.{◌≡◌, refl, ap, sym, ◌∙◌}
-use mathlib.Core.Bool.{Bool, true, false, ◌&&◌, false≢true}
+use mathlib.Core.Bool.{Bool, true, false, ◌&&◌, false≢true, and-true, and-false}
 use mathlib.Core.List.{List, [], ◌∷◌}
 use native.Mathlib.Omega.{arith}
 use lib.Dec.{leb, ltb}
@@ -26,19 +26,11 @@ use Rattle.weigh.specs.Sums.{row_of, enough, net_covered, covered}
 use Rattle.keeper.proofs.EveryLaws.{below_same, every-below, every_and, each_and}
 use Rattle.keeper.proofs.HeldRows.{Kept, few-places, outer-long, inner-long, net-long, net-small, outer-row, inner-row, number_held, length_row}
 
--- three tests in another order; a test beside one that passes, and beside one that fails
+-- three tests in another order
 and_turn : (a b c : Bool) → ((a && b) && c) ≡ (b && (a && c))
 and_turn true b c = refl
 and_turn false true c = refl
 and_turn false false c = refl
-
-and_alone : (a : Bool) → (a && true) ≡ a
-and_alone true = refl
-and_alone false = refl
-
-and_none : (a : Bool) → (a && false) ≡ false
-and_none true = refl
-and_none false = refl
 
 -- a weight by its part above 0
 pub positive-above : (v : ℤ) → positive v ≡ ltb 0 (above v)
@@ -82,12 +74,12 @@ both_least most sum a low h k =
     rw e
     (by_test (leb (sum / low) most)
     (λ t. rw (t, le-leb (sum / a) most (omega (arith, q, leb-true (sum / low) most t))))
-    (λ t. rw t (and_none (leb (sum / a) most)))))
+    (λ t. rw t (and-false (leb (sum / a) most)))))
 
 -- it is at most so many where it is for each weight
 least_most : (most sum : ℕ) (l : List ℤ) → 1 ≤ length l → every positive l ≡ true → every (λ v. leb (sum / nat_abs v) most) l ≡ leb (sum / least l) most
 least_most most sum [] n h = absurd (omega arith)
-least_most most sum (v ∷ []) n h = and_alone (leb (sum / nat_abs v) most)
+least_most most sum (v ∷ []) n h = and-true (leb (sum / nat_abs v) most)
 least_most most sum (v ∷ u ∷ l) n h =
     let p = and_true (positive v) (every positive (u ∷ l)) h in
     ap (λ (t : Bool). leb (sum / nat_abs v) most && t) (least_most most sum (u ∷ l) (omega arith) p.1)

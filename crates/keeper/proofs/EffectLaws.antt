@@ -1,15 +1,11 @@
 -- What an event's net parts and its move weigh, by the tables where they are held.
 use Prim.Native.Nat.{ℕ, suc, ◌+◌, ◌*◌, ◌≤◌, ◌<◌}
 use mathlib.Core.Path.{◌≡◌, ap, ap₂, sym, ◌∙◌}
-use mathlib.Core.Bool.{◌&&◌}
 use mathlib.Core.List.{List, []}
 use native.Mathlib.Omega.{arith}
 use native.Mathlib.Nat.{zero-add}
-use lib.Dec.{eqb}
 use lib.IntN.{ℤ, pos, ◌+ℤ◌, ◌*ℤ◌, +ℤ_idr, *ℤ-zero}
 use lib.ListN.{length, drop, get_or, get_or-eq_default, length-take}
-use Rattle.text.proofs.Basics.{and_true}
-use Rattle.text.specs.Lines.{in_range}
 use Rattle.text.proofs.TestLaws.{within-is}
 use Rattle.eos.specs.Vector.{zeros, unit}
 use Rattle.eos.specs.Model as eos
@@ -22,15 +18,16 @@ use Rattle.model.specs.Test.{frame_in}
 use Rattle.model.specs.declared.ObjectNet.{ObjectNet}
 use Rattle.model.specs.declared.Event.{Event}
 use Rattle.model.specs.declared.Model.{Model}
-use Rattle.model.proofs.SlotLaws.{by_index, cond_below, listed_at}
+use Rattle.model.proofs.SlotLaws.{by_index, listed_at}
 use Rattle.model.proofs.TableLaws.{nth-row}
-use Rattle.model.proofs.HeldTests.{held-is, count_test, nets-at}
+use Rattle.model.proofs.HeldTests.{held-is}
+use Rattle.model.proofs.UsedLaws.{net_used, event_used}
 use Rattle.keeper.specs.Held.{hold_weights}
 use Rattle.weigh.specs.Sums.{total, row_of, number_of}
 use Rattle.weigh.proofs.TotalLaws.{total_same}
 use Rattle.keeper.proofs.DotLaws.{dot_zeros, dot_unit, dots_total, dot_inner, dot_row, row-nth}
-use Rattle.keeper.proofs.ShapeLaws.{net-is}
-use Rattle.keeper.proofs.HeldRows.{Kept, event-test, few-nets, few-places, outer-long, inner-long, net-long, net-small, outer-at, inner-at, outer-few, inner-few}
+use Rattle.model.proofs.ShapeLaws.{net-is, event-is}
+use Rattle.keeper.proofs.HeldRows.{Kept, few-nets, few-places, outer-long, inner-long, net-long, net-small, outer-at, inner-at, outer-few, inner-few}
 
 -- ---- the nets' part of an event
 
@@ -47,27 +44,18 @@ module _ (m : Model) (w : Weights) (kept : Kept m w) (k : ℕ) (listed : k < m.l
   abbrev net : ℕ → ObjectNet
   net n = get_or m.objects n no_net
 
-  pub event-is : event ≡ event_of m.nets m.objects held
-  unfolding model_of
-  event-is = listed_at (λ i. event_of m.nets m.objects (get_or m.events i no_event)) m.listed k eos.no_event listed
-
   few-steps : (n : ℕ) → n < m.nets → (net n).transitions ≤ 32
-  few-steps n p =
-      let h = held-is m kept.held in
-      let used = in_range 1 32 (net n).places && in_range 0 32 (net n).transitions in
-      let t = (and_true (count_test m.nets n (net n)) _ (nets-at m h.nets n (omega (arith, few-nets m w kept)))).0 in
-      let u = rw (cond_below m.nets n used (eqb (net n).places 0 && eqb (net n).transitions 0) p) at t in
-      (within-is 0 32 (net n).transitions (and_true (in_range 1 32 (net n).places) _ u).1).1
+  few-steps n p = (within-is 0 32 (net n).transitions (net_used m (held-is m kept.held) n p).1).1
 
   -- the counts of net n, where they are held
   counts_are_lem : (n : ℕ) → n < m.nets → get_or event.sync n [] ≡ row_in (net n).transitions held.sync n
   unfolding event_of
-  counts_are_lem n p = ap (λ (e : eos.Event). get_or e.sync n []) event-is ∙ listed_at (sync_in m.objects held.sync) m.nets n [] p
+  counts_are_lem n p = ap (λ (e : eos.Event). get_or e.sync n []) (event-is m k listed) ∙ listed_at (sync_in m.objects held.sync) m.nets n [] p
 
   counts-at : (n : ℕ) → n < m.nets → (t : ℕ) → t < 32 → nth (get_or event.sync n []) t ≡ nth (row_in 32 held.sync n) t
   counts-at n p t q =
       ap (λ (l : List ℕ). nth l t) (counts_are_lem n p)
-      ∙ ap (λ (g : ℕ → ℕ). g t) (nth-row 8 m.nets (frame_in m).steps held.sync (event-test m kept.held k listed).past (few-nets m w kept) n p (few-steps n p))
+      ∙ ap (λ (g : ℕ → ℕ). g t) (nth-row 8 m.nets (frame_in m).steps held.sync (event_used m (held-is m kept.held) k listed).past (few-nets m w kept) n p (few-steps n p))
 
   counts-few : (n : ℕ) → n < m.nets → length (get_or event.sync n []) ≤ (net n).transitions
   counts-few n p = rw (counts_are_lem n p) (omega (arith, length-take (net n).transitions (drop (n * 32) held.sync)))

@@ -1,7 +1,8 @@
 -- Laws of tests of every element: by index, and of two tests at once.
 use Prim.Native.Nat.{ℕ, zero, suc, ◌<◌}
-use mathlib.Core.Path.{◌≡◌, refl, ap, ap₂, sym, ◌∙◌}
-use mathlib.Core.Bool.{Bool, true, false, ◌&&◌, false≢true}
+use mathlib.Core.Path.{◌≡◌, refl, ap, ap₂, ◌∙◌}
+use mathlib.Core.Bool.{Bool, true, false, ◌&&◌}
+use Rattle.std.specs.Cmp.{both_ways}
 use mathlib.Core.List.{List, [], ◌∷◌}
 use native.Mathlib.Omega.{arith}
 use lib.ListN.{length, get_or}
@@ -9,12 +10,6 @@ use Rattle.text.proofs.TestLaws.{every-at, every_of}
 use Rattle.eos.specs.Firing.{all_below}
 use Rattle.eos.specs.Multiset.{every}
 use Rattle.model.proofs.SlotLaws.{below_at, below_of}
-
--- tests that hold at the same time are equal
-pub both_ways : (a b : Bool) → (a ≡ true → b ≡ true) → (b ≡ true → a ≡ true) → a ≡ b
-both_ways true b f g = sym (f refl)
-both_ways false true f g = absurd (false≢true (g refl))
-both_ways false false f g = refl
 
 pub below_same : (n : ℕ) (f g : ℕ → Bool) → ((i : ℕ) → i < n → f i ≡ g i) → all_below n f ≡ all_below n g
 below_same zero f g h = refl
@@ -33,10 +28,6 @@ module _ {A : Type 0} where
       both_ways (every f l) (all_below (length l) (λ i. f (get_or l i d)))
       (λ h. below_of (length l) (λ i. f (get_or l i d)) (λ i p. every-at f l i d h p))
       (λ h. every_of f l d (λ i p. below_at (length l) (λ i. f (get_or l i d)) h i p))
-
-  pub every_same : (f g : A → Bool) (l : List A) → ((a : A) → f a ≡ g a) → every f l ≡ every g l
-  every_same f g [] h = refl
-  every_same f g (a ∷ l) h = ap₂ ◌&&◌ (h a) (every_same f g l h)
 
   -- two tests at once
   pub every_and : (f g : A → Bool) (l : List A) → every (λ a. f a && g a) l ≡ (every f l && every g l)

@@ -10,17 +10,17 @@ use lib.Seq.{sets}
 use Rattle.text.specs.Repeat.{fill}
 use Rattle.eos.specs.Model as eos
 use Rattle.eos.specs.Weights.{Weights, Shaped}
-use Rattle.model.specs.Held.{no_net, no_event, put_at, net_of, model_of}
-use Rattle.model.specs.Test.{held_event, empty_event, frame_in, held_model}
+use Rattle.model.specs.Held.{no_net, put_at, net_of, model_of}
+use Rattle.model.specs.Test.{held_model}
 use Rattle.model.specs.declared.Model.{Model}
 use Rattle.model.proofs.SlotLaws as slots
 use Rattle.model.proofs.SlotLaws.{by_index, cond_below}
 use Rattle.model.proofs.HeldTestLoops.{at_any}
-use Rattle.model.proofs.HeldTests.{held-is, most-nets, most-places, most-events, events-at, EventIn, event_in}
+use Rattle.model.proofs.HeldTests.{held-is, most-nets, most-places}
 use Rattle.marking.proofs.SizeLaws.{nets-small}
 use Rattle.weigh.specs.Sums.{row_of, number_of}
 use Rattle.keeper.specs.Held.{weight_lists, no_row, weight_row, hold_weights}
-use Rattle.keeper.proofs.ShapeLaws.{nets-long, places-long, net-is}
+use Rattle.model.proofs.ShapeLaws.{nets-long, places-long, net-is}
 
 -- ---- rows
 
@@ -107,11 +107,3 @@ module _ (m : Model) (w : Weights) (k : Kept m w) where
 
   pub inner-few : (n : ℕ) → n < m.nets → length (row_of (hold_weights w).rows (suc n)) ≤ 32
   inner-few n p = rw (inner-row n p) (omega (arith, length_row (get_or w.inward n [])))
-
--- ---- an event of a held model passes its test
-pub event-test : (m : Model) → held_model m ≡ true → (k : ℕ) → k < m.listed → EventIn (frame_in m) (get_or m.events k no_event)
-event-test m held k listed =
-    let h = held-is m held in
-    let e = get_or m.events k no_event in
-    event_in (frame_in m) e
-    (rw (cond_below m.listed k (held_event (frame_in m) e) (empty_event e) listed) at (events-at m h.events k (omega (arith, most-events m h))))

@@ -7,17 +7,16 @@ use mathlib.Core.Option.{Option, none, some}
 use native.Mathlib.Omega.{arith}
 use native.Mathlib.Numerals.{add-one}
 use lib.IntN.{ℤ, nat_abs}
-use lib.ListN.{length, get_or}
+use lib.ListN.{length}
 use Rattle.text.proofs.Basics.{and_true}
 use Rattle.eos.specs.Model as eos
 use Rattle.std.specs.Prelude as answer
 use Rattle.eos.specs.Causes.{first, unless, at, failing}
 use Rattle.eos.specs.Weights.{Weights, is_zero, effect, all_zero, weigh, unbalanced, weight_refusal, covers}
 use Rattle.model.specs.Limits.{room_limit, count_limit}
-use Rattle.model.specs.Held.{no_event, event_of, model_of}
+use Rattle.model.specs.Held.{model_of}
 use Rattle.model.specs.Test.{held_model}
 use Rattle.model.specs.declared.Model.{Model}
-use Rattle.model.proofs.SlotLaws.{length-listed}
 use Rattle.model.proofs.HeldTests.{held-is, most-places}
 use Rattle.marking.specs.Tokens.{tokens_in, OnPlaces}
 use Rattle.marking.specs.Held.{tokens_of, held_marking}
@@ -30,7 +29,7 @@ use Rattle.weigh.specs.Sums.{marking_weight, covered, found}
 use Rattle.keeper.specs.declared.HeldWeights.{HeldWeights}
 use Rattle.keeper.specs.declared.Sum.{Sum}
 use Rattle.keeper.specs.declared.WeightCheck.{WeightCheck}
-use Rattle.keeper.proofs.ShapeLaws.{nets-long}
+use Rattle.model.proofs.ShapeLaws.{nets-long, events-long}
 use Rattle.keeper.proofs.HeldRows.{Kept}
 use Rattle.keeper.proofs.MarkingLaws.{few-tokens, tokens-held, on_places}
 use Rattle.keeper.proofs.WeighLaws.{weigh-is}
@@ -83,10 +82,6 @@ module _ (most : ℕ) (m : Model) (w : Weights) (μ : eos.Marking) where
   abbrev last : ℕ
   last = 2 + length (model_of m).nets
 
-  events-long : length (model_of m).events ≡ m.listed
-  unfolding model_of
-  events-long = length-listed (λ i. event_of m.nets m.objects (get_or m.events i no_event)) 0 m.listed
-
   pub turned_zero : all_zero w ≡ true → Err (Weightless (m.nets + 2)) ≡ judged_weights most (model_of m) μ w
   unfolding judged_weights turned_or weight_refusal first unless
   turned_zero h =
@@ -97,7 +92,7 @@ module _ (most : ℕ) (m : Model) (w : Weights) (μ : eos.Marking) where
     pub turned-event : (r : answer.Option ℕ) → r ≡ found first-unbalanced → (k : ℕ) → r ≡ answer.Some k
         → Err (Unbalanced (k + 1)) ≡ judged_weights most (model_of m) μ w
     unfolding judged_weights turned_or weight_refusal first unless at
-    turned-event r e k d = rw (some_weight, events-long) (go first-unbalanced (sym d ∙ e))
+    turned-event r e k d = rw (some_weight, events-long m) (go first-unbalanced (sym d ∙ e))
       where
         go : (o : Option ℕ) → answer.Some k ≡ found o → Err (Unbalanced (k + 1)) ≡ turned_or last (first (at unbalanced o ∷ [])) (passed_weights most w (weigh (model_of m) w μ))
         go none p = let z : ◌≡◌ {A = ℕ} 0 1 = cc in absurd (omega arith)
@@ -105,7 +100,7 @@ module _ (most : ℕ) (m : Model) (w : Weights) (μ : eos.Marking) where
 
     pub none_turned : (r : answer.Option ℕ) → r ≡ found first-unbalanced → r ≡ answer.None → Ok (passed_weights most w (weigh (model_of m) w μ)) ≡ judged_weights most (model_of m) μ w
     unfolding judged_weights turned_or weight_refusal first unless at
-    none_turned r e d = rw (some_weight, events-long) (go first-unbalanced (sym d ∙ e))
+    none_turned r e d = rw (some_weight, events-long m) (go first-unbalanced (sym d ∙ e))
       where
         go : (o : Option ℕ) → answer.None ≡ found o → Ok (passed_weights most w (weigh (model_of m) w μ)) ≡ turned_or last (first (at unbalanced o ∷ [])) (passed_weights most w (weigh (model_of m) w μ))
         go none p = refl

@@ -1,6 +1,5 @@
 pub mod SplitLaws
 pub mod DotLaws
-pub mod ShapeLaws
 pub mod WeightLineLaws
 pub mod BlockLaws
 pub mod ChainLaws

@@ -1,9 +1,10 @@
 -- A signed number is its part above 0 less its part below 0; sums, differences and weighted sums go part by part.
 use Prim.Native.Nat.{ℕ, zero, suc, ◌+◌, ◌-◌, ◌*◌, ◌≤◌, ◌<◌}
-use mathlib.Core.Path.{◌≡◌, refl, sym, ap, ap₂, ◌∙◌}
+use mathlib.Core.Path.{◌≡◌, refl, ap, ap₂, ◌∙◌}
 use mathlib.Core.List.{List, [], ◌∷◌, map}
 use native.Mathlib.Omega.{arith}
-use lib.IntN.{ℤ, pos, negsuc, neg_ℤ, ◌+ℤ◌, ◌*ℤ◌, sub_ℕ}
+use lib.IntN.{ℤ, pos, negsuc, ◌+ℤ◌, ◌-ℤ◌, ◌*ℤ◌, sub_ℕ}
+use Rattle.std.proofs.lemmas.Int.{ints}
 use borrow.Author.Tests.{lt-ltb, le-ltb}
 use Rattle.keeper.specs.Split.{above, below}
 use Rattle.eos.specs.Model as eos
@@ -15,10 +16,6 @@ use Rattle.model.proofs.SlotLaws.{by_index}
 
 -- ---- differences of two numbers
 
--- one of two numbers is the smaller, or not
-by_size : {G : Type 0} (a b : ℕ) → (a < b → G) → (b ≤ a → G) → G
-by_size a b f g = by_index b a f g
-
 -- a difference by the larger of the two
 less : (a b : ℕ) → a < b → sub_ℕ a b ≡ negsuc (b - suc a)
 less a b h = rw (lt-ltb a b h)
@@ -26,58 +23,27 @@ less a b h = rw (lt-ltb a b h)
 more : (a b : ℕ) → b ≤ a → sub_ℕ a b ≡ pos (a - b)
 more a b h = rw (le-ltb a b h)
 
--- equal differences
-sub_same : (a b c d : ℕ) → a + d ≡ c + b → sub_ℕ a b ≡ sub_ℕ c d
-sub_same a b c d e =
-    by_size b a
-    (λ p.
-    let q : a - b ≡ c - d = omega arith in
-    more a b (omega arith) ∙ ap pos q ∙ sym (more c d (omega arith)))
-    (λ p.
-    by_size a b
-    (λ r. less a b r ∙ ap negsuc {x = b - suc a} {y = d - suc c} (omega arith) ∙ sym (less c d (omega arith)))
-    (λ r. more a b r ∙ ap pos {x = a - b} {y = c - d} (omega arith) ∙ sym (more c d (omega arith))))
+-- the difference of the two as signed numbers
+sub_is : (a b : ℕ) → sub_ℕ a b ≡ pos a -ℤ pos b
+sub_is a zero = more a 0 (omega arith) ∙ ap pos {x = a - 0} {y = a + 0} (omega arith)
+sub_is a (suc b) = refl
 
 pub sub_plus : (a b c d : ℕ) → sub_ℕ a b +ℤ sub_ℕ c d ≡ sub_ℕ (a + c) (b + d)
-sub_plus a b c d =
-    by_size a b
-    (λ p.
-    by_size c d
-    (λ q. ap₂ ◌+ℤ◌ (less a b p) (less c d q) ∙ ap negsuc {x = suc (b - suc a + (d - suc c))} {y = b + d - suc (a + c)} (omega arith) ∙ sym (less (a + c) (b + d) (omega arith)))
-    (λ q. ap₂ ◌+ℤ◌ (less a b p) (more c d q) ∙ sub_same (c - d) (suc (b - suc a)) (a + c) (b + d) (omega arith)))
-    (λ p.
-    by_size c d
-    (λ q. ap₂ ◌+ℤ◌ (more a b p) (less c d q) ∙ sub_same (a - b) (suc (d - suc c)) (a + c) (b + d) (omega arith))
-    (λ q. ap₂ ◌+ℤ◌ (more a b p) (more c d q) ∙ ap pos {x = a - b + (c - d)} {y = a + c - (b + d)} (omega arith) ∙ sym (more (a + c) (b + d) (omega arith))))
-
-sub_neg : (a b : ℕ) → neg_ℤ (sub_ℕ a b) ≡ sub_ℕ b a
-sub_neg a b =
-    by_size a b
-    (λ p. ap neg_ℤ (less a b p) ∙ ap pos {x = suc (b - suc a)} {y = b - a} (omega arith) ∙ sym (more b a (omega arith)))
-    (λ p.
-    by_size b a
-    (λ q.
-    let e : a - b ≡ suc (a - suc b) = omega arith in
-    ap neg_ℤ (more a b p ∙ ap pos e) ∙ sym (less b a q))
-    (λ q.
-    let e : a - b ≡ 0 = omega arith in
-    let f : b - a ≡ 0 = omega arith in
-    ap neg_ℤ (more a b p ∙ ap pos e) ∙ sym (more b a q ∙ ap pos f)))
+sub_plus a b c d = omega (arith, ints, sub_is a b, sub_is c d, sub_is (a + c) (b + d))
 
 -- its parts
 pub sub_above : (a b : ℕ) → above (sub_ℕ a b) ≡ a - b
-sub_above a b = by_size a b (λ p. ap above (less a b p) ∙ omega arith) (λ p. ap above (more a b p))
+sub_above a b = by_index b a (λ p. ap above (less a b p) ∙ omega arith) (λ p. ap above (more a b p))
 
 pub sub_below : (a b : ℕ) → below (sub_ℕ a b) ≡ b - a
-sub_below a b = by_size a b (λ p. ap below (less a b p) ∙ omega arith) (λ p. ap below (more a b p) ∙ omega arith)
+sub_below a b = by_index b a (λ p. ap below (less a b p) ∙ omega arith) (λ p. ap below (more a b p) ∙ omega arith)
 
 -- ---- weighted sums in two parts
 
 -- a weight times a number
 times_split : (w : ℤ) (a : ℕ) → w *ℤ pos a ≡ sub_ℕ (above w * a) (below w * a)
-times_split (pos n) a = sym (more (n * a) (0 * a) (omega arith) ∙ ap pos {x = n * a - 0 * a} {y = n * a} (omega arith))
-times_split (negsuc n) a =
-    sym (sym (sub_neg (suc n * a) (0 * a)) ∙ ap neg_ℤ (more (suc n * a) (0 * a) (omega arith) ∙ ap pos {x = suc n * a - 0 * a} {y = suc n * a} (omega arith)))
+times_split (pos n) a = omega (arith, ints, sub_is (n * a) (0 * a))
+times_split (negsuc n) a = omega (arith, ints, sub_is (0 * a) (suc n * a))
 
 -- over lists of numbers
 abbrev pub dot_n : List ℕ → List ℕ → ℕ

@@ -5,7 +5,6 @@ use mathlib.Core.Bool.{true}
 use mathlib.Core.List.{List, [], ◌∷◌, map}
 use native.Mathlib.Omega.{arith}
 use native.Mathlib.Nat.{zero-add}
-use lib.Dec.{eqb, leb}
 use lib.IntN.{ℤ, pos, ◌+ℤ◌}
 use lib.ListN.{get_or}
 use lib.Seq.{get_or-take}
@@ -19,8 +18,8 @@ use Rattle.eos.proofs.WeightLaws.{dot_zero, weight_of, weigh-sum}
 use Rattle.model.specs.Rules.{nth}
 use Rattle.model.specs.Held.{no_net, model_of}
 use Rattle.model.specs.declared.Model.{Model}
-use Rattle.model.proofs.SlotLaws.{cond_below, listed_at}
-use Rattle.model.proofs.HeldTests.{held-is, types-at}
+use Rattle.model.proofs.SlotLaws.{listed_at}
+use Rattle.model.proofs.HeldTests.{held-is}
 use Rattle.marking.specs.Held.{token_of, held_token}
 use Rattle.marking.specs.declared.NetToken.{NetToken}
 use Rattle.marking.specs.Sizes.{size_of_type, sizes_in, sizes_for}
@@ -28,6 +27,7 @@ use Rattle.keeper.specs.Held.{hold_weights}
 use Rattle.weigh.specs.Sums.{total, row_of, token_weight, marking_weight}
 use Rattle.weigh.proofs.TotalLaws.{total_same, total_zero, total_one}
 use Rattle.keeper.proofs.DotLaws.{dot_none, dot_unit, dots_total, dot_row}
+use Rattle.model.proofs.UsedLaws.{type-below}
 use Rattle.keeper.proofs.HeldRows.{Kept, few-places, inner-long, net-long, net-small, outer-at, inner-at, inner-few}
 use Rattle.keeper.proofs.MarkingLaws.{place_in, counts-none}
 
@@ -67,8 +67,7 @@ module _ (m : Model) (w : Weights) (kept : Kept m w) where
     type-few : type ≤ m.nets
     type-few =
         let p = place-few in
-        let x = types-at m (held-is m kept.held).types (t.place - 1) (omega (arith, few-places m w kept)) in
-        leb-true type m.nets (rw (cond_below m.places (t.place - 1) (leb type m.nets) (eqb type 0) (omega arith)) at x)
+        leb-true type m.nets (type-below m (held-is m kept.held) (t.place - 1) (omega arith))
 
     size_is : (sizes_for m).size t.place ≡ size_of_type m.objects type
     unfolding sizes_in

@@ -11,7 +11,7 @@ use Rattle.eos.specs.Weights.{Weights, is_zero, all_zero}
 use Rattle.model.specs.declared.Model.{Model}
 use Rattle.model.proofs.SlotLaws.{by_index}
 use Rattle.keeper.specs.Held.{weight_lists, weight_row, hold_weights}
-use Rattle.keeper.proofs.EveryLaws.{both_ways}
+use Rattle.std.specs.Cmp.{both_ways}
 use Rattle.keeper.proofs.HeldRows.{Kept, few-nets, few-places, outer-long, inner-long, net-long, net-small, number_held, length_row, rows, length_rows, row_held}
 
 -- a test that 0 passes, of every number of a row

@@ -2,10 +2,9 @@
 use Prim.Native.Nat.{ℕ, zero, suc, ◌+◌, ◌^◌, ◌≤◌, ◌<◌}
 use mathlib.Core.Path.{◌≡◌, refl}
 use mathlib.Core.Bool.{Bool, true, false}
-use mathlib.Core.List.{List, [], ◌∷◌}
+use mathlib.Core.List.{[], ◌∷◌}
 use mathlib.Core.Option.{Option, none, some}
 use native.Mathlib.Omega.{arith}
-use native.Mathlib.Nat.{zero-add}
 use lib.Dec.{leb, eqb, lit<}
 use lib.ListN.{length, take, drop, length-drop, length-take}
 use borrow.Author.Tests.{leb-true}
@@ -13,10 +12,10 @@ use Rattle.text.specs.Bytes.{Text, bytes, lf, newlines}
 use Rattle.text.specs.Lines.{Outcome, got, bad, spot_of, read_head, cause_number}
 use Rattle.text.specs.declared.Fault.{Fault}
 use Rattle.text.proofs.Basics.{by_test}
-use Rattle.eos.specs.Multiset as M
 use Rattle.eos.specs.Model as eos
 use Rattle.eos.specs.Firing.{Step}
-use Rattle.eos.specs.Causes.{Refusal, Cause, taking, giving, short, unequal, missing, crowded, first, unless, at, failing, lacking, causes, refusal}
+use Rattle.eos.specs.Causes.{Refusal, Cause, taking, giving, short, unequal, missing, crowded, at, failing, causes, refusal}
+use Rattle.eos.proofs.FirstLaws.{first-each, unless-each, at_each, failing-least, lacking-within}
 use Rattle.eos.specs.Weights.{Weights, weigh, WeightCause, weightless, unbalanced, weight_refusal}
 use Rattle.model.specs.Limits.{longest, room_limit, cover_limit}
 use Rattle.model.specs.Held.{model_of}
@@ -75,61 +74,9 @@ model-small s =
     (λ u. rw (t, model_file, u, model_reading) (omega arith, omega arith)))
     (λ t. rw (t, model_file) (omega arith, omega arith))
 
--- ---- the first cause of a list
-
--- an index below n, if any
-abbrev Below : ℕ → Option ℕ → Type 0
-Below n none = Unit {0}
-Below n (some i) = i < n
-
-below_as : (o : Option ℕ) (a b : ℕ) → a ≡ b → Below a o → Below b o
-below_as o a b e h = rw e at h
-
-failing-below : (d i : ℕ) (f : ℕ → Bool) → Below (i + d) (failing d i f)
-failing-below zero i f = tt
-failing-below (suc d) i f =
-    by_test (f i)
-    (λ h. rw h (below_as (failing d (suc i) f) (suc i + d) (i + suc d) (omega arith) (failing-below d (suc i) f)))
-    (λ h. rw h (omega arith))
-
-lacking-below : (μ : eos.Marking) (i : ℕ) (seen l : eos.Marking) → Below (i + length l) (lacking μ i seen l)
-lacking-below μ i seen [] = tt
-lacking-below μ i seen (t ∷ l) =
-    by_test (leb (M.count eos.like t (t ∷ seen)) (M.count eos.like t μ))
-    (λ h. rw h (below_as (lacking μ (suc i) (t ∷ seen) l) (suc i + length l) (i + suc (length l)) (omega arith) (lacking-below μ (suc i) (t ∷ seen) l)))
-    (λ h. rw h (omega arith))
-
--- counted from 0
-least-below : (n : ℕ) (f : ℕ → Bool) → Below n (failing n 0 f)
-least-below n f = below_as (failing n 0 f) (0 + n) n (zero-add n) (failing-below n 0 f)
-
-first_below : (μ l : eos.Marking) → Below (length l) (lacking μ 0 [] l)
-first_below μ l = below_as (lacking μ 0 [] l) (0 + length l) (length l) (zero-add (length l)) (lacking-below μ 0 [] l)
-
-module _ {C : Type 0} (P : C → Type 0) where
-  abbrev Holds : Option C → Type 0
-  Holds none = Unit {0}
-  Holds (some c) = P c
-
-  abbrev Each : List (Option C) → Type 0
-  Each [] = Unit {0}
-  Each (o ∷ l) = Holds o × Each l
-
-  first_holds : (l : List (Option C)) → Each l → Holds (first l)
-  unfolding first
-  first_holds [] h = tt
-  first_holds (none ∷ l) h = first_holds l h.1
-  first_holds (some c ∷ l) h = h.0
-
-  unless_holds : (b : Bool) (c : C) → P c → Holds (unless b c)
-  unfolding unless
-  unless_holds true c h = tt
-  unless_holds false c h = h
-
-  at_holds : (f : ℕ → C) (n : ℕ) (o : Option ℕ) → Below n o → ((i : ℕ) → i < n → P (f i)) → Holds (at f o)
-  unfolding at
-  at_holds f n none b h = tt
-  at_holds f n (some i) b h = h i b
+-- what holds of a cause, if there is one
+abbrev Holds : {C : Type 0} → (C → Type 0) → Option C → Type 0
+Holds {C = C} P o = (c : C) → o ≡ some c → P c
 
 -- ---- the weights' answer
 
@@ -141,16 +88,16 @@ module _ (m : eos.Model) (nets : length m.nets ≤ 8) (events : length m.events 
   unfolding weight_refusal
   cause_small w =
       let P : WeightCause → Type 0 = λ c. Small (weight_cause_pair last_line c) in
-      first_holds P _ (
-        unless_holds P _ weightless (omega arith, omega arith),
-        (at_holds P unbalanced (length m.events) _ (least-below (length m.events) _) (λ i h. (omega arith, omega arith)), tt),
+      first-each P _ (
+        unless-each P _ weightless (omega arith, omega arith),
+        (at_each P unbalanced _ (λ i e. let h = (failing-least (length m.events) _ i e).within in (omega arith, omega (arith, h))), tt),
       )
 
   turned-small : (w : Weights) (z : _) (o : Option WeightCause) → Holds (λ c. Small (weight_cause_pair last_line c)) o
       → Small (weight_pair (turned_or last_line o (passed_weights cover_limit w z)))
   unfolding turned_or
   turned-small w z none h = (omega arith, omega arith)
-  turned-small w z (some c) h = h
+  turned-small w z (some c) h = h c refl
 
   weighed-small : (μ : eos.Marking) (s : Text) → length s ≤ file_longest → (o : Outcome Weights) → Faults Digit o → Small (weight_pair (weighed cover_limit m μ s o))
   unfolding weighed judged_weights
@@ -185,18 +132,18 @@ module _ (m : Model) (nets : length (model_of m).nets ≤ 8) where
   refusal-small t μ few =
       let P : Cause → Type 0 = λ c. Small (cause_pair (length t.taken) c) in
       let net : (c : ℕ → Cause) (f : ℕ → Bool) → ((i : ℕ) → i < length d.nets → P (c i)) → Holds P (at c (failing (length d.nets) 0 f)) =
-      λ c f h. at_holds P c (length d.nets) (failing (length d.nets) 0 f) (least-below (length d.nets) f) h in
-      first_holds P _ (
-        unless_holds P _ taking (omega arith, omega arith),
+      λ c f h. at_each P c (failing (length d.nets) 0 f) (λ i e. h i (failing-least (length d.nets) f i e).within) in
+      first-each P _ (
+        unless-each P _ taking (omega arith, omega arith),
         (
-          unless_holds P _ giving (omega arith, omega arith),
+          unless-each P _ giving (omega arith, omega arith),
           (
             net short _ (λ i h. (omega arith, omega arith)),
             (
               net unequal _ (λ i h. (omega arith, omega arith)),
               (
-                at_holds P missing (length t.taken) _ (first_below μ t.taken) (λ i h. (omega arith, omega arith)),
-                (unless_holds P _ crowded (omega arith, omega arith), tt),
+                at_each P missing _ (λ i e. let h = lacking-within μ t.taken i e in (omega arith, omega (arith, h))),
+                (unless-each P _ crowded (omega arith, omega arith), tt),
               ),
             ),
           ),
@@ -211,7 +158,7 @@ module _ (m : Model) (nets : length (model_of m).nets ≤ 8) where
   judged-small : (t : Step) (μ : eos.Marking) (next : ℕ) (o : Option Cause) → Holds (λ c. Small (cause_pair (length t.taken) c)) o → Stops (step_judged μ t next o)
   unfolding step_judged
   judged-small t μ next none h = tt
-  judged-small t μ next (some c) h = h
+  judged-small t μ next (some c) h = h c refl
 
   read_small : (z : Sizes) (μ : eos.Marking) (s : Text) → length s ≤ file_longest → (o : Outcome Step) → read_step bounds z (length d.events) s 0 ≡ o → Faults Digit o
       → Stops (read_then room_limit d μ s o)

@@ -17,7 +17,7 @@ use Rattle.eos.specs.Model as eos
 use Rattle.model.specs.Held.{model_of}
 use Rattle.model.specs.Test.{held_model}
 use Rattle.model.specs.declared.Model.{Model}
-use Rattle.model.proofs.SlotLaws.{length-listed}
+use Rattle.model.proofs.ShapeLaws.{nets-long, events-long}
 use Rattle.model.proofs.HeldTests.{held-is, most-nets, most-places, most-events}
 use Rattle.marking.specs.Held.{tokens_of}
 use Rattle.marking.specs.Printed.{net_token_text, block_text, marking_text}
@@ -84,16 +84,10 @@ module _ (m : Model) (k : Marking) (given : Given m k) where
   held = (and_true (held_model m) _ (given-held m k given)).0
 
   nets-few : length (model_of m).nets ≤ 8
-  unfolding model_of
-  nets-few =
-      let e : length (model_of m).nets ≡ m.nets = length-listed _ 0 m.nets in
-      omega (arith, e, most-nets m (held-is m held))
+  nets-few = omega (arith, nets-long m, most-nets m (held-is m held))
 
   events-few : length (model_of m).events ≤ 64
-  unfolding model_of
-  events-few =
-      let e : length (model_of m).events ≡ m.listed = length-listed _ 0 m.listed in
-      omega (arith, e, most-events m (held-is m held))
+  events-few = omega (arith, events-long m, most-events m (held-is m held))
 
   trace_given : (s : Text) → Given m (trace_file m k s).marking
   unfolding trace_file

@@ -2,22 +2,18 @@
 use Prim.Native.Nat.{ℕ, suc, ◌+◌, ◌-◌, ◌^◌, ◌≤◌, ◌<◌}
 use mathlib.Core.Path.{◌≡◌, refl, ap}
 use mathlib.Core.Bool.{Bool, cond}
-use mathlib.Core.List.{List, [], ◌∷◌, ◌++◌}
+use mathlib.Core.List.{List, ◌++◌}
 use native.Mathlib.Omega.{arith}
-use native.Mathlib.Nat.{sub-zero}
-use lib.IntN.{ℤ, pos, negsuc, sub_ℕ}
 use lib.ListN.{length, length-append}
 use lib.Seq.{sets}
 use borrow.Author.Tests.{lt-ltb, le-ltb}
 use Rattle.text.specs.Bytes.{Text, bytes}
-use Rattle.keeper.specs.Split.{above, below}
 use Rattle.text.specs.Lists.{stop_of}
 use Rattle.text.specs.Printed.{decimal, signed_text, items_text, end_text, number_text, list_text, weights_text}
 use Rattle.text.proofs.DecimalLaws.{length-below}
 use Rattle.text.proofs.TextLengths.{number-length}
 use Rattle.text.proofs.LaidLaws.{Laid, laid_then}
 use Rattle.eos.specs.Causes.{Refusal}
-use Rattle.keeper.specs.Answers.{sum_of}
 use Rattle.keeper.specs.declared.Sum.{Sum}
 use Rattle.listing.specs.Listing.{pair_text, sum_text, cover_text}
 
@@ -54,16 +50,6 @@ module _ (key : Text) (r : Refusal) where
       (laid_then (decimal r.number) (number_text (bytes ",") r.beside) k a g h))
 
 -- ---- the sum
-
--- the parts of a number of either sign say the number
-parts_say : (z : ℤ) → sub_ℕ (above z) (below z) ≡ z
-parts_say (pos n) = rw (le-ltb n 0 (omega arith), sub-zero n)
-parts_say (negsuc n) = let e : suc n - suc 0 ≡ n = omega arith in rw (lt-ltb 0 (suc n) (omega arith), e)
-
--- so the line of a sum is the number that the weights give
-pub sum-says : (z : ℤ) → sum_text (sum_of z) ≡ weights_text (bytes "sum=") (z ∷ [])
-unfolding sum_text
-sum-says z = rw (parts_say z)
 
 pub sum_below : (s : Sum) → s.above < s.below → sum_text s ≡ number_text (bytes "sum=-") (s.below - s.above)
 unfolding sum_text weights_text end_text items_text signed_text stop_of number_text

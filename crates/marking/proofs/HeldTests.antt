@@ -17,11 +17,6 @@ use Rattle.marking.specs.Tokens.{like, no_token, ascending}
 use Rattle.marking.specs.Held.{Sizes, held_token, held_tokens}
 use Rattle.marking.specs.declared.NetToken.{NetToken}
 
--- the library's test of all elements
-pub every_all : {A : Type 0} (f : A → Bool) (l : List A) → list_all f l ≡ every f l
-every_all f [] = refl
-every_all f (a ∷ l) = rw (every_all f l)
-
 -- ---- one net-token
 
 alike_behind : (a b c : List ℕ) → eq_v (a ++ b) (a ++ c) ≡ eq_v b c

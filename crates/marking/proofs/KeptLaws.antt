@@ -60,10 +60,6 @@ length_without t (x ∷ ts) h = go (like t x) h (length_without t ts)
     go false k f = ap suc (f (omega arith))
 
 module _ (t : NetToken) (k : Marking) where
-  pub tokens-in : tokens_in (put_in t k) ≡ insert before t (tokens_in k)
-  unfolding put_in
-  tokens-in = tokens-held (insert before t (tokens_in k))
-
   pub kept-in : Kept k → k.len < 256 → Kept (put_in t k)
   unfolding put_in
   kept-in p h =

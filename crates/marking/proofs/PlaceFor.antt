@@ -12,15 +12,13 @@ use lib.ListN.{length, get_or, take, drop, drop_of_length-le}
 use lib.Seq.{drop-cons}
 use Rattle.std.specs.List.{prefix_len, IsAllAdjacentAnswer}
 use Rattle.std.specs.List.Sorted.{IsPartitionPoint, IsPartitionedBy}
+use borrow.Author.Tests.{not-true, not-false}
+use Rattle.text.proofs.Basics.{by_test}
 use Rattle.eos.specs.Multiset.{bit, count, without, insert, Below, Sorted}
 use Rattle.eos.proofs.Basics.{true_is, false_is}
 use Rattle.marking.specs.Tokens.{like, before, no_token, place_for, ascending}
 use Rattle.marking.specs.declared.NetToken.{NetToken}
 use Rattle.marking.proofs.TokenOrder.{held_alike, held_order}
-
-by_test : {G : Type 0} (t : Bool) → (t ≡ true → G) → (t ≡ false → G) → G
-by_test true f g = f refl
-by_test false f g = g refl
 
 is_false : (t : Bool) → (T t → ⊥) → t ≡ false
 is_false t f = by_test t (λ e. absurd (f (true_is e))) (λ e. e)
@@ -34,14 +32,6 @@ like_of {r} {x} e = rw e (held_alike.self x)
 -- a net-token that is not at most x is not x
 apart : (r x : NetToken) → before r x ≡ false → like r x ≡ false
 apart r x e = is_false (like r x) (λ t. false_is e (rw (← held_alike.same r x t) (before_self r)))
-
-not_is : (b : Bool) → not b ≡ true → b ≡ false
-not_is true e = sym e
-not_is false e = refl
-
-is_not : (b : Bool) → not b ≡ false → b ≡ true
-is_not true e = refl
-is_not false e = sym e
 
 below_at : (d x : NetToken) (rs : List NetToken) (i : ℕ) → Below before x rs → i < length rs → T (before x (get_or rs i d))
 below_at d x [] i b h = absurd (omega arith)
@@ -167,7 +157,7 @@ count_run r (x ∷ rs) s = go (before r x) refl (count_run r rs s.1)
 pub parted : (r : NetToken) (rs : List NetToken) → Sorted before rs → IsPartitionedBy (λ x. not (before r x)) rs
 parted r rs s i j d h k e =
     by_test (before r (get_or rs i d))
-    (λ t. absurd (omega (arith, place_le d r rs i (omega arith) t, place_gt d r rs j s k (not_is _ e))))
+    (λ t. absurd (omega (arith, place_le d r rs i (omega arith) t, place_gt d r rs j s k (not-true _ e))))
     (λ f. rw f)
 
 pub place_is : (r : NetToken) (rs : List NetToken) (p : ℕ) → Sorted before rs → p ≤ length rs
@@ -177,12 +167,12 @@ place_is r rs p s h q = omega (arith, low, high)
     high : place_for r rs ≤ p
     high =
         ⊎_elim
-        (λ (k : p < length rs). place_le no_token r rs p k (is_not _ (q.1 p no_token (omega arith) k)))
+        (λ (k : p < length rs). place_le no_token r rs p k (not-false _ (q.1 p no_token (omega arith) k)))
         (λ (k : length rs ≤ p). omega (arith, place-within r rs)) (cases_lt p (length rs))
 
     front : (p : ℕ) → p ≤ length rs → ((k : ℕ) (d : NetToken) → 0 ≤ k → k < p → not (before r (get_or rs k d)) ≡ true) → p ≤ place_for r rs
     front zero h f = omega arith
-    front (suc k) h f = omega (arith, place_gt no_token r rs k s (omega arith) (not_is _ (f k no_token (omega arith) (omega arith))))
+    front (suc k) h f = omega (arith, place_gt no_token r rs k s (omega arith) (not-true _ (f k no_token (omega arith) (omega arith))))
 
     low : p ≤ place_for r rs
     low = front p h q.0

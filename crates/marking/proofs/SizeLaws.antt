@@ -11,20 +11,20 @@ use lib.Seq.{ext_get_or}
 use borrow.Author.Tests.{leb-true, eqb-true}
 use Rattle.text.specs.Lines.{in_range}
 use Rattle.text.specs.Answers.{padded}
-use Rattle.text.proofs.Basics.{and_true}
 use Rattle.text.proofs.TestLaws.{within-is, eqb_and}
 use Rattle.eos.specs.Model as eos
 use Rattle.model.specs.Rules.{nth, right_model}
 use Rattle.model.specs.Held.{no_net, hold_net, hold_nets, hold_model, listed}
-use Rattle.model.specs.Test.{held_model, held_net}
+use Rattle.model.specs.Test.{held_model}
 use Rattle.model.specs.declared.Model.{Model}
 use Rattle.model.specs.declared.ObjectNet.{ObjectNet}
 use Rattle.model.proofs.PaddedRows.{nth-zeros, nth-padded}
 use Rattle.model.proofs.RuleLaws.{right_is, few-nets, few-places}
-use Rattle.model.proofs.SlotLaws.{cond_below, cond_from, by_index, length-listed, listed_at, listed_past}
+use Rattle.model.proofs.SlotLaws.{cond_from, by_index, length-listed, listed_at, listed_past}
 use Rattle.model.proofs.HeldTestLoops.{at_any}
 use Rattle.model.proofs.HoldModel.{net-at, net_past}
-use Rattle.model.proofs.HeldTests.{held-is, most-nets, types-at, count_test, nets-at}
+use Rattle.model.proofs.HeldTests.{held-is, most-nets, types-at}
+use Rattle.model.proofs.UsedLaws.{type-below, net_used, count-is}
 use Rattle.marking.specs.Held.{Roomy, sizes_of}
 use Rattle.marking.specs.Sizes.{size_of_type, sizes_in, sizes_for, SmallNets}
 
@@ -52,18 +52,17 @@ module _ (m : Model) (h : held_model m ≡ true) where
       let below = leb (nth m.types p) m.nets in
       let none = eqb (nth m.types p) 0 in
       by_index m.places p
-      (λ r. omega (arith, most-nets m (held-is m h), leb-true (nth m.types p) m.nets (rw (cond_below m.places p below none r) at t)))
+      (λ r. omega (arith, most-nets m (held-is m h), leb-true (nth m.types p) m.nets (type-below m (held-is m h) p r)))
       (λ r. omega (arith, eqb-true (nth m.types p) 0 (rw (cond_from m.places p below none r) at t)))
 
   pub net-few : (k : ℕ) → k < 8 → (get_or m.objects k no_net).places ≤ 32
   net-few k q =
       let n = get_or m.objects k no_net in
-      let t = (and_true (count_test m.nets k n) (held_net n) (nets-at m (held-is m h).nets k q)).0 in
       let used = in_range 1 32 n.places && in_range 0 32 n.transitions in
       let free = eqb n.places 0 && eqb n.transitions 0 in
       by_index m.nets k
-      (λ r. (within-is 1 32 n.places (and_true (in_range 1 32 n.places) _ (rw (cond_below m.nets k used free r) at t)).0).1)
-      (λ r. omega (arith, (eqb_and n.places 0 _ (rw (cond_from m.nets k used free r) at t)).0))
+      (λ r. (within-is 1 32 n.places (net_used m (held-is m h) k r).0).1)
+      (λ r. omega (arith, (eqb_and n.places 0 _ (rw (cond_from m.nets k used free r) at (count-is m (held-is m h) k q))).0))
 
   -- no net has more places than there is room for
   pub nets-small : length m.objects ≡ 8 → SmallNets m.objects

@@ -13,7 +13,6 @@ use Rattle.text.specs.Bytes.{Text, bytes}
 use Rattle.text.proofs.Basics.{and_true}
 use Rattle.text.specs.Lines.{got, every, in_range}
 use Rattle.text.specs.Printed.{decimal, texts, number_text, token_text}
-use Rattle.text.specs.Answers.{kept}
 use Rattle.text.proofs.TestLaws.{within-is, every-at}
 use Rattle.text.proofs.DecimalLaws.{length-below}
 use Rattle.text.proofs.TextLengths.{texts-length, ended-length}
@@ -28,7 +27,6 @@ use Rattle.marking.proofs.KeptLaws.{length-held}
 use Rattle.marking.specs.Held.{Sizes, Roomy, hold_marking, token_of, tokens_of, held_token, held_marking, SizedMarking}
 use Rattle.marking.specs.Reading.{limits, read_block, right_net_token, right_block}
 use Rattle.marking.specs.Printed.{net_token_text, block_text, marking_text, held_text}
-use Rattle.marking.specs.Answers.{hold_block}
 use Rattle.marking.specs.declared.Marking.{Marking}
 use Rattle.marking.proofs.BlockExactly.{block_exactly}
 use Rattle.marking.proofs.HoldMarking.{Right, right_is, Held, held-tokens, held_tested}
@@ -116,9 +114,3 @@ module _ (z : Sizes) (roomy : Roomy z) (k : Marking) (sz : SizedMarking k) (h : 
   -- a held marking is what is held of its net-tokens
   pub held_again : hold_marking (eos.canonical (tokens_of z k)) ≡ k
   held_again = let p = held-tokens z roomy k sz h in rw p.0.ordered (sym p.1)
-
-  -- the written text of a held marking is read and held as that marking again
-  pub held_reads_back : kept hold_block (read_block (bytes "start=") (limits 256 65535) z (marking_text (tokens_of z k)) 0)
-      ≡ got k (length (marking_text (tokens_of z k)))
-  unfolding kept
-  held_reads_back = rw (written_reads_back z (tokens_of z k) (held-tokens z roomy k sz h).0, held_again)

@@ -1,7 +1,7 @@
 -- Moving the net-tokens from a place on is putting one in there, or taking it out.
-use Prim.Native.Nat.{ℕ, zero, suc, ◌+◌, ◌-◌, ◌≤◌, ◌<◌}
+use Prim.Native.Nat.{ℕ, suc, ◌+◌, ◌-◌, ◌≤◌, ◌<◌}
 use mathlib.Core.Path.{◌≡◌, refl, sym, ap, ◌∙◌}
-use mathlib.Core.Bool.{Bool, true, false}
+use mathlib.Core.Bool.{true, false}
 use mathlib.Core.List.{List, [], ◌∷◌, ◌++◌, append_assoc, append-nil}
 use native.Mathlib.Omega.{arith}
 use native.Mathlib.Numerals.{add-one}
@@ -12,8 +12,8 @@ use borrow.Rule.Slice.PartMut.{mid_of, put_mid}
 use Rattle.std.specs.List.{copy_within}
 use Rattle.std.proofs.lemmas.List.{get_or_default, drop-take}
 use Rattle.eos.specs.Multiset.{count, without, insert}
-use Rattle.eos.proofs.Basics.{true_is, false_is}
-use Rattle.marking.specs.Tokens.{like, before, no_token, laid, holding, tokens_in, place_for, Kept, put_in, Out, take_out}
+use Rattle.eos.proofs.Basics.{true_is}
+use Rattle.marking.specs.Tokens.{like, before, no_token, laid, holding, tokens_in, place_for, Kept, put_in, take_out}
 use Rattle.marking.specs.declared.NetToken.{NetToken}
 use Rattle.marking.specs.declared.Marking.{Marking}
 use Rattle.marking.proofs.TokenOrder.{held_alike}
@@ -168,22 +168,6 @@ module _ (t : NetToken) (k : Marking) where
   pub out_one : 1 ≤ count like t (tokens_in k) → take_out t k ≡ record { found = true; marking = holding (without like t (tokens_in k)) }
   unfolding take_out
   out_one h = rw (le-leb 1 (count like t (tokens_in k)) h, take_out)
-
-  -- what the answer of taking out tells
-  module _ {found : Bool} {last : Marking} (e : record { found = found; marking = last } ≡ take_out t k) where
-    pub out_found : found ≡ true → (1 ≤ count like t (tokens_in k)) × (last ≡ holding (without like t (tokens_in k)))
-    out_found f = go (count like t (tokens_in k)) refl
-      where
-        go : (m : ℕ) → count like t (tokens_in k) ≡ m → (1 ≤ count like t (tokens_in k)) × (last ≡ holding (without like t (tokens_in k)))
-        go zero c = absurd (false_is (sym f ∙ ap (λ (o : Out). o.found) (e ∙ out_none c)) tt)
-        go (suc m) c = (omega arith, ap (λ (o : Out). o.marking) (e ∙ out_one (omega arith)))
-
-    pub out_missing : found ≡ false → (count like t (tokens_in k) ≡ 0) × (last ≡ k)
-    out_missing f = go (count like t (tokens_in k)) refl
-      where
-        go : (m : ℕ) → count like t (tokens_in k) ≡ m → (count like t (tokens_in k) ≡ 0) × (last ≡ k)
-        go zero c = (c, ap (λ (o : Out). o.marking) (e ∙ out_none c))
-        go (suc m) c = absurd (false_is (sym (sym f ∙ ap (λ (o : Out). o.found) (e ∙ out_one (omega arith)))) tt)
 
 -- ---- a kept marking changed at the place of a net-token
 

@@ -2,6 +2,7 @@ pub mod RuleLaws
 pub mod RuleLoops
 pub mod PaddedRows
 pub mod SlotLaws
+pub mod ShapeLaws
 pub mod RuleFails
 pub mod TableLaws
 pub mod HeldActs

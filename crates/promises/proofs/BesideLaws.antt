@@ -17,7 +17,7 @@ use Rattle.eos.proofs.FirstLaws.{first_exactly}
 use Rattle.model.specs.Limits.{longest}
 use Rattle.model.specs.Held.{model_of}
 use Rattle.model.specs.declared.Model.{Model}
-use Rattle.model.proofs.SlotLaws.{length-listed}
+use Rattle.model.proofs.ShapeLaws.{nets-long, events-long}
 use Rattle.marking.specs.Held.{Sizes}
 use Rattle.marking.specs.Reading.{Limits, token_line}
 use Rattle.marking.specs.Printed.{net_token_text, block_text}
@@ -67,14 +67,6 @@ step_lines lim z events s t next e =
       token-line = λ x. token_line_lem (bytes "token=") refl (token_line x);
     }
 
-nets_are : (m : Model) → length (model_of m).nets ≡ m.nets
-unfolding model_of
-nets_are m = length-listed _ 0 m.nets
-
-events_are : (m : Model) → length (model_of m).events ≡ m.listed
-unfolding model_of
-events_are m = length-listed _ 0 m.listed
-
 -- the step was read, and beside the number stands a line of it or a net
 abbrev pub Beside : Model → Text → Refusal → Type 0
 Beside m s r =
@@ -85,7 +77,7 @@ beside_of : (m : Model) (k : Marking) (s : Text) (held : Bool) (r : Refusal)
     → Among step_numbers.tests r.number → Beside m s r
 beside_of m k s held r n h =
     let (w, t, next, b, f) = (n.test r h).0 refl in
-    (t, next, b, rw (nets_are m) at (step_right (model_of m) (racks m k) t r ((first_exactly _ _).1 f)).1, step_lines bounds (sizes_for m) m.listed s t next b)
+    (t, next, b, rw (nets-long m) at (step_right (model_of m) (racks m k) t r ((first_exactly _ _).1 f)).1, step_lines bounds (sizes_for m) m.listed s t next b)
 
 -- a step turned down with 8 to 12
 pub step-beside : (m : Model) (k : Marking) (s : Text) → Among step_numbers.tests (step_pair (stepping m k s).answer).number
@@ -125,4 +117,4 @@ weight_beside m k s h =
     let (u, w, next, b, f) = ((weight_number m k s).test (weight_pair (weight_checking m k s)) h).0 refl in
     let last = 2 + length (model_of m).nets in
     let r = (weight_right last (model_of m) w _ ((first_exactly _ _).1 f)).1 in
-    rw (file_lines (model_of m) s w next b) (rw (events_are m) at r)
+    rw (file_lines (model_of m) s w next b) (rw (events-long m) at r)

@@ -30,7 +30,8 @@ use Rattle.reader.specs.Reading.{Loaded, bounds, read_model, read_marking, right
 use Rattle.reader.specs.Printed.{model_text}
 use Rattle.reader.specs.Answers.{pair, read_pair, loaded, model_reading, marking_reading, held_both, lay_whole, marking_writing, model_given}
 use Rattle.reader.specs.declared.ModelReading.{ModelReading}
-use Rattle.reader.proofs.ReadsWhatItSays.{ended, reads_what_marking_says}
+use Rattle.reader.proofs.EndLaws.{ended}
+use Rattle.reader.proofs.ReadsWhatItSays.{reads_what_marking_says}
 use Rattle.reader.proofs.HeldExactly.{accepted_is_printed}
 use Rattle.step.specs.Reading.{read_step}
 use Rattle.runner.specs.Answers.{step_pair, stepping, Stepped, unfired_pair}

@@ -27,7 +27,7 @@ use Rattle.marking.proofs.SizedLaws as marking
 use Rattle.reader.specs.Reading.{bounds, read_marking}
 use Rattle.reader.specs.Answers.{restored, marking_or, marking_reading, marking_given, held_both, held_in}
 use Rattle.std.specs.Prelude.{Ok}
-use Rattle.reader.proofs.ReadsWhatItSays.{ended}
+use Rattle.reader.proofs.EndLaws.{ended}
 use Rattle.reader.proofs.ReadingLaws.{both_model}
 use Rattle.reader.proofs.HeldExactly.{Accepts, refused≢accepted, accepted_is_printed, right_parts, canonical-held, accepted-held, held_exactly}
 

@@ -44,7 +44,8 @@ use Rattle.reader.specs.Answers.{loaded, model_reading, model_given, restored, m
 use Rattle.reader.specs.declared.ReadRefusal.{ReadRefusal}
 use Rattle.reader.specs.declared.ModelReading.{ModelReading}
 use Rattle.std.specs.Prelude.{Result, Ok, Err}
-use Rattle.reader.proofs.ReadsWhatItSays.{ended, lines_exactly, reads_what_it_says, reads_what_marking_says}
+use Rattle.reader.proofs.EndLaws.{ended}
+use Rattle.reader.proofs.ReadsWhatItSays.{lines_exactly, reads_what_it_says, reads_what_marking_says}
 use Rattle.marking.proofs.SizeLaws.{held_roomy, sizes_same}
 
 -- ---- accepted is printed

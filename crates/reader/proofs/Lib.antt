@@ -1,3 +1,4 @@
+pub mod EndLaws
 pub mod ReadsWhatItSays
 pub mod TextRefused
 pub mod LineLaws

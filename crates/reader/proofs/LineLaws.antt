@@ -30,31 +30,19 @@ use Rattle.marking.specs.declared.Marking.{Marking}
 use Rattle.marking.proofs.SizeLaws.{sizes_same}
 use Rattle.reader.specs.Reading.{bounds, Loaded, read_end, read_lines, read_model_at, read_marking_at}
 use Rattle.reader.specs.Parts.{hold_loaded}
+use Rattle.reader.proofs.EndLaws.{refused_to_end, read_to_end}
 
 -- ---- net-tokens to the end of the text
-
--- the end behind net-tokens that were read
-ends : (s : Text) (μ : eos.Marking) (next : ℕ) → lent (hold_block μ) (accepted (closed s next)) ≡ accepted (kept hold_block (read_end s μ next))
-unfolding accepted kept closed read_end need
-ends s μ next = by_test (leb (length s) next) (λ t. rw t) (λ t. rw t)
 
 module _ (o : Outcome eos.Marking) (old new : Reader) where
   -- a line of them is refused
   pub tokens_refused : (e : Fault) → Reads (kept hold_block o) old new (Err e) → Err e ≡ accepted (kept hold_block (then o (read_end old.src.now)))
-  unfolding accepted kept then
-  tokens_refused e k = rw (refused_of hold_block o e k).is
+  tokens_refused = refused_to_end hold_block o old new
 
   -- behind lines that ended where they did, it is the reading of the whole text
   pub tokens-to_end : (k : Marking) → Reads (kept hold_block o) old new (Ok k) → (end : Result (Unit {0}) Fault) → end ≡ accepted (closed new.src.now new.at)
       → lent k end ≡ accepted (kept hold_block (then o (read_end old.src.now)))
-  unfolding then
-  tokens-to_end k h end e =
-      let q = read_of hold_block o k h in
-      let same : new.src.now ≡ old.src.now = ap (λ (x : Reader). x.src.now) q.moved in
-      ap (λ (x : Marking). lent x end) q.held
-      ∙ ap (lent (hold_block q.value)) (e ∙ ap (λ (s : Text). accepted (closed s new.at)) same)
-      ∙ ends old.src.now q.value new.at
-      ∙ sym (ap (λ (x : Outcome eos.Marking). accepted (kept hold_block (then x (read_end old.src.now)))) q.is)
+  tokens-to_end = read_to_end hold_block o old new
 
 -- ---- a model with its start
 

@@ -1,20 +1,15 @@
 -- A model's text is accepted exactly where it is the printed text of a model within 01's rules and of its start; a marking's text
 -- exactly where it is the printed text of right net-tokens.
-use Prim.Native.Nat.{ℕ, ◌≤◌}
-use mathlib.Core.Path.{◌≡◌, refl, ap, ◌∙◌}
+use mathlib.Core.Path.{◌≡◌, refl, ap}
 use mathlib.Core.Logic.{◌↔◌}
-use mathlib.Core.Bool.{Bool, true}
-use native.Mathlib.Nat.{le_refl}
-use lib.Dec.{leb}
+use mathlib.Core.Bool.{true}
 use lib.ListN.{length}
-use borrow.Author.Tests.{leb-true, le-leb}
 use Rattle.text.specs.Bytes.{Text, bytes}
 use Rattle.text.proofs.Basics.{and_true}
-use Rattle.text.specs.Lines.{Outcome, got, then, need}
+use Rattle.text.specs.Lines.{got, need}
 use Rattle.text.proofs.TestLaws.{and_both}
-use Rattle.text.proofs.Exactly.{Exactly, got-is, need-got, then-got}
+use Rattle.text.proofs.Exactly.{Exactly}
 use Rattle.text.proofs.ChainExactly.{exactly_by, first_makes, last_makes}
-use Rattle.text.proofs.Unique.{reads_back, was_printed}
 use Rattle.eos.specs.Model as eos
 use Rattle.model.specs.Rules.{right_model}
 use Rattle.model_text.proofs.PlantExactly.{plant_exactly}
@@ -22,32 +17,10 @@ use Rattle.marking.specs.Held.{Sizes, sizes_of}
 use Rattle.marking.specs.Reading.{read_block, right_block}
 use Rattle.marking.specs.Printed.{marking_text}
 use Rattle.marking.proofs.BlockExactly.{block_exactly}
-use Rattle.reader.specs.Reading.{bounds, Loaded, read_end, read_lines, read_model, read_marking, right_loaded, read_model_at}
+use Rattle.reader.specs.Reading.{bounds, Loaded, read_lines, read_model, read_marking, right_loaded, read_model_at}
 use Rattle.reader.specs.Printed.{model_text}
+use Rattle.reader.proofs.EndLaws.{whole_exactly}
 use Rattle.text.specs.declared.Cause.TheVariants.{Syntax}
-
--- ---- a text, whole
-
-module _ {A : Type 0} where
-  -- what is accepted to the end of the text
-  pub ended : (o : Outcome A) (s : Text) (a : A) (next : ℕ) → then o (read_end s) ≡ got a next → (o ≡ got a next) × (length s ≤ next)
-  unfolding read_end
-  ended o s a next e =
-      let p = then-got o (read_end s) a next e in
-      let q = need-got (leb (length s) p.next) Syntax p.next (got p.value p.next) a next p.rest in
-      let k = got-is q.1 in
-      (p.first ∙ rw (k.0, k.1), leb-true (length s) next (rw k.1 at q.0))
-
-  pub to_end_lem : (o : Outcome A) (s : Text) (a : A) → o ≡ got a (length s) → then o (read_end s) ≡ got a (length s)
-  unfolding then read_end need
-  to_end_lem o s a e = rw (e, le-leb (length s) (length s) (le_refl (length s)))
-
-module _ {A : Type 0} (read : Text → ℕ → Outcome A) (text : A → Text) (fine : A → Bool) (exact : (s : Text) → Exactly s (read s) text fine) where
-  whole : (s : Text) (a : A) → (then (read s 0) (read_end s) ≡ got a (length s)) ↔ ((s ≡ text a) × (fine a ≡ true))
-  whole s a = (
-    λ e. let p = ended (read s 0) s a (length s) e in was_printed read text fine exact s a (length s) p.0 p.1,
-    λ h. to_end_lem (read s 0) s a (rw h.0 (reads_back read text fine exact a h.1)),
-  )
 
 -- ---- a model
 
@@ -65,11 +38,11 @@ lines_exactly s =
 -- a model text is accepted with a model and its start exactly where it is their printed text and they are right
 pub reads_what_it_says : (s : Text) (l : Loaded) → (read_model s ≡ got l (length s)) ↔ ((s ≡ model_text l) × (right_loaded l ≡ true))
 unfolding read_model_at
-reads_what_it_says s l = whole read_lines model_text right_loaded lines_exactly s l
+reads_what_it_says s l = whole_exactly read_lines model_text right_loaded lines_exactly s l
 
 -- and a marking's text exactly where it is the printed text of right net-tokens
 pub reads_what_marking_says : (z : Sizes) (s : Text) (μ : eos.Marking)
     → (read_marking z s ≡ got μ (length s)) ↔ ((s ≡ marking_text μ) × (right_block bounds z μ ≡ true))
 unfolding marking_text
 reads_what_marking_says z s μ =
-    whole (λ s. read_block (bytes "start=") bounds z s) (λ μ. marking_text μ) (right_block bounds z) (λ s. block_exactly bounds z s (bytes "start=")) s μ
+    whole_exactly (λ s. read_block (bytes "start=") bounds z s) (λ μ. marking_text μ) (right_block bounds z) (λ s. block_exactly bounds z s (bytes "start=")) s μ

@@ -20,7 +20,7 @@ use Rattle.model.specs.Rules.{right_model}
 use Rattle.model.specs.Held.{SizedModel, model_of}
 use Rattle.model.specs.Test.{held_model}
 use Rattle.model.specs.declared.Model.{Model}
-use Rattle.model.proofs.SlotLaws.{length-listed}
+use Rattle.model.proofs.ShapeLaws.{events-long}
 use Rattle.model.proofs.HeldTests.{held-is}
 use Rattle.model.proofs.HeldBack.{held_again}
 use Rattle.model.proofs.HeldRight.{held_right}
@@ -78,10 +78,6 @@ module _ (m : Model) (sized : SizedModel m) (held : held_model m ≡ true) where
   sizes_are_lem : sizes_for m ≡ sizes_of (model_of m)
   sizes_are_lem = ap sizes_for (held_again m sized (held-is m held)) ∙ sizes_same (model_of m) model_right
 
-  events_are : length (model_of m).events ≡ m.listed
-  unfolding model_of
-  events_are = length-listed _ 0 m.listed
-
   proper_of : (lim : Limits) (ts : eos.Marking) → every (right_net_token lim (sizes_for m)) ts ≡ true → T (M.every (eos.proper (model_of m)) ts)
   proper_of lim ts h = proper_read lim (model_of m) ts (subst (λ (z : Sizes). every (right_net_token lim z) ts ≡ true) sizes_are_lem h)
 
@@ -92,7 +88,7 @@ module _ (m : Model) (sized : SizedModel m) (held : held_model m ≡ true) where
 
   module _ (t : Step) (r : RightStep (sizes_for m) m.listed t) where
     step_of : StepOf (model_of m) t
-    step_of = record { known = rw events_are r.known; taken = proper_of bounds t.taken r.taken; given = proper_of bounds t.given r.given }
+    step_of = record { known = rw (events-long m) r.known; taken = proper_of bounds t.taken r.taken; given = proper_of bounds t.given r.given }
 
     pub rule_is_sound : (q : Rule) (e : ℕ) → q ≡ hold_rule (model_of m) e → e ≡ t.event → Sound q
     rule_is_sound q e h f = rw (h, f) (sound_rule (model_of m) model_right t.event step_of.known)

@@ -22,7 +22,7 @@ use Rattle.model.proofs.PaddedRows.{eq_padded}
 use Rattle.marking.specs.Held.{hold_token}
 use Rattle.step.specs.Rule.{hold_sides, hold_rule}
 use Rattle.step.specs.Verdict.{outer_tokens, inner_taken_in, inner_given_in, has_room, outer_causes, inner_causes, marking_causes, causes_in}
-use Rattle.step.proofs.FirstFailing.{failing_same}
+use Rattle.eos.proofs.FailingLaws.{failing_same}
 use Rattle.step.proofs.PaddedTests.{le_padded, moved_padded, moved_long}
 use Rattle.step.proofs.SidesHeld.{Side, pre_side, post_side, outer_side_long, inner_side_long, side_row, net-small}
 use Rattle.step.proofs.ProjectionLaws.{outer-long, outer_held, inner-long, inner-held}

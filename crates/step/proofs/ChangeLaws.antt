@@ -2,21 +2,16 @@
 -- and gives, is what the marking after the step holds.
 use Prim.Native.Nat.{ℕ}
 use mathlib.Core.Path.{◌≡◌, refl, ap, sym, ◌∙◌}
-use mathlib.Core.Logic.{◌↔◌}
 use mathlib.Core.List.{List, [], ◌∷◌, ◌++◌, map, map-append}
 use mathlib.Core.Bool.{Bool, true, false, cond}
-use lib.Dec.{leb}
 use Rattle.eos.specs.Multiset as M
 use Rattle.eos.specs.Model as eos
 use Rattle.eos.specs.Firing.{after}
-use Rattle.eos.proofs.MultisetLaws.{within_yes, within_all}
-use Rattle.eos.proofs.FiringLaws.{alike}
 use Rattle.marking.specs.Tokens.{like, before, holding}
 use Rattle.marking.specs.declared.NetToken.{NetToken}
 use Rattle.marking.specs.Held.{Sizes, hold_token, hold_marking}
-use Rattle.marking.proofs.TokenOrder.{held_alike}
 use Rattle.marking.proofs.HeldOrder.{Fitting, All, none, more, map-canonical}
-use Rattle.marking.proofs.CountLaws.{like-held, count-held}
+use Rattle.marking.proofs.CountLaws.{like-held}
 
 module _ (z : Sizes) where
   -- ---- differences and sums
@@ -51,23 +46,6 @@ module _ (z : Sizes) where
   all_append : (μ ν : eos.Marking) → All z μ → All z ν → All z (μ ++ ν)
   all_append [] ν none b = b
   all_append (t ∷ μ) ν (more f a) b = more f (all_append μ ν a b)
-
-  -- ---- containment
-
-  -- the tests of containment agree, net-token by net-token
-  every-held : (l taken μ : eos.Marking) → All z l → All z taken → All z μ
-      → M.every (λ r. leb (M.count like r (map hold_token taken)) (M.count like r (map hold_token μ))) (map hold_token l)
-      ≡ M.every (λ t. leb (M.count eos.like t taken) (M.count eos.like t μ)) l
-  every-held [] taken μ none a b = refl
-  every-held (t ∷ l) taken μ (more f c) a b = rw (count-held z t taken f a, count-held z t μ f b, every-held l taken μ c a b)
-
-  -- the taken net-tokens are in the marking exactly where they are as they are held
-  pub within-held : (taken μ : eos.Marking) → All z taken → All z μ → M.Within eos.like taken μ ↔ M.Within like (map hold_token taken) (map hold_token μ)
-  within-held taken μ a b =
-      let e = every-held taken taken μ a a b in (
-        λ h. within_yes like held_alike (map hold_token taken) (map hold_token μ) (rw e (within_all eos.like alike taken μ h)),
-        λ h. within_yes eos.like alike taken μ (rw e at (within_all like held_alike (map hold_token taken) (map hold_token μ) h)),
-      )
 
   -- ---- the marking after a step
 

@@ -1,26 +1,20 @@
--- Laws of the loops that compare rows of tables, and that look for the first net at which a test fails.
-use Prim.Native.Nat.{ℕ, zero, suc, ◌+◌, ◌-◌, ◌*◌, ◌≤◌, ◌<◌}
-use mathlib.Core.Path.{◌≡◌, refl, sym, ◌∙◌}
-use mathlib.Core.Bool.{Bool, true, false, cond, ◌&&◌, and-true, and_assoc}
+-- Laws of the loops that compare rows of tables, for the first net at which a test of them fails.
+use Prim.Native.Nat.{ℕ, suc, ◌+◌, ◌-◌, ◌*◌, ◌≤◌, ◌<◌}
+use mathlib.Core.Path.{◌≡◌, sym, ◌∙◌}
+use mathlib.Core.Bool.{Bool, ◌&&◌, and-true, and_assoc}
 use mathlib.Core.List.{List, ◌∷◌}
-use mathlib.Core.Option.{Option, none, some}
 use native.Mathlib.Omega.{arith}
 use native.Mathlib.Numerals.{add-one}
 use lib.Dec.{eqb, leb}
 use lib.ListN.{length, drop, drop_of_length-le}
 use lib.Seq.{drop-cons}
 use Rattle.eos.specs.Vector.{◌⊕◌, ◌⊖◌, le_v, eq_v}
-use Rattle.eos.specs.Causes.{failing}
 use Rattle.eos.proofs.VectorLaws.{get_d-⊕}
 use Rattle.eos.proofs.VectorSums.{long-left}
 use Rattle.model.specs.Rules.{nth}
 use Rattle.model.specs.Held.{row_in}
 use Rattle.model.proofs.TableLaws.{row_at, length-row}
 use Rattle.step.proofs.VectorArrays.{length-less, nth-less}
-
--- none is not some
-pub none_some : {A B : Type 0} {a : A} → ◌≡◌ {A = Option A} none (some a) → B
-none_some e = let z : ◌≡◌ {A = ℕ} 0 1 = cc in absurd (omega arith)
 
 -- ---- vectors compared number by number
 
@@ -31,36 +25,6 @@ module _ (a b : List ℕ) (i : ℕ) (t : Bool) where
 
   eq_end : length a ≤ i → length b ≤ i → t && eq_v (drop i a) (drop i b) ≡ t
   eq_end h k = rw (drop_of_length-le a {i = i} h, drop_of_length-le b {i = i} k) (and-true t)
-
--- ---- the first number at which a test fails
-module _ (d n : ℕ) (f : ℕ → Bool) where
-  failing-step : n < d → failing (d - n) n f ≡ cond (f n) (failing (d - (n + 1)) (n + 1) f) (some n)
-  failing-step h =
-      let e : d - n ≡ suc (d - (n + 1)) = omega arith in
-      rw (e, add-one n)
-
-  pub failing_on : n < d → f n ≡ true → failing (d - n) n f ≡ failing (d - (n + 1)) (n + 1) f
-  failing_on h e = failing-step h ∙ rw e
-
-  pub failing_here : n < d → f n ≡ false → failing (d - n) n f ≡ some n
-  failing_here h e = failing-step h ∙ rw e
-
-  pub failing_end : d ≤ n → failing (d - n) n f ≡ none
-  failing_end h = let e : d - n ≡ 0 = omega arith in rw e
-
--- it is one of those asked
-pub failing_below : (d n : ℕ) (f : ℕ → Bool) (i : ℕ) → failing d n f ≡ some i → i < n + d
-failing_below zero n f i e = none_some e
-failing_below (suc d) n f i e = go (f n) e (failing_below d (suc n) f i)
-  where
-    go : (b : Bool) → cond b (failing d (suc n) f) (some n) ≡ some i → (failing d (suc n) f ≡ some i → i < suc n + d) → i < n + suc d
-    go true e h = omega (arith, h e)
-    go false e h = let k : n ≡ i = cc in omega arith
-
--- two tests that agree fail at the same number
-pub failing_same : (d n : ℕ) (f g : ℕ → Bool) → ((i : ℕ) → i < n + d → f i ≡ g i) → failing d n f ≡ failing d n g
-failing_same zero n f g h = refl
-failing_same (suc d) n f g h = rw (h n (omega arith), failing_same d (suc n) f g (λ i k. h i (omega arith)))
 
 -- ---- a row of a table is at most another's
 module _ (a b : List ℕ) (n : ℕ) (h : n < 8) (p : length a ≡ 256) (q : length b ≡ 256) (k : ℕ) (t : Bool) where

@@ -1,6 +1,6 @@
 -- Laws of the net-tokens that a marking lacks.
 use Prim.Native.Nat.{ℕ, zero, suc, ◌+◌, ◌≤◌, ◌<◌}
-use mathlib.Core.Path.{◌≡◌, refl, ap, ◌∙◌}
+use mathlib.Core.Path.{◌≡◌, refl, ap, sym, ◌∙◌}
 use mathlib.Core.Bool.{Bool, true, false, cond}
 use mathlib.Core.List.{List, [], ◌∷◌}
 use mathlib.Core.Option.{Option, none, some}
@@ -17,7 +17,7 @@ use Rattle.marking.specs.Tokens.{like}
 use Rattle.marking.specs.declared.NetToken.{NetToken}
 use Rattle.marking.proofs.TokenOrder.{held_alike}
 use Rattle.step.specs.Verdict.{lacking_tokens}
-use Rattle.step.proofs.FirstFailing.{none_some}
+use Rattle.eos.proofs.Basics.{some_not}
 
 -- those that are like one, counted as the code counts them
 pub count_filtered : (t : NetToken) (l : List NetToken) → length (filter (like t) l) ≡ count like t l
@@ -90,7 +90,7 @@ rest-start held (t ∷ ts) = refl
 
 -- what is lacking is one of those asked
 pub lacking_below : (held : List NetToken) (n : ℕ) (seen l : List NetToken) (i : ℕ) → lacking_tokens held n seen l ≡ some i → i < n + length l
-lacking_below held n seen [] i e = none_some e
+lacking_below held n seen [] i e = some_not (sym e)
 lacking_below held n seen (t ∷ l) i e = go (leb (count like t (t ∷ seen)) (count like t held)) e (lacking_below held (suc n) (t ∷ seen) l i)
   where
     go : (b : Bool) → cond b (lacking_tokens held (suc n) (t ∷ seen) l) (some n) ≡ some i

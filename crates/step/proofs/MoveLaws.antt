@@ -9,7 +9,7 @@ use borrow.Author.Tests.{le-leb}
 use lib.ListN.{length, get_or, drop, drop_of_length-le}
 use lib.Seq.{drop-cons}
 use Rattle.eos.specs.Multiset as M
-use Rattle.eos.proofs.MultisetLaws.{bit_self, count_append, within_tail, length-less}
+use Rattle.eos.proofs.MultisetLaws.{bit_self, count_append, within_tail}
 use Rattle.eos.proofs.OrderLaws.{sort_same, sort_fixed, count-insert}
 use Rattle.marking.specs.Tokens.{like, before, holding, tokens_in, Kept, put_in, Out, take_out}
 use Rattle.marking.specs.declared.NetToken.{NetToken}
@@ -24,10 +24,6 @@ unfolding take_out
 out_is t k found after e h = let b = le-leb 1 (M.count like t (tokens_in k)) h in ap (λ (o : Out). o.marking) (rw (b, take_out) at e)
 
 -- ---- taking
-
--- the net-tokens taken are no more than the marking's
-pub taken-few : (k : Marking) (taken : List NetToken) → Kept k → M.Within like taken (tokens_in k) → length taken ≤ k.len
-taken-few k taken p h = omega (arith, length-less like held_alike taken (tokens_in k) h, length-held k p)
 
 -- i net-tokens are taken, and the others are still there
 pub record Taking (start : Marking) (taken : List NetToken) (i : ℕ) (k : Marking) : Type 0 where

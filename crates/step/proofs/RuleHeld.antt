@@ -31,6 +31,7 @@ use Rattle.model.proofs.TableLaws.{length-row, rows_ext, length-tabled, tabled-r
 use Rattle.model.proofs.HeldTests.{Held, moves_are, most-nets, most-places, most-moves}
 use Rattle.model.proofs.HeldTestLoops.{few-steps}
 use Rattle.model.proofs.HeldActs.{act-is, act_range}
+use Rattle.model.proofs.ShapeLaws.{nets-long, net-is, event-is}
 use Rattle.model.proofs.UsedLaws.{types-empty, count-is, net_used, net-held, event_used}
 use Rattle.step.specs.Rule.{hold_sides, hold_rule}
 use Rattle.step.specs.declared.Sides.{Sides}
@@ -122,18 +123,6 @@ module _ (m : Model) (held : Held m) (e : ℕ) (known : e < m.listed) where
   abbrev net : ℕ → ObjectNet
   net k = get_or m.objects k no_net
 
-  nets-long : length (model_of m).nets ≡ m.nets
-  unfolding model_of
-  nets-long = length-listed (λ i. net_of (net i)) 0 m.nets
-
-  event-is : eos.event (model_of m) e ≡ event_of m.nets m.objects event
-  unfolding model_of
-  event-is = listed_at (λ i. event_of m.nets m.objects (get_or m.events i no_event)) m.listed e eos.no_event known
-
-  net-is : (k : ℕ) → k < m.nets → eos.net (model_of m) k ≡ net_of (net k)
-  unfolding model_of
-  net-is k h = listed_at (λ i. net_of (net i)) m.nets k eos.no_net h
-
   sync-is : (k : ℕ) → k < m.nets → get_or (event_of m.nets m.objects event).sync k [] ≡ sync_in m.objects event.sync k
   unfolding event_of
   sync-is k h = listed_at (sync_in m.objects event.sync) m.nets k [] h
@@ -147,7 +136,7 @@ module _ (m : Model) (held : Held m) (e : ℕ) (known : e < m.listed) where
     inner_of_lem : (k : ℕ) → k < m.nets → inner_of side (model_of m) (eos.event (model_of m) e) k
         ≡ zeros (net k).places ⊕ summed side (sync_in m.objects event.sync k) (listed (sides_in (net k).places (net k).pre (net k).post) 0 (net k).transitions)
     unfolding inner_of net_of
-    inner_of_lem k h = rw (net-is k h, event-is, sync-is k h)
+    inner_of_lem k h = rw (net-is m k h, event-is m e known, sync-is k h)
 
     -- the code's sum of net k is the theory's, number by number
     inner-is : (k : ℕ) → k < m.nets → padded (net_sum pick m.objects event.sync k) ≡ padded (inner_of side (model_of m) (eos.event (model_of m) e) k)
@@ -188,7 +177,7 @@ module _ (m : Model) (held : Held m) (e : ℕ) (known : e < m.listed) where
       let few = most-nets m held in
       let x = length-listed f 0 m.nets in
       let y = length-listed g 0 m.nets in
-      rw nets-long
+      rw (nets-long m)
       (rows_ext 8 (tabled row 256 (listed f 0 m.nets)) (tabled row 256 (listed g 0 m.nets))
       (length-tabled row 256 (listed f 0 m.nets)) (length-tabled row 256 (listed g 0 m.nets)) (λ k h.
       tabled-row row [] refl 8 (listed f 0 m.nets) (omega arith) k h
@@ -257,7 +246,7 @@ module _ (m : Model) (held : Held m) (e : ℕ) (known : e < m.listed) where
   -- what the theory has for the event's outer side
   outer_of_lem : {side : eos.Transition → List ℕ} {table : List ℕ} → Moving side table → outer_in event.kind event.index (row_in 32 table) ≡ padded (outer_of side (model_of m) (eos.event (model_of m) e))
   unfolding outer_of event_of
-  outer_of_lem {side} s = rw event-is (sym (outer-is s (act_of event.kind event.index) (act-is (frame_in m) event.kind event.index act-held).right))
+  outer_of_lem {side} s = rw (event-is m e known) (sym (outer-is s (act_of event.kind event.index) (act-is (frame_in m) event.kind event.index act-held).right))
 
   -- a side from its parts
   abbrev pub sides_with : (ObjectNet → List ℕ) → List ℕ → Sides
@@ -279,7 +268,7 @@ module _ (m : Model) (held : Held m) (e : ℕ) (known : e < m.listed) where
       let q = outer_of_lem (post_moving c) in
       let i = inners_are pre_side in
       let j = inners_are post_side in
-      λ x. record { nets = sym nets-long x; types = types_are a x; pre = record { outer = o x; inner = i x }; post = record { outer = q x; inner = j x } }
+      λ x. record { nets = sym (nets-long m) x; types = types_are a x; pre = record { outer = o x; inner = i x }; post = record { outer = q x; inner = j x } }
 
 -- no net has more transitions than a table has rows
 pub few-transitions : (m : Model) → Held m → length m.objects ≡ 8 → (n : ℕ) → (get_or m.objects n no_net).transitions ≤ 32

@@ -19,7 +19,7 @@ use Rattle.step.specs.declared.Cause.TheVariants.{Places, Short, Unequal, Missin
 use Rattle.step.specs.declared.Refusal.{Refusal}
 use Rattle.step.specs.Verdict.{outer_tokens, inner_taken_in, inner_given_in, lacking_tokens, outer_causes, inner_causes, marking_causes, causes_in, verdict_of, told}
 use Rattle.step.specs.VerdictParts.{Inner, even_in}
-use Rattle.step.proofs.FirstFailing.{failing_same}
+use Rattle.eos.proofs.FailingLaws.{failing_same}
 use Rattle.step.proofs.LackLaws.{lacking_fewer}
 
 -- what a verdict says

@@ -1,8 +1,8 @@
 -- Laws of what a text begins with, and of the lines that end in it.
-use Prim.Native.Nat.{ℕ, suc, ◌+◌, ◌-◌, ◌≤◌, ◌<◌, min}
+use Prim.Native.Nat.{ℕ, ◌+◌, ◌-◌, ◌≤◌, ◌<◌, min}
 use mathlib.Core.Path.{◌≡◌, refl, sym, ◌∙◌}
 use mathlib.Core.List.{[], ◌∷◌, ◌++◌}
-use mathlib.Core.Bool.{true, false, false≢true}
+use mathlib.Core.Bool.{true, false≢true}
 use native.Mathlib.Omega.{arith}
 use native.Mathlib.Numerals.{add-one}
 use lib.Dec.{eqb, leb}
@@ -10,7 +10,7 @@ use Rattle.std.specs.List.{starts_with}
 use native.Mathlib.Nat.{min-eq_left}
 use borrow.Author.Tests.{eq-eqb, ne_eqb, eqb-true, eqb-false, leb-true, leb-false}
 use lib.ListN.{length, take, drop, get_or, drop_of_length-le, length-drop}
-use lib.Seq.{drop-cons, get_or-drop, take-suc, take_all}
+use lib.Seq.{take-suc, take_all}
 use Rattle.text.specs.Bytes.{Text, lf, starts, newlines, line_at}
 use Rattle.text.proofs.Basics.{by_test}
 
@@ -47,35 +47,6 @@ drop_within s at m e =
     (λ h.
     let k = leb-false at (length s) h in
     rw (drop_past s m (omega (arith, e, k)), drop_past s at (omega (arith, k))))
-
-pub starts-nothing : (key s : Text) (at : ℕ) → length s < at → eqb (length key) 0 ≡ starts key (drop at s)
-unfolding starts
-starts-nothing [] s at h = refl
-starts-nothing (k ∷ key) s at h = let g : length s ≤ at = omega arith in rw (drop_of_length-le s g) (ne_eqb (suc (length key)) 0 (λ e. omega arith))
-
-pub key_end : (key s : Text) (i : ℕ) → length key ≤ i → starts (drop i key) s ≡ true
-unfolding starts
-key_end key s i h = rw (drop_of_length-le key h)
-
--- the key by its byte at i
-module _ (key s : Text) (at i : ℕ) (h : i < length key) where
-  pub key-short : length s - at ≤ i → starts (drop i key) (drop i (drop at s)) ≡ false
-  unfolding starts
-  key-short n =
-      let m : length (drop at s) ≤ i = omega (arith, length-drop at s) in
-      rw (drop-cons key i 0 h, drop_of_length-le (drop at s) m)
-
-  module _ (m : i < length s - at) where
-    rest-is : drop i (drop at s) ≡ get_or s (at + i) 0 ∷ drop (suc i) (drop at s)
-    rest-is = drop-cons (drop at s) i 0 (omega (arith, length-drop at s)) ∙ rw (get_or-drop at s i 0)
-
-    pub key_other : (get_or s (at + i) 0 ≡ get_or key i 0 → ⊥) → starts (drop i key) (drop i (drop at s)) ≡ false
-    unfolding starts
-    key_other n = rw (drop-cons key i 0 h, rest-is, ne_eqb _ _ n, starts)
-
-    pub key_more : get_or s (at + i) 0 ≡ get_or key i 0 → starts (drop i key) (drop i (drop at s)) ≡ starts (drop (i + 1) key) (drop (i + 1) (drop at s))
-    unfolding starts
-    key_more e = rw (add-one i, drop-cons key i 0 h, rest-is, eq-eqb _ _ e, starts)
 
 pub key_past : (key s : Text) (at : ℕ) → starts key (drop at s) ≡ true → length key ≤ length s - at
 key_past key s at e = omega (arith, starts-length key (drop at s) e, length-drop at s)

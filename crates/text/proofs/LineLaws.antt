@@ -1,7 +1,6 @@
 -- Laws of keys, ranges, lines and line numbers.
 use Prim.Native.Nat.{ℕ, ◌+◌, ◌≤◌, ◌<◌}
 use mathlib.Core.Path.{◌≡◌, sym, ◌∙◌}
-use mathlib.Core.List.{List, []}
 use mathlib.Core.Bool.{Bool, true, false, and-false}
 use native.Mathlib.Omega.{arith}
 use lib.Dec.{leb}
@@ -9,8 +8,8 @@ use borrow.Author.Tests.{leb-true, leb-false, le-leb, lt-leb}
 use lib.ListN.{length, drop}
 use Rattle.text.specs.Bytes.{Text, lf, starts}
 use Rattle.text.proofs.Basics.{by_test, and_true}
-use Rattle.text.specs.Number.{Read, missing, found, number, item}
-use Rattle.text.specs.Lines.{Outcome, got, bad, fault, need, judged, every, in_range, behind, read_number, read_head}
+use Rattle.text.specs.Number.{Read, missing, number, item}
+use Rattle.text.specs.Lines.{Outcome, bad, fault, need, judged, in_range, behind, read_number, read_head}
 use Rattle.std.specs.Prelude.{Result}
 use Rattle.std.specs.declared.result.Result.TheVariants.{Ok, Err}
 use Rattle.text.specs.Answers.{parsed}
@@ -75,17 +74,6 @@ module _ {A : Type 0} (t : Bool) (cause : Cause) (at : ℕ) (o : Outcome A) wher
   pub need_unmet : t ≡ false → need t cause at o ≡ bad (fault cause at)
   unfolding need
   need_unmet e = rw e
-
--- ---- what was read, judged
-
-module _ {A : Type 0} (top : ℕ) where
-  pub judged-missing : (range : A → Bool) (x : Read A) → x ≡ missing → judged range top x ≡ bad (fault Syntax top)
-  unfolding judged
-  judged-missing range x e = rw e
-
-  pub judged_none : (range : A → Bool) (x : Read (List A)) (u : ℕ) → x ≡ found [] u → judged (every range) top x ≡ got [] u
-  unfolding judged need
-  judged_none range x u e = rw e
 
 -- ---- the line of one number
 

@@ -129,10 +129,6 @@ module _ {A : Type 0} (value : Text → ℕ → Read A) (text : A → Text) (one
       let r = items_forth n (at + length t) l (stands_right s at t (items_text text l) whole) (eq-eqb (length l) n m) in
       rw (items_split text n a l m, i, items, r, ends_join)
 
-  -- n values, joined by commas
-  pub items_finds : (n : ℕ) → Finds s (items value n s) (items_text text) (λ l. eqb (length l) n)
-  items_finds n = record { back = items_back n; forth = items_forth n }
-
   list_back : (n at : ℕ) (l : List A) (next : ℕ) → list_end value n s at ≡ found l next → Accepts s at (end_text text l) next (eqb (length l) n)
   unfolding list_end end_text
   list_back zero at l next e =

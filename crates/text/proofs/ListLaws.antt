@@ -6,7 +6,7 @@ use mathlib.Core.Bool.{Bool, true, false, ◌&&◌, ◌||◌, and_assoc}
 use mathlib.Core.Bool as bool
 use native.Mathlib.Omega.{arith}
 use native.Mathlib.Numerals.{add-one}
-use lib.Dec.{leb, eqb, lit<}
+use lib.Dec.{leb, eqb}
 use lib.IntN.{ℤ, pos, negsuc}
 use borrow.Author.Tests.{leb-true, le-leb, eq-eqb, ne_eqb}
 use lib.ListN.{replicate, length, drop, set, get_or}
@@ -22,8 +22,8 @@ use Rattle.std.specs.Prelude.{Result, nat_abs}
 use Rattle.std.specs.declared.result.Result.TheVariants.{Ok, Err}
 use Rattle.text.specs.declared.Fault.{Fault}
 use Rattle.text.specs.declared.Parsed.{Parsed}
-use Rattle.text.proofs.ReadLaws.{by_read, past_other}
-use Rattle.text.proofs.NumberLaws.{Exact, CappedSigned, number_end, number_forward, ended_here, ended_other, ended_past, item_plain}
+use Rattle.text.proofs.ReadLaws.{by_read}
+use Rattle.text.proofs.NumberLaws.{Exact, CappedSigned, number_end, number_forward, ended_here, ended_other, item_plain}
 use Rattle.text.proofs.LineLaws.{capped-most}
 use Rattle.text.specs.declared.Cause.TheVariants.{Syntax, Range}
 
@@ -127,9 +127,6 @@ module _ {A : Type 0} (value : Text → ℕ → Read A) (s : Text) (at : ℕ) wh
     pub end_other : (get_or s at 0 ≡ lf → ⊥) → list_end value n s at ≡ missing
     end_other e = end_none ∙ ended_other lf s [] at e
 
-    pub end_past : length s ≤ at → list_end value n s at ≡ missing
-    end_past h = end_none ∙ ended_past lf s [] at (lit< tt) h
-
 -- ---- a list of numbers, read as weights
 
 -- numbers as weights
@@ -216,16 +213,10 @@ module _ (s : Text) (from : ℕ) where
   unfolding any_list
   any_start n = rw (ne_eqb _ _ n) (any_enough (length s) (length s - from) s from (omega arith) (omega arith))
 
-  pub any_start_past : length s ≤ from → any_list s from ≡ any_items (length s - from) s from
-  any_start_past h = any_start (past_other s from lf (lit< tt) h)
-
 -- the turn at `at`
 module _ (s : Text) (at : ℕ) where
   pub any_missing : number s at ≡ missing → any_items (length s - at) s at ≡ false
   any_missing e = any_none (length s - at) s at e
-
-  pub any_end : length s ≤ at → any_items (length s - at) s at ≡ false
-  any_end h = any_missing (number_end s at h)
 
   module _ (h : at < length s) (v u : ℕ) (e : number s at ≡ found v u) where
     any_next : any_items (length s - at) s at ≡ (eqb (get_or s u 0) lf || (eqb (get_or s u 0) comma && any_items (length s - at - 1) s (u + 1)))
@@ -236,9 +227,6 @@ module _ (s : Text) (at : ℕ) where
 
     pub any_other : (get_or s u 0 ≡ lf → ⊥) → (get_or s u 0 ≡ comma → ⊥) → any_items (length s - at) s at ≡ false
     any_other p q = any_next ∙ rw (ne_eqb _ _ p, ne_eqb _ _ q)
-
-    pub any_past : length s ≤ u → any_items (length s - at) s at ≡ false
-    any_past n = any_other (past_other s u lf (lit< tt) n) (past_other s u comma (lit< tt) n)
 
     pub any_more : (get_or s u 0 ≡ lf → ⊥) → get_or s u 0 ≡ comma → any_items (length s - at) s at ≡ any_items (length s - (u + 1)) s (u + 1)
     any_more p q =

@@ -6,28 +6,7 @@ use native.Mathlib.Omega.{arith}
 use native.Mathlib.Numerals.{add-one}
 use Rattle.text.specs.Lines.{Outcome, got, bad, then, many}
 use Rattle.text.specs.Repeat.{many_at, fill, filled}
-use Rattle.std.specs.declared.result.Result.TheVariants.{Ok, Err}
-use Rattle.text.specs.Answers.{kept, parsed}
 use Rattle.text.specs.declared.Fault.{Fault}
-use Rattle.text.specs.declared.Parsed.{Parsed}
-
--- what was read up to a position, of which b is held
-pub record Got {A B : Type 0} (f : A → B) (o : Outcome A) (b : B) (next : ℕ) : Type 0 where
-  pub value : A
-  pub is : o ≡ got value next
-  pub held : b ≡ f value
-
--- what an answer says of the outcome
-module _ {A B : Type 0} (f : A → B) where
-  pub parsed_got : (o : Outcome A) (p : Parsed B) → Ok p ≡ parsed (kept f o) → Got f o p.value p.end
-  unfolding parsed kept
-  parsed_got (got a t) p e = let z : p ≡ record { value = f a; end = t } = cc in record { value = a; is = rw z; held = rw z }
-  parsed_got (bad d) p e = let z : ◌≡◌ {A = ℕ} 0 1 = cc in absurd (omega arith)
-
-  pub parsed_bad : (o : Outcome A) (d : Fault) → Err d ≡ parsed (kept f o) → o ≡ bad d
-  unfolding parsed kept
-  parsed_bad (got a t) d e = let z : ◌≡◌ {A = ℕ} 0 1 = cc in absurd (omega arith)
-  parsed_bad (bad c) d e = cc
 
 -- what is put behind the thing just read
 put_next_lem : {A B : Type 0} (put : ℕ → A → B → B) (i : ℕ) (t : B) (o : Outcome (List A)) (a : A)

@@ -18,7 +18,7 @@ use Rattle.text.specs.Bytes.{Text, minus}
 use Rattle.text.proofs.Basics.{by_test}
 use Rattle.text.specs.Number.{Read, missing, found, is_digit, digits, number_of, number, plainly, negated, signed, signed_if, ended, item}
 use Rattle.text.specs.Capped.{answered, cap, cap_signed, capped}
-use Rattle.text.proofs.ReadLaws.{missing≢found, found-is, past_other}
+use Rattle.text.proofs.ReadLaws.{missing≢found, found-is}
 use Rattle.text.proofs.NumberSteps.{digits_more, digits_stop, of_zero, of_digit, of_other}
 
 -- ---- digits
@@ -184,9 +184,6 @@ module _ {A : Type 0} (stop : ℕ) (s : Text) (a : A) (u : ℕ) where
   pub ended_other : (get_or s u 0 ≡ stop → ⊥) → ended stop s (found a u) ≡ missing
   unfolding ended
   ended_other n = rw (ne_eqb _ _ n, ended)
-
-  pub ended_past : 0 < stop → length s ≤ u → ended stop s (found a u) ≡ missing
-  ended_past p h = ended_other (past_other s u stop p h)
 
 module _ {A : Type 0} (value : Text → ℕ → Read A) (stop : ℕ) (s : Text) (at : ℕ) where
   pub item-missing : value s at ≡ missing → item value stop s at ≡ missing

@@ -5,9 +5,8 @@ use mathlib.Core.Logic.{◌⊎◌, inl, inr, ⊎_elim}
 use mathlib.Core.List.{List, [], ◌∷◌, ◌++◌}
 use native.Mathlib.Omega.{arith}
 use native.Mathlib.Nat.{add-zero}
-use native.Mathlib.Numerals.{add-one}
-use lib.ListN.{length, take, set, get_or}
-use lib.Seq.{sets, set_comm, get_or-set_other, length-take-le, take-suc}
+use lib.ListN.{length, set, get_or}
+use lib.Seq.{sets, set_comm, get_or-set_other}
 
 -- a text after another
 pub sets_append : (a b l : List ℕ) (i : ℕ) → sets l i (a ++ b) ≡ sets (sets l i a) (i + length a) b
@@ -31,9 +30,3 @@ sets_past [] l i j h = refl
 sets_past (x ∷ a) l i j h =
     sets_past a (set l i x) (suc i) j (⊎_elim (λ p. inl (omega arith)) (λ p. inr (omega arith)) h)
     ∙ get_or-set_other l i j x 0 (⊎_elim (λ p e. omega arith) (λ p e. omega arith) h)
-
--- a copy, one byte more
-pub sets_more : (l vs : List ℕ) (at i : ℕ) → i < length vs → set (sets l at (take i vs)) (at + i) (get_or vs i 0) ≡ sets l at (take (i + 1) vs)
-sets_more l vs at i h =
-    let n : length (take i vs) ≡ i = length-take-le i vs (omega arith) in
-    rw (add-one i, take-suc vs i 0 h, sets_append (take i vs) (get_or vs i 0 ∷ []) l at, n)

@@ -86,9 +86,6 @@ module _ {A : Type 0} where
     pub plainly : Reads o old new r → Reads (kept itself o) old new r
     plainly h = rw (plain_is o) h
 
-    pub as_it_is : Reads (kept itself o) old new r → Reads o old new r
-    as_it_is h = rw (plain_is o) at h
-
 -- ---- from what stands in the text
 
 module _ {A : Type 0} {old : Reader} (o : Outcome A) (read : Result (Parsed A) Fault) where

@@ -1,22 +1,18 @@
 -- The test of weights that cover, case by case, and at small weights by computation.
 use Prim.Native.Nat.{ℕ, ◌<◌}
-use mathlib.Core.Path.{◌≡◌, refl, ap, sym, ◌∙◌}
-use mathlib.Core.Bool.{Bool, true, false, ◌&&◌, false≢true}
+use mathlib.Core.Path.{◌≡◌, refl, sym, ◌∙◌}
+use mathlib.Core.Bool.{true, false, false≢true}
 use mathlib.Core.List.{List, [], ◌∷◌}
 use lib.IntN.{ℤ, pos}
 use lib.ListN.{take}
-use Rattle.std.specs.List.{list_all}
 use Rattle.text.proofs.Basics.{by_test}
 use Rattle.eos.specs.Firing.{all_below}
 use Rattle.eos.specs.Multiset.{every}
 use Rattle.model.specs.declared.ObjectNet.{ObjectNet}
 use Rattle.model.proofs.SlotLaws.{below_at, below_of}
 use Rattle.weigh.specs.Sums.{row_of, enough, net_covered, covered}
-
 -- a test of every element, in the words of the library
-pub every_all : {A : Type 0} (f : A → Bool) (l : List A) → list_all f l ≡ every f l
-every_all f [] = refl
-every_all f (a ∷ l) = ap (λ (t : Bool). f a && t) (every_all f l)
+pub use Rattle.model.proofs.RuleLoops.{every_in_list as every_all}
 
 module _ (most places nets : ℕ) (objects : List ObjectNet) (weights : List (List ℤ)) (sum : ℕ) where
   pub outer_lacks : every (enough most sum) (take places (row_of weights 0)) ≡ false → false ≡ covered most places nets objects weights sum

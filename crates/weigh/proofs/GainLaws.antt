@@ -3,15 +3,16 @@ use Prim.Native.Nat.{ℕ, zero, suc, ◌+◌, ◌-◌, ◌*◌, ◌≤◌, ◌<�
 use mathlib.Core.Path.{◌≡◌, refl, ap, sym, ◌∙◌}
 use mathlib.Core.Bool.{Bool, true, false}
 use mathlib.Core.List.{List, [], ◌∷◌}
-use mathlib.Core.Option.{none, some}
+use mathlib.Core.Option.{some}
 use native.Mathlib.Omega.{arith}
-use native.Mathlib.Nat.{add-zero, zero-add}
+use native.Mathlib.Nat.{zero-add}
 use native.Mathlib.Numerals.{add-one}
 use Rattle.std.specs.Prelude as answer
 use lib.IntN.{ℤ, pos, negsuc, nat_abs, ◌-ℤ◌}
 use lib.ListN.{length, get_or, set, take, drop, replicate, length-set}
 use lib.Seq.{get_or-set_same, get_or-set_other, set_out}
 use Rattle.eos.specs.Causes.{failing}
+use Rattle.eos.proofs.FailingLaws.{failing_first, failing_none}
 use Rattle.eos.specs.Weights.{dot, is_zero}
 use Rattle.model.specs.Held.{no_net, row_in}
 use Rattle.model.specs.declared.Model.{Model}
@@ -124,15 +125,6 @@ module _ (m : Model) (weights : List (List ℤ)) where
 
 -- ---- a move's gain
 
-pub of_none : (row : List ℤ) (k : ℕ) → k ≡ 0 → pos 0 ≡ move_gain row k
-unfolding move_gain
-of_none row k e = rw e
-
-pub of_move : (row : List ℤ) (k : ℕ) → (k ≡ 0 → ⊥) → number_of row (k - 1) ≡ move_gain row k
-unfolding move_gain
-of_move row zero h = absurd (h refl)
-of_move row (suc k) h = let e : suc k - 1 ≡ k = omega arith in rw e
-
 pub move_small : (row : List ℤ) → Small row → (k : ℕ) → nat_abs (move_gain row k) ≤ 137436856320
 unfolding move_gain
 move_small row h zero = omega arith
@@ -140,27 +132,11 @@ move_small row h (suc k) = h k
 
 -- ---- the first event that fails
 
-failing_some : (f : ℕ → Bool) (n i k : ℕ) → k < n → ((j : ℕ) → j < k → f (i + j) ≡ true) → f (i + k) ≡ false → failing n i f ≡ some (i + k)
-failing_some f zero i k h p q = absurd (omega arith)
-failing_some f (suc n) i zero h p q = rw (add-zero i) (rw (rw (add-zero i) at q))
-failing_some f (suc n) i (suc k) h p q =
-    let e : i + suc k ≡ suc i + k = omega arith in
-    let here : f i ≡ true = rw (add-zero i) at (p 0 (omega arith)) in
-    rw (here, e)
-    (failing_some f n (suc i) k (omega arith) (λ j r. let d : suc i + j ≡ i + suc j = omega arith in rw d (p (suc j) (omega arith))) (rw e at q))
-
-failing_none : (f : ℕ → Bool) (n i : ℕ) → ((j : ℕ) → j < n → f (i + j) ≡ true) → failing n i f ≡ none
-failing_none f zero i p = refl
-failing_none f (suc n) i p =
-    let here : f i ≡ true = rw (add-zero i) at (p 0 (omega arith)) in
-    rw here (failing_none f n (suc i) (λ j r. let d : suc i + j ≡ i + suc j = omega arith in rw d (p (suc j) (omega arith))))
-
 pub first_fails : (f : ℕ → Bool) (n k : ℕ) → k < n → ((j : ℕ) → j < k → f j ≡ true) → f k ≡ false → answer.Some k ≡ found (failing n 0 f)
-first_fails f n k h p q =
-    sym (ap found (failing_some f n 0 k h (λ j r. rw (zero-add j) (p j r)) (rw (zero-add k) q) ∙ ap some (zero-add k)))
+first_fails f n k h p q = sym (ap found (failing_first n 0 f k h (λ j r. rw (zero-add j) (p j r)) (rw (zero-add k) q) ∙ ap some (zero-add k)))
 
 pub none_fails : (f : ℕ → Bool) (n : ℕ) → ((j : ℕ) → j < n → f j ≡ true) → answer.None ≡ found (failing n 0 f)
-none_fails f n p = sym (ap found (failing_none f n 0 (λ j r. rw (zero-add j) (p j r))))
+none_fails f n p = sym (ap found (failing_none n 0 f (λ j r. rw (zero-add j) (p j r))))
 
 -- a gain that is 0, and one that is not
 pub gain_zero : (g v : ℤ) → g ≡ v → g ≡ pos 0 → is_zero v ≡ true

@@ -35,10 +35,6 @@ unfolding total
 total_front zero f = +ℤ_idl (f 0) ∙ sym (+ℤ_idr (f 0))
 total_front (suc n) f = ap (λ (z : ℤ). z +ℤ f (suc n)) (total_front n f) ∙ +ℤ_assoc (f 0) (total n (λ i. f (suc i))) (f (suc n))
 
--- one sum further
-pub add_next : (f : ℕ → ℤ) (k : ℕ) (sum next r : ℤ) → sum ≡ total k f → r ≡ f k → next ≡ sum +ℤ r → next ≡ total (k + 1) f
-add_next f k sum next r p q e = e ∙ ap₂ ◌+ℤ◌ p q ∙ sym (total_on k f)
-
 -- the same behind another number
 pub total_begins : (first : ℤ) (f : ℕ → ℤ) → first ≡ first +ℤ total 0 f
 unfolding total

@@ -19,7 +19,7 @@ impl Count for u8 {
     ghost count = { λ n. n };
 
     fn times(self, weight: i16) -> i64 {
-        weight as i64 * self as i64
+        i64::from(weight) * i64::from(self)
     }
 }
 
@@ -27,7 +27,7 @@ impl Count for u16 {
     ghost count = { λ n. n };
 
     fn times(self, weight: i16) -> i64 {
-        weight as i64 * self as i64
+        i64::from(weight) * i64::from(self)
     }
 }
 

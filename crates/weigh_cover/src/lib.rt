@@ -12,7 +12,7 @@ use model::Model;
 fn enough(weight: i16, sum: u64, most: u64) -> bool
     ensures { result ≡ enough most sum weight }
 {
-    weight > 0 && sum / weight as u64 <= most
+    weight > 0 && sum / u64::from(weight.unsigned_abs()) <= most
 }
 
 // The same of all of a list of weights.
@@ -33,7 +33,7 @@ pub fn covers(most: u64, m: &Model, weights: &[[i16; 32]; 9], sum: u64) -> bool
     }
     for n in 0..m.nets {
         let places = m.objects[n].places;
-        if !all_enough(&weights[n + 1][..places], sum, Model::COUNT as u64) {
+        if !all_enough(&weights[n + 1][..places], sum, u64::from(Model::COUNT)) {
             return false;
         }
     }

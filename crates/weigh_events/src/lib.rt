@@ -68,7 +68,7 @@ fn counted(gain: i64, count: u8) -> i64
     ensures low { neg_ℤ (pos 35046398361600) ≤ℤ result }
     ensures high { result ≤ℤ pos 35046398361600 }
 {
-    gain * count as i64
+    gain * i64::from(count)
 }
 
 // What a net's transitions gain, each as often as it is counted.

@@ -16,9 +16,9 @@ fn token_weight(weights: &[[i16; 32]; 9], types: &[u8; 32], t: &NetToken) -> i64
     ensures low { neg_ℤ (pos 68718461952) ≤ℤ result }
     ensures high { result ≤ℤ pos 68718461952 }
 {
-    let place = t.place as usize - 1;
-    let counts = dot(&weights[types[place] as usize], &t.counts);
-    weights[0][place] as i64 + counts
+    let place = usize::from(t.place) - 1;
+    let counts = dot(&weights[usize::from(types[place])], &t.counts);
+    i64::from(weights[0][place]) + counts
 }
 
 // The weight of net-tokens.

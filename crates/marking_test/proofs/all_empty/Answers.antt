@@ -3,11 +3,11 @@ use Rattle.std.proofs.lemmas.Iterator.{YieldsList-from_slice}
 use Rattle.std.proofs.lemmas.Iterator.Search.{all_from_yields_List}
 use Rattle.marking.specs.Tokens.{like}
 use Rattle.marking.proofs.TokenOrder.{eq_like}
-use Rattle.marking.proofs.HeldTests.{every_all}
+use Rattle.model.proofs.RuleLoops.{every_in_list}
 use Rattle.marking_test.proofs.all_empty.Goals as goal
 
 pub returns : goal.returns
 returns c =
     let e = c.empty-empty.result in
     all_from_yields_List (like e) _ _ _ c.all.ensures.ran (YieldsList-from_slice c.args.room.now (cc)) (λ x b q k. search (rules, tests, eq_like))
-    ∙ every_all (like e) c.args.room.now ∙ rw c.empty-empty.ensures
+    ∙ every_in_list (like e) c.args.room.now ∙ rw c.empty-empty.ensures

@@ -2,11 +2,11 @@ use Rattle.std.proofs.Common.{rules, tests, ◌∙◌}
 use Rattle.std.proofs.lemmas.Iterator.{YieldsList-from_slice}
 use Rattle.std.proofs.lemmas.Iterator.Search.{all_from_yields_List}
 use Rattle.marking.specs.Held.{as_sizes, held_token}
-use Rattle.marking.proofs.HeldTests.{every_all}
+use Rattle.model.proofs.RuleLoops.{every_in_list}
 use Rattle.marking_test.proofs.all_held.Goals as goal
 
 pub returns : goal.returns
 returns c =
     let z = as_sizes c.args.z.now in
     all_from_yields_List (held_token z) _ _ _ c.all.ensures.ran (YieldsList-from_slice c.args.tokens.now (cc)) (λ x b q k. search (rules, tests))
-    ∙ every_all (held_token z) c.args.tokens.now
+    ∙ every_in_list (held_token z) c.args.tokens.now

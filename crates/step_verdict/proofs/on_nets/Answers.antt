@@ -8,7 +8,7 @@ use Rattle.eos.specs.Causes.{failing}
 use Rattle.model.specs.Held.{row_in}
 use Rattle.step.specs.VerdictParts.{even_in}
 use Rattle.step.specs.Verdict.{told}
-use Rattle.step.proofs.FirstFailing.{failing_below}
+use Rattle.eos.proofs.FirstLaws.{failing-least}
 use Rattle.step.proofs.VerdictLaws.{told_some, taken_same, given_same, stop_short, stop_unequal, pass_nets}
 use Rattle.step_verdict.proofs.on_nets.Goals as goal
 
@@ -16,7 +16,7 @@ pub overflow_add-result : goal.overflow_add-result
 overflow_add-result c =
     let q = c.args.rule.now in
     let f : ℕ → Bool = λ n. le_v (row_in 32 q.pre.inner n) (row_in 32 c.inner_of.new.sums n) in
-    omega (arith, failing_below q.nets 0 f c.in-Some.net (told_some (failing q.nets 0 f) c.in-Some.net c.in-Some.ensures), c.requires.0.nets)
+    omega (arith, (failing-least q.nets f c.in-Some.net (told_some (failing q.nets 0 f) c.in-Some.net c.in-Some.ensures)).within, c.requires.0.nets)
 
 pub returns-in-Some : goal.returns-in-Some
 returns-in-Some c =
@@ -29,7 +29,7 @@ overflow_add-result-in-Some-unbalanced_net c =
     let q = c.args.rule.now in
     let n = c.in-Some-unbalanced_net.net in
     let f : ℕ → Bool = even_in c.inner_of-2.new.sums c.inner_of.new.sums q.pre.inner q.post.inner in
-    omega (arith, failing_below q.nets 0 f n (told_some (failing q.nets 0 f) n c.in-Some-unbalanced_net.ensures), c.requires.0.nets)
+    omega (arith, (failing-least q.nets f n (told_some (failing q.nets 0 f) n c.in-Some-unbalanced_net.ensures)).within, c.requires.0.nets)
 
 pub returns-in-Some-unbalanced_net : goal.returns-in-Some-unbalanced_net
 returns-in-Some-unbalanced_net c =

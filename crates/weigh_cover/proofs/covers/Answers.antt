@@ -22,11 +22,11 @@ use Rattle.weigh_cover.proofs.covers.Goals as goal
 abbrev outside : ObjectNet
 outside = record { places = 0; transitions = 0; pre = []; post = [] }
 
--- a net's test, with the one default for the other
-net_at : (objects : List ObjectNet) (weights : List (List ℤ)) (sum n : ℕ) (r : Bool) → n < length objects
-    → r ≡ every (enough count_limit sum) (take (get_or objects n outside).places (row_of weights (n + 1))) → net_covered objects weights sum n ≡ r
-net_at objects weights sum n r h e =
-    rw (← (add-one n)) (sym (e ∙ ap (λ (o : ObjectNet). every (enough count_limit sum) (take o.places (row_of weights (n + 1)))) (at_any objects n outside no_net h)))
+-- a net's test, with the one default for the other and the limit of a count as the code has it
+net_at : (objects : List ObjectNet) (weights : List (List ℤ)) (most sum n : ℕ) (r : Bool) → n < length objects → most ≡ count_limit
+    → r ≡ every (enough most sum) (take (get_or objects n outside).places (row_of weights (n + 1))) → net_covered objects weights sum n ≡ r
+net_at objects weights most sum n r h limit e =
+    rw (← (add-one n), ← limit) (sym (e ∙ ap (λ (o : ObjectNet). every (enough most sum) (take o.places (row_of weights (n + 1)))) (at_any objects n outside no_net h)))
 
 pub returns-then-not-all_enough : goal.returns-then-not-all_enough
 returns-then-not-all_enough c = outer_lacks _ _ _ _ _ _ (sym c.all_enough.ensures ∙ c.if-not-all_enough.true)
@@ -36,14 +36,14 @@ loop-n-preserved c =
     let a = c.args in
     let long : length a.m.now.objects ≡ 8 = search rules in
     below_more _ _ c.loop-n.invariant
-    (net_at a.m.now.objects a.weights.now a.sum c.loop-n.n _ (omega arith) c.all_enough-in-loop-n.ensures ∙ c.if-not-all_enough-2.false)
+    (net_at a.m.now.objects a.weights.now _ a.sum c.loop-n.n _ (omega arith) c.from.ensures c.all_enough-in-loop-n.ensures ∙ c.if-not-all_enough-2.false)
 
 pub returns-then-not-all_enough-2 : goal.returns-then-not-all_enough-2
 returns-then-not-all_enough-2 c =
     let a = c.args in
     let long : length a.m.now.objects ≡ 8 = search rules in
     net_lacks _ _ _ _ _ _ (sym c.all_enough.ensures ∙ c.if-not-all_enough.false) c.loop-n.n (omega arith)
-    (net_at a.m.now.objects a.weights.now a.sum c.loop-n.n _ (omega arith) c.all_enough-in-loop-n.ensures ∙ c.if-not-all_enough-2.true)
+    (net_at a.m.now.objects a.weights.now _ a.sum c.loop-n.n _ (omega arith) c.from.ensures c.all_enough-in-loop-n.ensures ∙ c.if-not-all_enough-2.true)
 
 pub returns : goal.returns
 returns c = all_covered _ _ _ _ _ _ (sym c.all_enough.ensures ∙ c.if-not-all_enough.false) (λ k h. c.loop-n.invariant k (omega arith))

@@ -5,22 +5,22 @@ use native.Mathlib.Omega.{arith}
 use lib.IntN.{ℤ, pos, ◌*ℤ◌}
 use mir.Syntax.{w64}
 use mir.Val.{SFits, to_z, of_z}
-use Rattle.std.proofs.lemmas.Int.{ints}
+use Rattle.std.proofs.lemmas.Int.{ints, to_z-of_z}
 use Rattle.weigh.proofs.DotLaws.{times_most}
 use Rattle.weigh_events.proofs.counted.Goals as goal
 
--- the two as the code has them
-as_held : (g : ℤ) (n : ℕ) → SFits w64 g → n < 256 → to_z w64 (of_z w64 g) *ℤ to_z w64 n ≡ g *ℤ pos n
-as_held g n fits few = ap₂ ◌*ℤ◌ {x = to_z w64 (of_z w64 g)} {y = g} (omega (arith, ints)) (omega (arith, ints))
+-- the product as the code has it, of g and of n as a wider number
+as_held : (g r : ℤ) (n : ℕ) → SFits w64 g → n < 256 → r ≡ pos n → to_z w64 (of_z w64 g) *ℤ to_z w64 (of_z w64 r) ≡ g *ℤ pos n
+as_held g r n fits few e = ap₂ ◌*ℤ◌ (to_z-of_z w64 g fits) (omega (arith, ints))
 
 pub overflow_mul-result : goal.overflow_mul-result
 overflow_mul-result c =
     let p = times_most c.args.gain c.args.count 137436856320 255 c.requires (omega arith) in
-    let e = as_held c.args.gain c.args.count c.ranges.gain (omega arith) in
+    let e = as_held c.args.gain c.from.result c.args.count c.ranges.gain (omega arith) c.from.ensures in
     omega (arith, ints, p, e)
 
 pub returns : goal.returns
 returns c =
     let p = times_most c.args.gain c.args.count 137436856320 255 c.requires (omega arith) in
-    let e = as_held c.args.gain c.args.count c.ranges.gain (omega arith) in
+    let e = as_held c.args.gain c.from.result c.args.count c.ranges.gain (omega arith) c.from.ensures in
     record { value = omega (arith, ints, p, e); low = omega (arith, ints, p, e); high = omega (arith, ints, p, e) }

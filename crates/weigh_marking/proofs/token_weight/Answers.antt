@@ -1,22 +1,24 @@
 -- `token_weight` is the weight of the place and that of the counts.
-use Prim.Native.Nat.{◌-◌}
-use mathlib.Core.Path.{◌≡◌, ap, ◌∙◌}
+use Prim.Native.Nat.{ℕ, ◌-◌}
+use mathlib.Core.Path.{◌≡◌, ap, ap₂, ◌∙◌}
 use native.Mathlib.Omega.{arith}
 use borrow.Author.Rules.{rules}
-use lib.IntN.{ℤ, ◌+ℤ◌}
+use lib.IntN.{◌+ℤ◌}
 use mir.Syntax.{w16, w64}
 use mir.Val.{SFits, to_z, of_z}
 use Rattle.std.proofs.lemmas.Int.{ints}
-use Rattle.weigh.specs.Sums.{row_of, number_of, token_weight}
 use Rattle.std.proofs.lemmas.List.{map-id}
+use Rattle.weigh.specs.Sums.{row_of, number_of, token_weight}
 use Rattle.weigh_marking.proofs.token_weight.Goals as goal
 
 pub returns-clause-value : goal.returns-clause-value
 unfolding token_weight
 returns-clause-value c =
-    let a = c.args in
-    let v = number_of (row_of a.weights.now 0) (a.t.now.place - 1) in
-    let fits : SFits w16 v = search rules in
+    let outer = row_of c.args.weights.now 0 in
+    let fits : SFits w16 (number_of outer (c.from-place.result - 1)) = search rules in
+    let w : c.from-2.result ≡ number_of outer (c.from-place.result - 1) = omega (arith, ints, c.from-2.ensures) in
     let d = c.dot-counts.ensures in
-    let s : to_z w64 (of_z w64 (to_z w64 (of_z w64 (to_z w16 (of_z w16 v))) +ℤ to_z w64 (of_z w64 c.dot-counts.result))) ≡ v +ℤ c.dot-counts.result = omega (arith, ints, d.low, d.high) in
-    s ∙ ap (λ (z : ℤ). v +ℤ z) (d.value ∙ rw map-id)
+    let s : to_z w64 (of_z w64 (to_z w64 (of_z w64 c.from-2.result) +ℤ to_z w64 (of_z w64 c.dot-counts.result))) ≡ c.from-2.result +ℤ c.dot-counts.result =
+    omega (arith, ints, c.from-2.ensures, d.low, d.high) in
+    s
+    ∙ ap₂ ◌+ℤ◌ (w ∙ ap (λ (place : ℕ). number_of outer (place - 1)) c.from-place.ensures) (d.value ∙ rw (map-id, c.from.ensures, c.from-place.ensures))

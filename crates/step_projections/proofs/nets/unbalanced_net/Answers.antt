@@ -3,7 +3,7 @@ use native.Mathlib.Omega.{arith}
 use native.Mathlib.Nat.{sub-zero}
 use Rattle.step.specs.Verdict.{told}
 use Rattle.step.specs.VerdictParts.{even_in}
-use Rattle.step.proofs.FirstFailing.{failing_on, failing_here, failing_end}
+use Rattle.eos.proofs.FailingLaws.{failing_on, failing_here, failing_end}
 use Rattle.step_projections.proofs.nets.unbalanced_net.Goals as goal
 
 pub loop-net-init : goal.loop-net-init
