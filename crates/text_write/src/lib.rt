@@ -21,7 +21,7 @@ pub fn put_text(out: &mut [u8], at: usize, text: &[u8]) -> usize
 pub fn width(n: u64) -> usize
     ensures { result ≡ length (decimal n) }
 {
-    // No From goes from u32 to usize.
+    // No From goes from u32 to usize; the logarithm fits, so there is no refusal to hand on.
     n.max(1).ilog10() as usize + 1
 }
 

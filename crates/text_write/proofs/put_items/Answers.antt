@@ -1,7 +1,7 @@
-use Prim.Native.Nat.{ℕ, ◌+◌}
+use Prim.Native.Nat.{◌+◌}
 use mathlib.Core.Path.{◌≡◌, ap, ◌∙◌}
 use native.Mathlib.Omega.{arith}
-use lib.ListN.{length, get_or, drop, length-set}
+use lib.ListN.{length, drop, length-set}
 use Rattle.text.specs.Printed.{decimal, items_text}
 use Rattle.text.proofs.PrintedLaws.{length-items, lay-item, items_over}
 use Rattle.text_write.proofs.put_items.Goals as goal
@@ -20,7 +20,7 @@ put_digits-requires c =
     let a = c.args in
     let l = c.loop-i in
     let w = rw c.from-n.ensures at c.width-k.ensures in
-    (c.width-k.ensures, omega (arith, length-items a.values.now l.i (omega arith), c.width-k.ensures, w))
+    (c.width-k.ensures, omega (arith, length-items a.values.now l.i (omega arith), w))
 
 pub overflow_add-out : goal.overflow_add-out
 overflow_add-out c = omega (arith, further c)
