@@ -38,6 +38,7 @@ pub struct Marking {
 }
 
 impl Marking {
+    // A constant's value calls no function, and so no From.
     pub const ROOM: usize = Model::ROOM as usize;
 
     // No net-token.
@@ -80,7 +81,7 @@ impl PlaceSizes {
     pub fn size_at(&self, place: u16) -> usize
         ensures { result ≡ (as_sizes self.now).size place }
     {
-        let at = place.saturating_sub(1) as usize;
-        self.sizes.get(at).map_or(0, |size| *size as usize)
+        let at = usize::from(place.saturating_sub(1));
+        self.sizes.get(at).map_or(0, |size| usize::from(*size))
     }
 }

@@ -48,7 +48,7 @@ pub fn block(
     requires { (most ≤ line_limit) × Roomy (as_sizes z.now) }
     ensures { Reads (kept hold_block (read_block key.now (limits most count_limit) (as_sizes z.now) r.old.src.now r.old.at)) r.old r.new (lent marking.new result) }
 {
-    let n = r.number(key, 0, most)? as usize;
+    let n = usize::from(r.number(key, 0, most)?);
     *marking = Marking::empty();
     net_tokens(r, z, n, marking)
 }

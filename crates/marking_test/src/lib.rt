@@ -70,6 +70,7 @@ fn by_type(objects: &[ObjectNet; 8]) -> [u8; 9]
 {
     let mut sizes = [0u8; 9];
     for n in 0..8 {
+        // At most 32 inner places: there is no refusal to hand on.
         sizes[n + 1] = objects[n].places as u8;
     }
     sizes
@@ -83,7 +84,7 @@ fn sizes(m: &Model) -> [u8; 32]
     let of_type = by_type(&m.objects);
     let mut sizes = [0u8; 32];
     for p in 0..32 {
-        sizes[p] = of_type[m.types[p] as usize];
+        sizes[p] = of_type[usize::from(m.types[p])];
     }
     sizes
 }
@@ -94,6 +95,7 @@ pub fn place_sizes(m: &Model) -> PlaceSizes
     ensures { result ≡ place_sizes m.now }
 {
     PlaceSizes {
+        // At most 32 places: there is no refusal to hand on.
         places: m.places as u16,
         sizes: sizes(m),
     }

@@ -17,7 +17,7 @@ use text_write::{put_list, put_number, put_number_line, put_text, width};
 fn digits(value: u16) -> usize
     ensures { (result ≡ length (decimal value)) × (result ≤ 5) }
 {
-    width(value as u64)
+    width(u64::from(value))
 }
 
 // How many bytes a list has, to the end of its line.
@@ -63,7 +63,7 @@ fn put_token(out: &mut [u8], at: usize, t: &NetToken, z: &PlaceSizes) -> usize
 {
     let counts = &t.counts[..z.size_at(t.place)];
     let place = put_text(out, at, b"token=");
-    let colon = put_number(out, place, t.place as u64);
+    let colon = put_number(out, place, u64::from(t.place));
     let list = put_text(out, colon, b":");
     put_list(out, list, counts)
 }
@@ -92,11 +92,13 @@ pub fn write(
     ensures { record { answer = result; bytes = out.new } ≡ lay (block_text key.now (tokens_of (as_sizes z.now) k.now)) out.old at }
 {
     let tokens = k.held();
-    let end = at + key.len() + digits(k.len as u16) + 1 + tokens_length(tokens, z);
+    // At most 256: there is no refusal to hand on.
+    let count = k.len as u16;
+    let end = at + key.len() + digits(count) + 1 + tokens_length(tokens, z);
     if out.len() < end {
         return Err(TooSmall { needed: end });
     }
-    let next = put_number_line(out, at, key, k.len as u64);
+    let next = put_number_line(out, at, key, u64::from(count));
     put_tokens(out, next, tokens, z);
     Ok(end)
 }

@@ -41,7 +41,7 @@ impl Act {
     pub fn of(kind: u8, index: u8) -> Act
         ensures { as_act result ≡ act_of kind index }
     {
-        let number = (index as usize).saturating_sub(1);
+        let number = usize::from(index).saturating_sub(1);
         if kind < Event::IDLE {
             return Act::Move { index: number };
         }
@@ -72,6 +72,7 @@ impl Event {
         requires { index_of (as_act act) ≤ 255 }
         ensures { result ≡ record { kind = kind_of (as_act act); index = index_of (as_act act); sync = sync } }
     {
+        // The index fits, as is asked: there is no refusal to hand on.
         match act {
             Act::Move { index } => Event {
                 kind: Event::MOVE,

@@ -42,7 +42,7 @@ fn arcs_at(table: &[u8; 1024], i: usize) -> [u64; 32]
 {
     let mut row = [0u64; 32];
     for k in 0..32 {
-        row[k] = table[i * 32 + k] as u64;
+        row[k] = u64::from(table[i * 32 + k]);
     }
     row
 }

@@ -26,7 +26,8 @@ fn idle(r: &mut Reader, m: &Model) -> Result<Act, Fault>
     ensures { Reads (kept hold_act (read_idle (frame_in m.now) r.old.src.now r.old.at)) r.old r.new result }
 {
     let line = r.at;
-    let place = r.number(b"idle=", 1, m.places as u16)? as usize - 1;
+    // At most 32 places: there is no refusal to hand on.
+    let place = usize::from(r.number(b"idle=", 1, m.places as u16)?) - 1;
     if m.types[place] == 0 {
         return Err(fault_at(Cause::Idling, line));
     }
@@ -38,7 +39,8 @@ fn moving(r: &mut Reader, m: &Model) -> Result<Act, Fault>
     requires { Fitting m.now }
     ensures { Reads (kept hold_act (read_move (frame_in m.now) r.old.src.now r.old.at)) r.old r.new result }
 {
-    let index = r.number(b"event=", 1, m.moves as u16)? as usize - 1;
+    // At most 32 moves, as above.
+    let index = usize::from(r.number(b"event=", 1, m.moves as u16)?) - 1;
     Ok(Act::Move { index })
 }
 
@@ -76,7 +78,7 @@ fn syncs(r: &mut Reader, m: &Model, own: u8) -> Result<[u8; Event::SYNC], Fault>
     let mut table = [0; Event::SYNC];
     for n in 0..m.nets {
         let counts = sync(r, m, own, n)?;
-        put_row(&mut table, n * 32, &counts);
+        put_row(&mut table, n, &counts);
     }
     Ok(table)
 }

@@ -20,7 +20,7 @@ use text_scan::fault_at;
 
 // The two lines of a transition between `size` places, which is monotonous over `nets` nets: a fault of its `post` line where it is not.
 // With no nets that is not asked.
-fn sides(r: &mut Reader, size: usize, nets: u8, types: &[u8; 32]) -> Result<Sides, Fault>
+fn sides(r: &mut Reader, size: usize, nets: usize, types: &[u8; 32]) -> Result<Sides, Fault>
     requires { size ≤ 32 }
     ensures { Reads (kept hold_sides (read_sides size (λ t. monotonous nets size (nth types.now) (nth t.pre) (nth t.post)) r.old.src.now r.old.at)) r.old r.new result }
 {
@@ -37,7 +37,7 @@ fn sides(r: &mut Reader, size: usize, nets: u8, types: &[u8; 32]) -> Result<Side
 pub fn tables(
     r: &mut Reader,
     size: usize,
-    nets: u8,
+    nets: usize,
     types: &[u8; 32],
     n: usize,
 ) -> Result<Tables, Fault>
@@ -50,8 +50,8 @@ pub fn tables(
     };
     for i in 0..n {
         let row = sides(r, size, nets, types)?;
-        put_row(&mut table.pre, i * 32, &row.pre);
-        put_row(&mut table.post, i * 32, &row.post);
+        put_row(&mut table.pre, i, &row.pre);
+        put_row(&mut table.post, i, &row.post);
     }
     Ok(table)
 }
@@ -60,8 +60,8 @@ pub fn tables(
 fn net(r: &mut Reader) -> Result<ObjectNet, Fault>
     ensures { Reads (kept hold_net (read_net r.old.src.now r.old.at)) r.old r.new result }
 {
-    let places = r.number(b"inner=", 1, Model::INNER)? as usize;
-    let transitions = r.number(b"steps=", 0, Model::STEPS)? as usize;
+    let places = usize::from(r.number(b"inner=", 1, Model::INNER)?);
+    let transitions = usize::from(r.number(b"steps=", 0, Model::STEPS)?);
     let Tables { pre, post } = tables(r, places, 0, &[0; 32], transitions)?;
     Ok(ObjectNet {
         places,

@@ -23,10 +23,10 @@ fn outline(r: &mut Reader) -> Result<Outline, Fault>
 {
     r.head(b"eos=1\n")?;
     let nets = r.number(b"nets=", 0, Model::NETS)?;
-    let places = r.number(b"places=", 1, Model::PLACES)? as usize;
+    let places = usize::from(r.number(b"places=", 1, Model::PLACES)?);
     let types = r.list(b"type=", places, nets)?;
     Ok(Outline {
-        nets: nets as usize,
+        nets: usize::from(nets),
         places,
         types,
     })
@@ -37,8 +37,8 @@ fn system(r: &mut Reader, m: &mut Model) -> Result<(), Fault>
     requires { (m.old.nets ≤ 8) × (m.old.places ≤ 32) × (m.old.objects ≡ replicate 8 no_net) }
     ensures { Reads (kept (with_system m.old) (read_system m.old.nets m.old.places (λ t. monotonous m.old.nets m.old.places (nth m.old.types) (nth t.pre) (nth t.post)) r.old.src.now r.old.at)) r.old r.new (lent m.new result) }
 {
-    let moves = r.number(b"moves=", 0, Model::MOVES)? as usize;
-    let Tables { pre, post } = tables(r, m.places, m.nets as u8, &m.types, moves)?;
+    let moves = usize::from(r.number(b"moves=", 0, Model::MOVES)?);
+    let Tables { pre, post } = tables(r, m.places, m.nets, &m.types, moves)?;
     m.moves = moves;
     m.pre = pre;
     m.post = post;
@@ -57,7 +57,7 @@ pub fn read_plant(r: &mut Reader, m: &mut Model) -> Result<(), Fault>
     m.places = outline.places;
     m.types = outline.types;
     system(r, m)?;
-    let listed = r.number(b"events=", 0, Model::EVENTS)? as usize;
+    let listed = usize::from(r.number(b"events=", 0, Model::EVENTS)?);
     events(r, listed, m)?;
     Ok(())
 }

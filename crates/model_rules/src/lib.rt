@@ -6,15 +6,15 @@ ghost use Rattle.model.specs.Rules.{nth, touches, monotonous, takes_part};
 ghost use Rattle.text.specs.Lines.{every};
 
 // Whether side has an arc at one of the first n places of type d.
-fn touches(n: usize, types: &[u8; 32], d: u8, side: &[u8; 32]) -> bool
+fn touches(n: usize, types: &[u8; 32], d: usize, side: &[u8; 32]) -> bool
     requires { n ≤ 32 }
     ensures { result ≡ touches n (nth types.now) d (nth side.now) }
 {
-    (0..n).any(|p| types[p] == d && 0 < side[p])
+    (0..n).any(|p| usize::from(types[p]) == d && 0 < side[p])
 }
 
 // Whether post touches net d if pre does.
-fn keeps(n: usize, types: &[u8; 32], d: u8, pre: &[u8; 32], post: &[u8; 32]) -> bool
+fn keeps(n: usize, types: &[u8; 32], d: usize, pre: &[u8; 32], post: &[u8; 32]) -> bool
     requires { n ≤ 32 }
     ensures { result ≡ (not (touches n (nth types.now) d (nth pre.now)) || touches n (nth types.now) d (nth post.now)) }
 {
@@ -22,7 +22,7 @@ fn keeps(n: usize, types: &[u8; 32], d: u8, pre: &[u8; 32], post: &[u8; 32]) -> 
 }
 
 // Whether each net that pre touches is touched by post.
-pub fn monotonous(nets: u8, n: usize, types: &[u8; 32], pre: &[u8; 32], post: &[u8; 32]) -> bool
+pub fn monotonous(nets: usize, n: usize, types: &[u8; 32], pre: &[u8; 32], post: &[u8; 32]) -> bool
     requires { n ≤ 32 }
     ensures { result ≡ monotonous nets n (nth types.now) (nth pre.now) (nth post.now) }
 {
@@ -41,5 +41,5 @@ fn some_count(counts: &[u8; 32]) -> bool
 pub fn takes_part(own: u8, n: usize, counts: &[u8; 32]) -> bool
     ensures { result ≡ takes_part own n counts.now }
 {
-    own == 0 || some_count(counts) == (own as usize - 1 == n)
+    own == 0 || some_count(counts) == (usize::from(own) - 1 == n)
 }

@@ -59,7 +59,7 @@ fn type_held(nets: usize, places: usize, p: usize, t: u8) -> bool
     ensures { result ≡ cond (ltb p places) (leb t nets) (eqb t 0) }
 {
     if p < places {
-        t as usize <= nets
+        usize::from(t) <= nets
     } else {
         t == 0
     }
@@ -82,7 +82,7 @@ fn typing_held(m: &Model) -> bool
     (0..m.moves).all(|i| {
         let pre = table_row(&m.pre, i);
         let post = table_row(&m.post, i);
-        monotonous(m.nets as u8, m.places, &m.types, &pre, &post)
+        monotonous(m.nets, m.places, &m.types, &pre, &post)
     })
 }
 
@@ -105,8 +105,8 @@ fn sizes_held(nets: usize, k: usize, places: usize, transitions: usize) -> bool
     ensures { result ≡ sizes_are nets k places transitions }
 {
     if k < nets {
-        in_range(1, Model::INNER as usize, places)
-            && in_range(0, Model::STEPS as usize, transitions)
+        in_range(1, usize::from(Model::INNER), places)
+            && in_range(0, usize::from(Model::STEPS), transitions)
     } else {
         places == 0 && transitions == 0
     }
@@ -182,10 +182,10 @@ fn events_held(m: &Model, steps: &[usize; 8]) -> bool
 fn counts_held(m: &Model) -> bool
     ensures { result ≡ counts_are m.now.nets m.now.places m.now.moves m.now.listed }
 {
-    in_range(0, Model::NETS as usize, m.nets)
-        && (in_range(1, Model::PLACES as usize, m.places)
-            && (in_range(0, Model::MOVES as usize, m.moves)
-                && in_range(0, Model::EVENTS as usize, m.listed)))
+    in_range(0, usize::from(Model::NETS), m.nets)
+        && (in_range(1, usize::from(Model::PLACES), m.places)
+            && (in_range(0, usize::from(Model::MOVES), m.moves)
+                && in_range(0, usize::from(Model::EVENTS), m.listed)))
 }
 
 // Whether m is held as a model is.

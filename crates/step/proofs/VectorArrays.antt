@@ -1,11 +1,12 @@
 -- Laws of sums of vectors, and of sums kept in an array.
 use Prim.Native.Nat.{ℕ, zero, suc, ◌+◌, ◌-◌, ◌*◌, ◌≤◌, ◌<◌}
-use mathlib.Core.Path.{◌≡◌, refl, sym, ap, ap₂, ◌∙◌}
-use mathlib.Core.List.{List, [], ◌∷◌, ◌++◌, append_assoc}
+use mathlib.Core.Path.{◌≡◌, refl, sym, ap, ap₂, subst, ◌∙◌}
+use mathlib.Core.List.{List, [], ◌∷◌, ◌++◌}
 use native.Mathlib.Omega.{arith}
 use native.Mathlib.Numerals.{add-one}
-use lib.ListN.{length, take, set, length-append, get_or-append, get_or-eq_default}
+use lib.ListN.{length, take, drop, set, length-append, get_or-append, get_or-eq_default}
 use lib.Seq.{ext_get_or, get_or-append-add, take-suc, length-take-le}
+use borrow.Rule.Slice.PartMut.{mid_of, put_mid}
 use Rattle.eos.specs.Vector.{◌⊕◌, ◌⊖◌, zeros, unit}
 use Rattle.eos.proofs.VectorLaws.{get_d-⊕}
 use Rattle.eos.proofs.VectorSums.{length-zeros, long-left, nth_zero}
@@ -64,25 +65,36 @@ put_next_lem [] v x h = absurd (omega arith)
 put_next_lem (a ∷ s) [] x h = ap (λ (k : List ℕ). (a + x) ∷ k) (sym (sum_nil s))
 put_next_lem (a ∷ s) (b ∷ v) x h = ap (λ (k : List ℕ). (a + b) ∷ k) (put_next_lem s v x (omega arith))
 
--- 32 numbers added from `at` on, number by number
-module _ (s l : List ℕ) (at k : ℕ) (room : at + 32 ≤ length s) (long : length l ≡ 32) (h : k < 32) where
-  part_long : length (zeros at ++ take k l) ≡ at + k
-  part_long = omega (arith, length-append (zeros at) (take k l), length-zeros at, length-take-le k l (omega arith))
+put_at : (s v : List ℕ) (x k : ℕ) → length v ≡ k → k < length s → set (s ⊕ v) k (nth (s ⊕ v) k + x) ≡ s ⊕ (v ++ (x ∷ []))
+put_at s v x k e h =
+    subst (λ (j : ℕ). set (s ⊕ v) j (nth (s ⊕ v) j + x) ≡ s ⊕ (v ++ (x ∷ []))) e (put_next_lem s v x (omega (arith, e)))
+
+-- a row added to another of 32, number by number
+module _ (s l : List ℕ) (k : ℕ) (room : length s ≡ 32) (long : length l ≡ 32) (h : k < 32) where
+  part_long : length (take k l) ≡ k
+  part_long = length-take-le k l (omega arith)
 
   -- the next number still is what it was
-  pub add_at : nth (s ⊕ (zeros at ++ take k l)) (at + k) ≡ nth s (at + k)
-  add_at =
-      let v : List ℕ = zeros at ++ take k l in
-      omega (arith, get_d-⊕ s v (at + k), get_or-eq_default v 0 {n = at + k} (omega (arith, part_long)))
+  pub add_at : nth (s ⊕ take k l) k ≡ nth s k
+  add_at = omega (arith, get_d-⊕ s (take k l) k, get_or-eq_default (take k l) 0 {n = k} (omega (arith, part_long)))
 
-  pub add_turn : set (s ⊕ (zeros at ++ take k l)) (at + k) (nth (s ⊕ (zeros at ++ take k l)) (at + k) + nth l k) ≡ s ⊕ (zeros at ++ take (k + 1) l)
+  pub add_turn : set (s ⊕ take k l) k (nth (s ⊕ take k l) k + nth l k) ≡ s ⊕ take (k + 1) l
   add_turn =
-      let v : List ℕ = zeros at ++ take k l in
-      let x : ℕ = nth l k in
-      let e : take (suc k) l ≡ take k l ++ (x ∷ []) = take-suc l k 0 (omega arith) in
-      let n : length v ≡ at + k = part_long in
-      rw (add-one k, e, ← append_assoc (zeros at) (take k l) (x ∷ []), ← n)
-      (put_next_lem s v x (omega arith))
+      let e : take (suc k) l ≡ take k l ++ (nth l k ∷ []) = take-suc l k 0 (omega arith) in
+      rw (add-one k, e) (put_at s (take k l) (nth l k) k part_long (omega arith))
+
+-- a part that is lent, and numbers added to it
+sum_first : (k : ℕ) (s l : List ℕ) → length l ≡ k → k ≤ length s → (take k s ⊕ l) ++ drop k s ≡ s ⊕ l
+sum_first zero s [] e h = sym (sum_nil s)
+sum_first zero s (b ∷ l) e h = absurd (omega arith)
+sum_first (suc k) s [] e h = absurd (omega arith)
+sum_first (suc k) [] (b ∷ l) e h = absurd (omega arith)
+sum_first (suc k) (a ∷ s) (b ∷ l) e h = ap (λ (t : List ℕ). (a + b) ∷ t) (sum_first k s l (omega arith) (omega arith))
+
+pub sum_mid : (at k : ℕ) (s l : List ℕ) → length l ≡ k → at + k ≤ length s → put_mid at k s (mid_of at k s ⊕ l) ≡ s ⊕ (zeros at ++ l)
+sum_mid zero k s l e h = sum_first k s l e (omega arith)
+sum_mid (suc at) k [] l e h = absurd (omega arith)
+sum_mid (suc at) k (a ∷ s) l e h = let z : a ≡ a + 0 = omega arith in ap₂ ◌∷◌ z (sum_mid at k s l e (omega arith))
 
 -- ---- a row added to a table, at row m
 

@@ -1,8 +1,8 @@
 // The projections of net-tokens: counted by place, and their insides added up net by net.
 #![tactic(auto)]
 
-ghost use Rattle.std.specs.Prelude.{◌≡◌, ◌++◌, ℕ, ◌+◌, ◌^◌, ◌≤◌, ◌<◌, length, get_or, replicate};
-ghost use Rattle.eos.specs.Vector.{◌⊕◌, zeros};
+ghost use Rattle.std.specs.Prelude.{◌≡◌, ℕ, ◌+◌, ◌^◌, ◌≤◌, ◌<◌, length, get_or, replicate};
+ghost use Rattle.eos.specs.Vector.{◌⊕◌};
 ghost use Rattle.model.specs.Limits.{inner_room, count_limit};
 ghost use Rattle.step.specs.Verdict.{outer_tokens};
 ghost use Rattle.step.specs.VerdictParts.{Placed, Added, Inner};
@@ -20,20 +20,20 @@ pub fn outer_of(tokens: &[NetToken]) -> [u64; 32]
 {
     let mut sums = [0u64; 32];
     for t in tokens {
-        let p = t.place as usize - 1;
+        let p = usize::from(t.place) - 1;
         sums[p] += 1;
     }
     sums
 }
 
-// The counts of a net-token added to the sums from `at` on.
-fn add_counts(sums: &mut [u64; Model::INSIDE], at: usize, counts: &[u16])
-    requires { (at + 32 ≤ inner_room) × (length counts.now ≡ 32) × ((k : ℕ) → get_or sums.old k 0 < 2 ^ 32) }
-    ensures added { sums.new ≡ sums.old ⊕ (zeros at ++ counts.now) }
+// The counts of a net-token added to a row of sums.
+fn add_counts(row: &mut [u64], counts: &[u16; 32])
+    requires { (length row.old ≡ 32) × ((k : ℕ) → get_or row.old k 0 < 2 ^ 32) }
+    ensures added { row.new ≡ row.old ⊕ counts.now }
     ensures small { (k : ℕ) → get_or counts.now k 0 ≤ count_limit }
 {
     for k in 0..32 {
-        sums[at + k] += counts[k] as u64;
+        row[k] += u64::from(counts[k]);
     }
 }
 
@@ -42,11 +42,12 @@ fn add_inside(sums: &mut [u64; Model::INSIDE], types: &[u8; 32], t: &NetToken)
     requires { (1 ≤ t.now.place) × (t.now.place ≤ 32) × ((p : ℕ) → get_or types.now p 0 ≤ 8) × ((k : ℕ) → get_or sums.old k 0 < 2 ^ 32) }
     ensures { Added types.now t.now sums.old sums.new }
 {
-    let d = types[t.place as usize - 1] as usize;
+    let d = usize::from(types[usize::from(t.place) - 1]);
     if d == 0 {
         return;
     }
-    add_counts(sums, (d - 1) * 32, &t.counts);
+    let at = (d - 1) * 32;
+    add_counts(&mut sums[at..at + 32], &t.counts);
 }
 
 // The insides of net-tokens added up, net by net, into sums that are all 0: place i of net n at n * 32 + i.

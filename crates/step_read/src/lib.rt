@@ -43,7 +43,7 @@ fn tokens_after(
 ) -> Result<usize, Fault>
     ensures { Reads (kept hold_rows (read_block key.now (limits line_limit count_limit) (as_sizes z.now) r.old.src.now r.old.at)) r.old r.new (first_of room.new result) }
 {
-    let n = r.number(key, 0, Model::LINES)? as usize;
+    let n = usize::from(r.number(key, 0, Model::LINES)?);
     net_tokens(r, z, n, room)?;
     Ok(n)
 }
@@ -58,7 +58,7 @@ pub fn read_taking(
 ) -> Result<TakeLines, Fault>
     ensures { Reads (kept hold_taking (read_taking (limits line_limit count_limit) (as_sizes z.now) events r.old.src.now r.old.at)) r.old r.new (taking_in taken.new result) }
 {
-    let event = r.number(b"fire=", 1, events)? as usize - 1;
+    let event = usize::from(r.number(b"fire=", 1, events)?) - 1;
     let take = tokens_after(r, b"take=", z, taken)?;
     Ok(TakeLines { event, take })
 }

@@ -24,7 +24,7 @@ fn plus_times(sum: &mut [u64; 32], count: u8, table: &[u8; 1024], t: usize)
         return;
     }
     for k in 0..32 {
-        sum[k] += count as u64 * table[t * 32 + k] as u64;
+        sum[k] += u64::from(count) * u64::from(table[t * 32 + k]);
     }
 }
 
@@ -59,8 +59,8 @@ fn inner_sides(
     for n in 0..m.nets {
         let net = &m.objects[n];
         let transitions = net.transitions;
-        put_row(pre, n * 32, &summed(sync, n * 32, &net.pre, transitions));
-        put_row(post, n * 32, &summed(sync, n * 32, &net.post, transitions));
+        put_row(pre, n, &summed(sync, n * 32, &net.pre, transitions));
+        put_row(post, n, &summed(sync, n * 32, &net.post, transitions));
     }
 }
 

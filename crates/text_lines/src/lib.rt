@@ -18,14 +18,15 @@ pub fn number_line(s: &[u8], at: usize, key: &[u8], lo: u16, hi: u16) -> Result<
     let Some(Parsed { value, end }) = item(s, at + key.len(), b'\n') else {
         return Err(fault_at(Cause::Syntax, at));
     };
-    if value < lo as u32 {
+    let Ok(value) = u16::try_from(value) else {
+        return Err(fault_at(Cause::Range, at));
+    };
+    if value < lo {
         return Err(fault_at(Cause::Range, at));
     }
-    if (hi as u32) < value {
+    if hi < value {
         return Err(fault_at(Cause::Range, at));
     }
-    // No From goes this way; the number is known to fit.
-    let value = value as u16;
     Ok(Parsed { value, end })
 }
 

@@ -28,7 +28,7 @@ fn values<V: Value>(
         let Some(Parsed { value, end }) = value_item(s, at, stop_of(n - i - 1), V::SIGNED) else {
             return Err(fault_at(Cause::Syntax, top));
         };
-        inside = inside & (value.unsigned_abs() <= hi as u32);
+        inside = inside & (value.unsigned_abs() <= u32::from(hi));
         if i < 32 {
             row[i] = V::held(value);
         }

@@ -71,7 +71,7 @@ fn push(v: u32, d: u8) -> u32
     requires { (v ≤ 65536) × ((48 ≤ d) × (d ≤ 57)) }
     ensures { result ≡ min (v * 10 + (d - 48)) 65536 }
 {
-    (v * 10 + (d - b'0') as u32).min(65536)
+    (v * 10 + u32::from(d - b'0')).min(65536)
 }
 
 // The number v, read up to at, goes on with the digits from there.
@@ -128,6 +128,7 @@ fn above(value: u32) -> i32
     requires { value ≤ 65536 }
     ensures { result ≡ pos value }
 {
+    // At most 65536: there is no refusal to hand on.
     value as i32
 }
 

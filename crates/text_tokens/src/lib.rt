@@ -78,13 +78,15 @@ pub fn token_line(
     let Some(Parsed { value, end }) = item(s, at + key.len(), b':') else {
         return Err(fault_at(Cause::Syntax, at));
     };
-    if value == 0 {
+    let Ok(place) = u16::try_from(value) else {
+        return Err(out_of_range(s, at, end));
+    };
+    if place == 0 {
         return Err(out_of_range(s, at, end));
     }
-    if (places as u32) < value {
+    if places < place {
         return Err(out_of_range(s, at, end));
     }
-    let n = byte_at(sizes, (value - 1) as usize);
-    // No From goes this way; the number is known to fit.
-    counted(s, at, end, n as usize, value as u16, hi)
+    let n = byte_at(sizes, usize::from(place - 1));
+    counted(s, at, end, usize::from(n), place, hi)
 }

@@ -21,6 +21,7 @@ pub fn put_text(out: &mut [u8], at: usize, text: &[u8]) -> usize
 pub fn width(n: u64) -> usize
     ensures { result ≡ length (decimal n) }
 {
+    // No From goes from u32 to usize; the logarithm fits, so there is no refusal to hand on.
     n.max(1).ilog10() as usize + 1
 }
 
@@ -31,6 +32,7 @@ fn put_digits(out: &mut [u8], at: usize, n: u64, width: usize)
 {
     let mut v = n;
     for k in (at..at + width).rev() {
+        // A digit fits: there is no refusal to hand on.
         out[k] = b'0' + (v % 10) as u8;
         v /= 10;
     }
@@ -53,7 +55,7 @@ fn put_items(out: &mut [u8], at: usize, values: &[u16]) -> usize
 {
     let mut next = at;
     for (i, value) in values.iter().enumerate() {
-        let n = *value as u64;
+        let n = u64::from(*value);
         let k = width(n);
         put_digits(out, next, n, k);
         out[next + k] = stop_of(values.len() - i - 1);

@@ -6,17 +6,17 @@ use Rattle.marking.specs.Answers.{hold_block}
 use Rattle.marking.proofs.BlockLaws.{block_refused, block_counted, counted_few}
 use Rattle.marking_read.proofs.block.Goals as goal
 
-pub returns-in_err-n : goal.returns-in_err-n
-returns-in_err-n c =
+pub returns-in_err-number : goal.returns-in_err-number
+returns-in_err-number c =
     let a = c.args in
     let p = err_from_is_err_and c.from_residual.result c.from_residual.ensures.1 in
-    rw (p.1, p.2) (block_refused hold_block a.key.now a.most (as_sizes a.z.now) a.r.now _ c.in_err-n.ensures)
+    rw (p.1, p.2) (block_refused hold_block a.key.now a.most (as_sizes a.z.now) a.r.now _ c.in_err-number.ensures)
 
 pub net_tokens-requires : goal.net_tokens-requires
 net_tokens-requires c =
     let a = c.args in
     let p = c.requires in
-    (omega (arith, p.0, counted_few hold_block a.key.now a.most (as_sizes a.z.now) a.r.now _ c.in_ok-n.ensures), p.1, c.empty.ensures)
+    (omega (arith, c.from-n.ensures, p.0, counted_few hold_block a.key.now a.most (as_sizes a.z.now) a.r.now _ c.in_ok-number.ensures), p.1, c.empty.ensures)
 
 pub returns : goal.returns
-returns c = let a = c.args in block_counted hold_block a.key.now a.most (as_sizes a.z.now) a.r.now _ c.in_ok-n.ensures _ c.net_tokens.ensures
+returns c = let a = c.args in block_counted hold_block a.key.now a.most (as_sizes a.z.now) a.r.now _ c.in_ok-number.ensures _ (rw c.from-n.ensures at c.net_tokens.ensures)

@@ -18,9 +18,9 @@ by_type-of_type-requires c =
 pub loop-p-init : goal.loop-p-init
 loop-p-init c = (omega arith, refl, λ i h. absurd (omega arith))
 
-pub bounds-of_type-m : goal.bounds-of_type-m
-bounds-of_type-m c =
-    omega (arith, type-few c.args.m.now c.requires c.loop-p.p c.loop-p-test.true)
+pub bounds-of_type-from : goal.bounds-of_type-from
+bounds-of_type-from c =
+    omega (arith, c.from.ensures, type-few c.args.m.now c.requires c.loop-p.p c.loop-p-test.true)
 
 pub loop-p-preserved : goal.loop-p-preserved
 loop-p-preserved c =
@@ -28,7 +28,7 @@ loop-p-preserved c =
     let t = type-few m c.requires c.loop-p.p c.loop-p-test.true in
     let d = nth m.types c.loop-p.p in
     let e = ap (λ (x : List ℕ). nth x d) c.by_type-of_type.ensures ∙ listed_at (size_of_type m.objects) 9 d 0 (omega arith) in
-    (omega arith, (simp length-set c.loop-p.invariant.1), filled_turn (size_at m) c.loop-p.sizes c.loop-p.p _ (omega arith) c.loop-p.invariant.2 e)
+    (omega arith, (simp length-set c.loop-p.invariant.1), rw c.from.ensures (filled_turn (size_at m) c.loop-p.sizes c.loop-p.p _ (omega arith) c.loop-p.invariant.2 e))
 
 pub returns : goal.returns
 unfolding sizes_in

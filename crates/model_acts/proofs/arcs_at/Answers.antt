@@ -17,7 +17,7 @@ loop-k-preserved c =
     let k = c.loop-k.k in (
       omega arith,
       length-set c.loop-k.row k _ ∙ c.loop-k.invariant.1,
-      filled_turn (nth (row_in 32 a.table.now a.i)) c.loop-k.row k _ (omega arith) c.loop-k.invariant.2 (sym (row_at a.table.now a.i k (omega arith))),
+      rw c.from.ensures (filled_turn (nth (row_in 32 a.table.now a.i)) c.loop-k.row k _ (omega arith) c.loop-k.invariant.2 (sym (row_at a.table.now a.i k (omega arith)))),
     )
 
 pub returns : goal.returns

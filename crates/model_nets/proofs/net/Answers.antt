@@ -3,24 +3,27 @@ use Rattle.std.proofs.lemmas.Result.{err_from_is_err_and}
 use Rattle.model_text.proofs.NetLaws.{inner_refused, inner_few, steps_refused, steps_few, rows_refused, net_read}
 use Rattle.model_nets.proofs.net.Goals as goal
 
-pub returns-in_err-places : goal.returns-in_err-places
-returns-in_err-places c =
+pub returns-in_err-number : goal.returns-in_err-number
+returns-in_err-number c =
     let p = err_from_is_err_and c.from_residual.result c.from_residual.ensures.1 in
-    rw (p.1, p.2) (inner_refused c.args.r.now _ c.in_err-places.ensures)
+    rw (p.1, p.2) (inner_refused c.args.r.now _ c.in_err-number.ensures)
 
-pub returns-in_err-transitions : goal.returns-in_err-transitions
-returns-in_err-transitions c =
-    let p = err_from_is_err_and c.from_residual-in_err-transitions.result c.from_residual-in_err-transitions.ensures.1 in
-    rw (p.1, p.2) (steps_refused c.args.r.now _ c.in_ok-places.ensures _ c.in_err-transitions.ensures)
+pub returns-in_err-number-2 : goal.returns-in_err-number-2
+returns-in_err-number-2 c =
+    let p = err_from_is_err_and c.from_residual-in_err-number-2.result c.from_residual-in_err-number-2.ensures.1 in
+    rw (p.1, p.2) (steps_refused c.args.r.now _ c.in_ok-number.ensures _ c.in_err-number-2.ensures)
 
 pub tables-requires : goal.tables-requires
 tables-requires c =
-    (steps_few c.args.r.now _ c.in_ok-places.ensures _ c.in_ok-transitions.ensures (λ _. 0), inner_few c.args.r.now _ c.in_ok-places.ensures)
+    rw (c.from-places.ensures, c.from-transitions.ensures)
+    (steps_few c.args.r.now _ c.in_ok-number.ensures _ c.in_ok-number-2.ensures (λ _. 0), inner_few c.args.r.now _ c.in_ok-number.ensures)
 
 pub returns-in_err-pre : goal.returns-in_err-pre
 returns-in_err-pre c =
     let p = err_from_is_err_and c.from_residual-in_err-pre.result c.from_residual-in_err-pre.ensures.1 in
-    rw (p.1, p.2) (rows_refused c.args.r.now _ c.in_ok-places.ensures _ c.in_ok-transitions.ensures _ _ c.in_err-pre.ensures)
+    rw (p.1, p.2) (rows_refused c.args.r.now _ c.in_ok-number.ensures _ c.in_ok-number-2.ensures _ _ (rw (c.from-places.ensures, c.from-transitions.ensures) at c.in_err-pre.ensures))
 
 pub returns : goal.returns
-returns c = net_read c.args.r.now _ c.in_ok-places.ensures _ c.in_ok-transitions.ensures _ _ c.in_ok-pre.ensures
+returns c =
+    rw (c.from-places.ensures, c.from-transitions.ensures)
+    (net_read c.args.r.now _ c.in_ok-number.ensures _ c.in_ok-number-2.ensures _ _ (rw (c.from-places.ensures, c.from-transitions.ensures) at c.in_ok-pre.ensures))

@@ -16,19 +16,20 @@ returns-in_err-nets c =
     let p = err_from_is_err_and c.from_residual-in_err-nets.result c.from_residual-in_err-nets.ensures.1 in
     rw (p.1, p.2) (nets_refused c.args.r.now c.in_ok-head.ensures _ c.in_err-nets.ensures)
 
-pub returns-in_err-places : goal.returns-in_err-places
-returns-in_err-places c =
-    let p = err_from_is_err_and c.from_residual-in_err-places.result c.from_residual-in_err-places.ensures.1 in
-    rw (p.1, p.2) (places_refused c.args.r.now c.in_ok-head.ensures _ c.in_ok-nets.ensures _ c.in_err-places.ensures)
+pub returns-in_err-number : goal.returns-in_err-number
+returns-in_err-number c =
+    let p = err_from_is_err_and c.from_residual-in_err-number.result c.from_residual-in_err-number.ensures.1 in
+    rw (p.1, p.2) (places_refused c.args.r.now c.in_ok-head.ensures _ c.in_ok-nets.ensures _ c.in_err-number.ensures)
 
 pub returns-in_err-types : goal.returns-in_err-types
 returns-in_err-types c =
     let few = nets_few c.args.r.now c.in_ok-head.ensures _ c.in_ok-nets.ensures in
     let p = err_from_is_err_and c.from_residual-in_err-types.result c.from_residual-in_err-types.ensures.1 in
     rw (p.1, p.2)
-    (types_refused c.args.r.now c.in_ok-head.ensures _ c.in_ok-nets.ensures _ c.in_ok-places.ensures _ (list_read 255 _ (bytes "type=") _ _ _ (omega (arith, few)) c.in_err-types.ensures))
+    (types_refused c.args.r.now c.in_ok-head.ensures _ c.in_ok-nets.ensures _ c.in_ok-number.ensures _ (list_read 255 _ (bytes "type=") _ _ _ (omega (arith, few)) (rw c.from-places.ensures at c.in_err-types.ensures)))
 
 pub returns : goal.returns
 returns c =
     let few = nets_few c.args.r.now c.in_ok-head.ensures _ c.in_ok-nets.ensures in
-    outline_read c.args.r.now c.in_ok-head.ensures _ c.in_ok-nets.ensures _ c.in_ok-places.ensures _ (list_read 255 _ (bytes "type=") _ _ _ (omega (arith, few)) c.in_ok-types.ensures)
+    rw (c.from.ensures, c.from-places.ensures)
+    (outline_read c.args.r.now c.in_ok-head.ensures _ c.in_ok-nets.ensures _ c.in_ok-number.ensures _ (list_read 255 _ (bytes "type=") _ _ _ (omega (arith, few)) (rw c.from-places.ensures at c.in_ok-types.ensures)))

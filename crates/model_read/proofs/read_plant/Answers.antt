@@ -20,17 +20,17 @@ returns-in_err-system c =
     let p = err_from_is_err_and c.from_residual-in_err-system.result c.from_residual-in_err-system.ensures.1 in
     rw (p.1, p.2) (system_refused c.args.r.now _ c.in_ok-outline.ensures _ (rw c.empty.ensures at c.in_err-system.ensures))
 
-pub returns-in_err-listed : goal.returns-in_err-listed
-returns-in_err-listed c =
-    let p = err_from_is_err_and c.from_residual-in_err-listed.result c.from_residual-in_err-listed.ensures.1 in
-    rw (p.1, p.2) (listed_refused c.args.r.now _ c.in_ok-outline.ensures _ (rw c.empty.ensures at c.in_ok-system.ensures) _ c.in_err-listed.ensures)
+pub returns-in_err-number : goal.returns-in_err-number
+returns-in_err-number c =
+    let p = err_from_is_err_and c.from_residual-in_err-number.result c.from_residual-in_err-number.ensures.1 in
+    rw (p.1, p.2) (listed_refused c.args.r.now _ c.in_ok-outline.ensures _ (rw c.empty.ensures at c.in_ok-system.ensures) _ c.in_err-number.ensures)
 
 pub events-requires-clause-fitting : goal.events-requires-clause-fitting
 events-requires-clause-fitting c = fits c.args.r.now _ c.in_ok-outline.ensures _ (rw c.empty.ensures at c.in_ok-system.ensures)
 
 pub events-requires-clause-none : goal.events-requires-clause-none
 events-requires-clause-none c = (
-  listed_few c.args.r.now _ c.in_ok-outline.ensures _ (rw c.empty.ensures at c.in_ok-system.ensures) _ c.in_ok-listed.ensures,
+  rw c.from-listed.ensures (listed_few c.args.r.now _ c.in_ok-outline.ensures _ (rw c.empty.ensures at c.in_ok-system.ensures) _ c.in_ok-number.ensures),
   eventless_yet c.args.r.now _ c.in_ok-outline.ensures _ (rw c.empty.ensures at c.in_ok-system.ensures),
 )
 
@@ -38,8 +38,8 @@ pub returns-in_err-events : goal.returns-in_err-events
 returns-in_err-events c =
     let p = err_from_is_err_and c.from_residual-in_err-events.result c.from_residual-in_err-events.ensures.1 in
     rw (p.1, p.2)
-    (events_read c.args.r.now _ c.in_ok-outline.ensures _ (rw c.empty.ensures at c.in_ok-system.ensures) _ c.in_ok-listed.ensures _ c.in_err-events.ensures)
+    (events_read c.args.r.now _ c.in_ok-outline.ensures _ (rw c.empty.ensures at c.in_ok-system.ensures) _ c.in_ok-number.ensures _ (rw c.from-listed.ensures at c.in_err-events.ensures))
 
 pub returns : goal.returns
 returns c =
-    events_read c.args.r.now _ c.in_ok-outline.ensures _ (rw c.empty.ensures at c.in_ok-system.ensures) _ c.in_ok-listed.ensures _ c.in_ok-events.ensures
+    events_read c.args.r.now _ c.in_ok-outline.ensures _ (rw c.empty.ensures at c.in_ok-system.ensures) _ c.in_ok-number.ensures _ (rw c.from-listed.ensures at c.in_ok-events.ensures)

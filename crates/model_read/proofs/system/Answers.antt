@@ -11,26 +11,30 @@ use Rattle.model_read.proofs.system.Goals as goal
 abbrev fine : Model → Transition → Bool
 fine m t = monotonous m.nets m.places (nth m.types) (nth t.pre) (nth t.post)
 
-pub returns-in_err-moves : goal.returns-in_err-moves
-returns-in_err-moves c =
+pub returns-in_err-number : goal.returns-in_err-number
+returns-in_err-number c =
     let m = c.args.m.now in
     let p = err_from_is_err_and c.from_residual.result c.from_residual.ensures.1 in
-    rw (p.1, p.2) (moves_refused m (fine m) c.args.r.now _ c.in_err-moves.ensures)
+    rw (p.1, p.2) (moves_refused m (fine m) c.args.r.now _ c.in_err-number.ensures)
 
 pub tables-requires : goal.tables-requires
-tables-requires c = let m = c.args.m.now in (moves_few m (fine m) c.args.r.now _ c.in_ok-moves.ensures, c.requires.1)
+tables-requires c =
+    let m = c.args.m.now in
+    (rw c.from-moves.ensures (moves_few m (fine m) c.args.r.now _ c.in_ok-number.ensures), c.requires.1)
 
 pub returns-in_err-pre : goal.returns-in_err-pre
 returns-in_err-pre c =
     let m = c.args.m.now in
     let p = err_from_is_err_and c.from_residual-in_err-pre.result c.from_residual-in_err-pre.ensures.1 in
-    rw (p.1, p.2) (rows_refused m (fine m) c.args.r.now _ c.in_ok-moves.ensures _ c.in_err-pre.ensures)
+    rw (p.1, p.2) (rows_refused m (fine m) c.args.r.now _ c.in_ok-number.ensures _ (rw c.from-moves.ensures at c.in_err-pre.ensures))
 
 pub returns-in_err-nets : goal.returns-in_err-nets
 returns-in_err-nets c =
     let m = c.args.m.now in
     let p = err_from_is_err_and c.from_residual-in_err-nets.result c.from_residual-in_err-nets.ensures.1 in
-    rw (p.1, p.2) (objects_refused m (fine m) c.args.r.now _ c.in_ok-moves.ensures _ c.in_ok-pre.ensures _ c.in_err-nets.ensures)
+    rw (p.1, p.2) (objects_refused m (fine m) c.args.r.now _ c.in_ok-number.ensures _ (rw c.from-moves.ensures at c.in_ok-pre.ensures) _ c.in_err-nets.ensures)
 
 pub returns : goal.returns
-returns c = let m = c.args.m.now in system_read m (fine m) c.args.r.now _ c.in_ok-moves.ensures _ c.in_ok-pre.ensures _ c.in_ok-nets.ensures
+returns c =
+    let m = c.args.m.now in
+    rw c.from-moves.ensures (system_read m (fine m) c.args.r.now _ c.in_ok-number.ensures _ (rw c.from-moves.ensures at c.in_ok-pre.ensures) _ c.in_ok-nets.ensures)

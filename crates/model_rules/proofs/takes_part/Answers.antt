@@ -8,4 +8,4 @@ pub returns-then-own-eq0 : goal.returns-then-own-eq0
 returns-then-own-eq0 c = eq-eqb _ _ c.if-own-eq0.true ∙ part_move _ _ _ c.if-own-eq0.true
 
 pub returns-else-own-eq0 : goal.returns-else-own-eq0
-returns-else-own-eq0 c = part_idle _ _ _ c.if-own-eq0.false _ c.some_count.ensures
+returns-else-own-eq0 c = rw c.from.ensures (part_idle _ _ _ c.if-own-eq0.false _ c.some_count.ensures)

@@ -1,5 +1,5 @@
 -- `put_row` lays the row over the part that is lent.
-use Prim.Native.Nat.{ℕ, ◌+◌, ◌-◌, ◌≤◌}
+use Prim.Native.Nat.{ℕ, ◌+◌, ◌-◌, ◌*◌, ◌≤◌}
 use mathlib.Core.Path.{◌≡◌, ap, sym, ◌∙◌}
 use mathlib.Core.List.{List, ◌++◌, append_assoc}
 use native.Mathlib.Omega.{arith}
@@ -16,4 +16,5 @@ laid {A = A} at n xs ys zs same e h =
 pub returns : goal.returns
 returns g c =
     let n = c.told-values in
-    laid c.args.at (c.args.at + 32 - c.args.at) c.args.table.now _ c.args.values.now (c.copy_from_slice.ensures.after) (omega (arith, n)) (omega (arith, n, c.requires))
+    let at = c.args.i * 32 in
+    laid at (at + 32 - at) c.args.table.now _ c.args.values.now (c.copy_from_slice.ensures.after) (omega (arith, n)) (omega (arith, n, c.requires))

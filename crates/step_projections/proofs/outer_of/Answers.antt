@@ -35,7 +35,8 @@ loop-t-preserved c =
     let i = c.loop-t.t-index in
     let s = c.loop-t.sums in
     let p = (get_or ts i outside).place - 1 in
-    let h : p < length s = omega (arith, place (goal.at.loop-t-preserved c).In-loop-t) in (
+    let h : p < length s = omega (arith, place (goal.at.loop-t-preserved c).In-loop-t) in
+    rw c.from-p.ensures (
       length-set s p (nth s p + 1) ∙ c.loop-t.invariant.0,
       rw (put_unit s p h) (unit_more s p i c.loop-t.invariant.1),
       c.loop-t.invariant.2

@@ -29,9 +29,9 @@ loop-k-preserved c =
     rw p (plus_at a.sum.now a.table.now a.count a.t k (omega arith)) in (
       omega arith,
       search rules,
-      filled_turn (nth (a.sum.now ⊕ times a.count (row_in 32 a.table.now a.t))) c.loop-k.sum k _ (omega arith) c.loop-k.invariant.2 e,
+      rw (c.from.ensures, c.from-in-loop-k.ensures) (filled_turn (nth (a.sum.now ⊕ times a.count (row_in 32 a.table.now a.t))) c.loop-k.sum k _ (omega arith) c.loop-k.invariant.2 e),
       (λ i q. get_or-set_other c.loop-k.sum k i _ 0 (λ z. absurd (omega arith)) ∙ c.loop-k.invariant.3 i (omega arith)),
-      set_below (λ i. nth a.sum.now i + 65025) c.loop-k.sum k _ c.loop-k.invariant.4 (omega (arith, product, p)),
+      rw (c.from.ensures, c.from-in-loop-k.ensures) (set_below (λ i. nth a.sum.now i + 65025) c.loop-k.sum k _ c.loop-k.invariant.4 (omega (arith, product, p))),
     )
 
 pub returns : goal.returns

@@ -1,5 +1,5 @@
 -- `number_line` meets its contract: the key, the number with LF, and then its range, each from what the callee ensures.
-use Prim.Native.Nat.{◌+◌}
+use Prim.Native.Nat.{◌+◌, ◌<◌}
 use mathlib.Core.Path.{◌≡◌, ap, sym, ◌∙◌}
 use mathlib.Core.Bool.{true}
 use native.Mathlib.Omega.{arith}
@@ -12,9 +12,9 @@ use Rattle.text.specs.Number.{number, item}
 use Rattle.text.specs.Lines.{in_range}
 use Rattle.std.specs.declared.result.Result.TheVariants.{Err}
 use Rattle.text.proofs.NumberLaws.{Exact, Capped, missing_if, exact_of}
-use Rattle.text.proofs.LineLaws.{within_low, within_low_not, within-most, line_other, line-missing, line_out, line-value}
+use Rattle.text.proofs.LineLaws.{within_low, within_low_not, within_high, line_other, line-missing, line_out, line-value}
 use Rattle.text_lines.proofs.number_line.Goals as goal
-use Rattle.text_lines.proofs.number_line.Goals.{Else-hi-value, Else-not-starts, In-Some}
+use Rattle.text_lines.proofs.number_line.Goals.{Else-hi-value, Else-not-starts, In-Ok, In-Some}
 
 key-is : (c : Else-not-starts) → let a = c.args in starts a.key.now (drop a.at a.s.now) ≡ true
 key-is c = sym c.starts.ensures ∙ c.if-not-starts.false
@@ -25,10 +25,16 @@ read : (c : In-Some) →
     Exact (item number lf a.s.now (a.at + length a.key.now)) (Capped c.in-Some.field-0.value) c.in-Some.field-0.end
 read c = exact_of cap _ _ c.in-Some.ensures
 
+-- the same where the number has room
+held : (c : In-Ok) →
+    let a = c.args in
+    Exact (item number lf a.s.now (a.at + length a.key.now)) (Capped c.in-Ok.value) c.in-Some.field-0.end
+held c = rw c.in-Ok.ensures.1 (exact_of cap _ _ c.in-Some.ensures)
+
 -- the number is in the range
 inside : (c : Else-hi-value) →
     let a = c.args in
-    in_range a.lo a.hi c.in-Some.field-0.value ≡ true
+    in_range a.lo a.hi c.in-Ok.value ≡ true
 inside c = within_low_not _ _ _ c.if-value-lo.false ∙ le-leb _ _ c.if-hi-value.false
 
 pub returns-then-not-starts : goal.returns-then-not-starts
@@ -47,19 +53,22 @@ pub returns-then-value-lo : goal.returns-then-value-lo
 returns-then-value-lo c =
     let f = c.ranges in
     ap Err c.fault_at-then-value-lo.ensures
-    ∙ sym (line_out _ _ _ _ _ (key-is (goal.at.returns-then-value-lo c).Else-not-starts) f.lo.fits f.hi.fits _ _ (read (goal.at.returns-then-value-lo c).In-Some) (within_low _ _ _ c.if-value-lo.true))
+    ∙ sym (line_out _ _ _ _ _ (key-is (goal.at.returns-then-value-lo c).Else-not-starts) f.lo.fits f.hi.fits _ _ (held (goal.at.returns-then-value-lo c).In-Ok) (within_low _ _ _ c.if-value-lo.true))
 
 pub returns-then-hi-value : goal.returns-then-hi-value
 returns-then-hi-value c =
     let f = c.ranges in
     ap Err c.fault_at-then-hi-value.ensures
-    ∙ sym (line_out _ _ _ _ _ (key-is (goal.at.returns-then-hi-value c).Else-not-starts) f.lo.fits f.hi.fits _ _ (read (goal.at.returns-then-hi-value c).In-Some) (within_low_not _ _ _ c.if-value-lo.false ∙ lt-leb _ _ c.if-hi-value.true))
+    ∙ sym (line_out _ _ _ _ _ (key-is (goal.at.returns-then-hi-value c).Else-not-starts) f.lo.fits f.hi.fits _ _ (held (goal.at.returns-then-hi-value c).In-Ok) (within_low_not _ _ _ c.if-value-lo.false ∙ lt-leb _ _ c.if-hi-value.true))
 
-pub overflow_cast-value : goal.overflow_cast-value
-overflow_cast-value c =
-    omega (arith, within-most c.args.lo c.args.hi c.in-Some.field-0.value (inside (goal.at.overflow_cast-value c).Else-hi-value), c.ranges.hi.fits)
+pub returns-in_default-try_from : goal.returns-in_default-try_from
+returns-in_default-try_from c =
+    let f = c.ranges in
+    let high : c.args.hi < c.in-Some.field-0.value = omega (arith, f.hi.fits, c.in_default-try_from.ensures) in
+    ap Err c.fault_at-in_default-try_from.ensures
+    ∙ sym (line_out _ _ _ _ _ (key-is (goal.at.returns-in_default-try_from c).Else-not-starts) f.lo.fits f.hi.fits _ _ (read (goal.at.returns-in_default-try_from c).In-Some) (within_high _ _ _ high))
 
 pub returns : goal.returns
 returns c =
     let f = c.ranges in
-    sym (line-value _ _ _ _ _ (key-is (goal.at.returns c).Else-not-starts) f.lo.fits f.hi.fits _ _ (read (goal.at.returns c).In-Some) (inside (goal.at.returns c).Else-hi-value))
+    sym (line-value _ _ _ _ _ (key-is (goal.at.returns c).Else-not-starts) f.lo.fits f.hi.fits _ _ (held (goal.at.returns c).In-Ok) (inside (goal.at.returns c).Else-hi-value))

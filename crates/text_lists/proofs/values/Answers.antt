@@ -41,7 +41,7 @@ loop-i-preserved g c =
       | else-i-lt32 w ↦ w.row-is ∙ sym (set_out l.row l.i (g.V.Value.held v) (omega (arith, l.invariant.0, w.if-i-lt32.false)))
     ] in (
       rw k (length-set l.row l.i (g.V.Value.held v) ∙ l.invariant.0),
-      l.invariant.1 ∙ turn_more g.V.Value.held a.hi a.top (signed_if g.V.Value.SIGNED) a.s.now a.n l.at l.inside l.i l.row c.ranges.hi.fits c.loop-i-test.true v _ read _ (rw (c.unsigned_abs.ensures.value, same)) _ k,
+      l.invariant.1 ∙ turn_more g.V.Value.held a.hi a.top (signed_if g.V.Value.SIGNED) a.s.now a.n l.at l.inside l.i l.row c.ranges.hi.fits c.loop-i-test.true v _ read _ (rw (c.unsigned_abs.ensures.value, c.from.ensures, same)) _ k,
     )
 
 pub returns-then-not-inside : goal.returns-then-not-inside

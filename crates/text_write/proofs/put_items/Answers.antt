@@ -13,13 +13,14 @@ further : (c : goal.After-stop_of) →
     ≡ a.at + length (items_text decimal a.values.now))
 further c =
     let a = c.args in
-    omega (arith, length-items a.values.now c.loop-i.i (omega arith), c.width-k.ensures, c.loop-i.invariant.0)
+    omega (arith, length-items a.values.now c.loop-i.i (omega arith), rw c.from-n.ensures at c.width-k.ensures, c.loop-i.invariant.0)
 
 pub put_digits-requires : goal.put_digits-requires
 put_digits-requires c =
     let a = c.args in
     let l = c.loop-i in
-    (c.width-k.ensures, omega (arith, length-items a.values.now l.i (omega arith)))
+    let w = rw c.from-n.ensures at c.width-k.ensures in
+    (c.width-k.ensures, omega (arith, length-items a.values.now l.i (omega arith), w))
 
 pub overflow_add-out : goal.overflow_add-out
 overflow_add-out c = omega (arith, further c)
@@ -40,7 +41,7 @@ loop-i-preserved c =
     let p = c.put_digits in (
       further c,
       length-set p.new.out (c.loop-i.next + w.result) c.stop_of.result ∙ p.auto.out ∙ c.loop-i.invariant.1,
-      lay-item a.values.now c.loop-i.out c.loop-i.i c.loop-i.next (omega arith) w.ensures p.ensures c.stop_of.ensures ∙ c.loop-i.invariant.2,
+      lay-item a.values.now c.loop-i.out c.loop-i.i c.loop-i.next (omega arith) (rw c.from-n.ensures at w.ensures) (rw c.from-n.ensures at p.ensures) c.stop_of.ensures ∙ c.loop-i.invariant.2,
     )
 
 pub returns : goal.returns
