@@ -59,7 +59,7 @@ impl From<i64> for Sum {
 
     fn from(value: i64) -> Sum {
         Sum {
-            above: value.max(0) as u64,
+            above: value.max(0).unsigned_abs(),
             below: value.min(0).unsigned_abs(),
         }
     }
@@ -106,7 +106,12 @@ fn weight_zero(weight: i16) -> bool
 
 // The check of the weights of a file: 6, 7, or they pass, and then the marking's weighted sum, and whether the weights cover for `most`
 // net-tokens.
-fn judged(most: u64, m: &Model, k: &Marking, held: &HeldWeights) -> Result<WeightCheck, WeightRefusal>
+fn judged(
+    most: u64,
+    m: &Model,
+    k: &Marking,
+    held: &HeldWeights,
+) -> Result<WeightCheck, WeightRefusal>
     requires both { held_both m.now k.now ≡ true }
     requires room { (length m.now.objects ≡ 8) × (length m.now.events ≡ 64) }
     ensures { (w : Weights) → Holds m.now w held.now → result ≡ judged_weights most (model_of m.now) (tokens_of (sizes_for m.now) k.now) w }

@@ -17,6 +17,7 @@ pub fn put_pair(out: &mut [u8], at: usize, key: &[u8], p: Pair) -> usize
 {
     let number = put_text(out, at, key);
     let comma = put_number(out, number, u64::from(p.number));
+    // No From goes from usize to u64, which is as wide.
     put_number_line(out, comma, b",", p.beside as u64)
 }
 

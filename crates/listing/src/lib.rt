@@ -59,6 +59,7 @@ fn after_weights(
 {
     let mut after = k;
     let ran = trace_file(&m, &mut after, trace);
+    // No From goes from usize to u64, which is as wide.
     let next = put_number_line(head, at, b"fired=", ran.fired as u64);
     let end = put_pair(head, next, b"stop=", Pair::from(ran.stop));
     lay_with_held(&head[..end], &m, &after, out)
@@ -90,7 +91,12 @@ fn after_model(
 }
 
 // What the program prints for the three texts: written whole, or no byte of it.
-pub fn listing(model: &[u8], weights: &[u8], trace: &[u8], out: &mut [u8]) -> Result<usize, WriteRefusal>
+pub fn listing(
+    model: &[u8],
+    weights: &[u8],
+    trace: &[u8],
+    out: &mut [u8],
+) -> Result<usize, WriteRefusal>
     ensures { record { answer = result; bytes = out.new }
         ≡ lay_whole (listing_text model.now weights.now trace.now) out.old }
 {

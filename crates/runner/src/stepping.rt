@@ -16,13 +16,5 @@ pub fn step(m: &Model, k: &mut Marking, s: &[u8]) -> Result<usize, StepRefusal>
     admitted(m, k, s)?;
     let mut taken = [NetToken::empty(); Marking::ROOM];
     let mut given = [NetToken::empty(); Marking::ROOM];
-    step_on(
-        k.room(),
-        m,
-        &place_sizes(m),
-        k,
-        s,
-        &mut taken,
-        &mut given,
-    )
+    step_on(k.room(), m, &place_sizes(m), k, s, &mut taken, &mut given)
 }
