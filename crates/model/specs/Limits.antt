@@ -33,7 +33,3 @@ longest = 1048576
 -- the counts of an event: 8 nets of 32 transitions
 abbrev pub sync_room : ℕ
 sync_room = 8 * 32
-
--- the inner places: 8 nets of 32
-abbrev pub inner_room : ℕ
-inner_room = 8 * 32

@@ -158,9 +158,6 @@ impl Model {
     // The bytes of the longest text that is read.
     pub const LONGEST: usize = 1048576;
 
-    // The inner places: 32 of each of 8 nets.
-    pub const INSIDE: usize = 8 * 32;
-
     // The empty model: no places.
     pub fn empty() -> Model
         ensures { result ≡ no_model }

@@ -5,7 +5,7 @@ use mathlib.Core.List.{List, [], ◌∷◌, append-nil}
 use native.Mathlib.Omega.{arith}
 use native.Mathlib.Nat.{mul-le-mul}
 use native.Mathlib.Numerals.{add-one}
-use lib.ListN.{length, set, replicate}
+use lib.ListN.{length, set}
 use Rattle.eos.specs.Vector.{◌⊕◌, times}
 use Rattle.eos.proofs.VectorLaws.{get_d-⊕}
 use Rattle.eos.proofs.VectorSums.{length-times, nth-times}
@@ -13,9 +13,10 @@ use Rattle.model.specs.Rules.{nth}
 use Rattle.text.specs.Repeat.{fill}
 use Rattle.text.specs.Answers.{padded}
 use Rattle.text.proofs.PaddedLaws.{padded-is}
-use lib.Seq.{sets, ext_get_or}
-use Rattle.model.specs.Held.{row, row_in, put_row, tabled, listed}
+use lib.Seq.{ext_get_or}
+use Rattle.model.specs.Held.{row_in, put_at, listed}
 use Rattle.model.proofs.TableLaws.{row_at, length-row}
+use Rattle.step.specs.Rule.{no_rows, net_rows}
 use Rattle.step.specs.RuleParts.{sum_rows}
 
 -- of two vectors of the same length
@@ -83,26 +84,22 @@ whole_row v e =
     let z : 32 - length v ≡ 0 = omega arith in
     padded-is v (omega arith) ∙ rw z (append-nil v)
 
--- the rows of the nets from n on are laid into a table
-pub nets_begin : (l : List (List ℕ)) (table : List ℕ) → table ≡ replicate 256 0 → fill (put_row row) 0 l table ≡ tabled row 256 l
-unfolding tabled
-nets_begin l table e = ap (fill (put_row row) 0 l) e
+-- the rows of the nets from n on are laid
+pub nets_begin : (l rows : List (List ℕ)) → rows ≡ no_rows → fill (put_at padded) 0 l rows ≡ net_rows l
+unfolding net_rows
+nets_begin l rows e = ap (fill (put_at padded) 0 l) e
 
 module _ (f : ℕ → List ℕ) where
-  pub nets_next : (n nets : ℕ) (table next : List ℕ) → n < nets → length (f n) ≡ 32 → next ≡ sets table (n * 32) (f n)
-      → fill (put_row row) (n + 1) (listed f (n + 1) (nets - (n + 1))) next ≡ fill (put_row row) n (listed f n (nets - n)) table
+  pub nets_next : (n nets : ℕ) (rows : List (List ℕ)) (row : List ℕ) → n < nets → length (f n) ≡ 32 → row ≡ f n
+      → fill (put_at padded) (n + 1) (listed f (n + 1) (nets - (n + 1))) (set rows n row) ≡ fill (put_at padded) n (listed f n (nets - n)) rows
   unfolding fill
-  nets_next n nets table next h w e =
-      let rest : ℕ = nets - (n + 1) in
-      let k : nets - n ≡ suc rest = omega arith in
-      let laid : fill (put_row row) (suc n) (listed f (suc n) rest) (sets table (n * 32) (f n)) ≡ fill (put_row row) n (listed f n (suc rest)) table =
-      ap (λ (v : List ℕ). fill (put_row row) (suc n) (listed f (suc n) rest) (sets table (n * 32) v)) (sym (whole_row (f n) w)) in
-      ap (λ (t : List ℕ). fill (put_row row) (n + 1) (listed f (n + 1) rest) t) e
-      ∙ ap (λ (i : ℕ). fill (put_row row) i (listed f i rest) (sets table (n * 32) (f n))) (add-one n)
-      ∙ laid ∙ ap (λ (r : ℕ). fill (put_row row) n (listed f n r) table) (sym k)
+  nets_next n nets rows row h w e =
+      let k : nets - n ≡ suc (nets - (n + 1)) = omega arith in
+      rw (k, e, add-one n)
+      (ap (λ (v : List ℕ). fill (put_at padded) (suc n) (listed f (suc n) (nets - suc n)) (set rows n v)) (sym (whole_row (f n) w)))
 
-  pub nets_done : (n nets : ℕ) (table : List ℕ) → nets ≤ n → fill (put_row row) n (listed f n (nets - n)) table ≡ table
+  pub nets_done : (n nets : ℕ) (rows : List (List ℕ)) → nets ≤ n → fill (put_at padded) n (listed f n (nets - n)) rows ≡ rows
   unfolding fill
-  nets_done n nets table h =
+  nets_done n nets rows h =
       let k : nets - n ≡ 0 = omega arith in
       rw k

@@ -1,24 +1,27 @@
--- Laws of the insides of net-tokens, added up in a table of sums.
+-- Laws of the insides of net-tokens, added up net by net.
 use Prim.Native.Nat.{ℕ, suc, ◌+◌, ◌-◌, ◌*◌, ◌≤◌, ◌<◌}
 use mathlib.Core.Path.{◌≡◌, sym, ap, ◌∙◌}
-use mathlib.Core.List.{List, [], ◌++◌}
+use mathlib.Core.List.{List, []}
 use native.Mathlib.Omega.{arith}
 use borrow.Author.Tests.{eq-eqb, ne_eqb, eqb-true, eqb-false}
 use lib.Dec.{eqb}
-use lib.ListN.{length, get_or, drop, replicate, length-replicate}
-use lib.Seq.{ext_get_or}
+use lib.ListN.{length, get_or, drop, set, length-set, length-replicate, get_or-replicate, get_or-eq_default}
+use lib.Seq.{get_or-set_same, get_or-set_other}
 use Rattle.text.proofs.Basics.{by_test}
 use Rattle.eos.specs.Vector.{◌⊕◌, zeros}
-use Rattle.eos.proofs.VectorSums.{length-zeros, nth_zero}
+use Rattle.eos.proofs.VectorLaws.{get_d-⊕}
+use Rattle.eos.proofs.VectorSums.{length-zeros, long-left, nth_zero}
 use Rattle.marking.specs.declared.NetToken.{NetToken}
 use Rattle.model.specs.Rules.{nth}
-use Rattle.model.specs.Held.{row_in}
-use Rattle.model.proofs.PaddedRows.{nth-zeros}
-use Rattle.model.proofs.TableLaws.{row_at, length-row}
+use Rattle.model.proofs.SlotLaws.{by_index}
+use Rattle.step.specs.Rule.{no_row, no_rows, row_of}
 use Rattle.step.specs.Verdict.{inside_in, inner_tokens}
-use Rattle.step.specs.VerdictParts.{Added, Inner}
-use Rattle.step.proofs.VectorArrays.{sum_nil, length_added, row_added, row_kept, added_small}
+use Rattle.step.specs.VerdictParts.{Rowed, Added, Inner}
+use Rattle.step.proofs.VectorArrays.{sum_nil}
 use Rattle.step.proofs.TokenSums.{sum-start, sum_turn, sum_end, inner_none, inner_more}
+
+by_same : {G : Type 0} (n m : ℕ) → (n ≡ m → G) → ((n ≡ m → ⊥) → G) → G
+by_same n m f g = by_test (eqb n m) (λ q. f (eqb-true n m q)) (λ q. g (eqb-false n m q))
 
 -- ---- one net-token
 
@@ -29,63 +32,73 @@ module _ (types : List ℕ) (t : NetToken) (d : ℕ) (e : get_or types (t.place 
   inside_other : (n : ℕ) → (d ≡ suc n → ⊥) → inside_in types n t ≡ []
   inside_other n h = rw (e, ne_eqb d (suc n) h)
 
-  module _ (before : List ℕ) (long : length before ≡ 256) where
+  module _ (before : List (List ℕ)) (rowed : Rowed before) where
     -- a black token adds nothing
     pub added_none : d ≡ 0 → Added types t before before
     added_none z = record {
-      long = long;
-      rows = λ n h. rw (inside_other n (λ q. omega arith)) (sym (sum_nil (row_in 32 before n)));
-      small = λ k. omega arith;
+      rowed = rowed;
+      rows = λ n h. rw (inside_other n (λ q. omega arith)) (sym (sum_nil (row_of before n)));
+      small = λ n k. omega arith;
     }
 
     -- any other its counts to its net
     pub added_inside : 1 ≤ d → d ≤ 8 → length t.counts ≡ 32 → ((i : ℕ) → nth t.counts i ≤ 65535)
-        → (after : List ℕ) → after ≡ before ⊕ (zeros ((d - 1) * 32) ++ t.counts) → Added types t before after
+        → (after : List (List ℕ)) → after ≡ set before (d - 1) (row_of before (d - 1) ⊕ t.counts) → Added types t before after
     added_inside pos few wide small after is =
         let m = d - 1 in
+        let row = row_of before m ⊕ t.counts in
+        let old : length (row_of before m) ≡ 32 = rowed.long m (omega arith) in
+        let long : length row ≡ 32 = long-left (row_of before m) t.counts (omega arith) ∙ old in
+        let own : row_of after m ≡ row = rw is (get_or-set_same before m row [] (omega (arith, rowed.many))) in
+        let other : (n : ℕ) → (n ≡ m → ⊥) → row_of after n ≡ row_of before n = λ n q. rw is (get_or-set_other before m n row [] q) in
         record {
-          long = ap length is ∙ length_added before t.counts m long wide (omega arith);
+          rowed = record {
+            many = ap length is ∙ length-set before m row ∙ rowed.many;
+            long = λ n h. by_same n m (λ z. rw (z, own) long) (λ q. rw (other n q) (rowed.long n h));
+          };
           rows = λ n h.
-              by_test (eqb n m)
-              (λ q.
-              let z : n ≡ m = eqb-true n m q in
-              rw (is, inside_own n (omega arith)) (row_added before t.counts m long wide (omega arith) n h z))
-              (λ q.
-              let z : n ≡ m → ⊥ = eqb-false n m q in
-              rw (is, inside_other n (λ p. z (omega arith)))
-              (row_kept before t.counts m long wide (omega arith) n h z ∙ sym (sum_nil (row_in 32 before n))));
-          small = λ k. rw is (added_small before t.counts m long wide (omega arith) 65535 small k);
+              by_same n m
+              (λ z. rw (z, own, inside_own m (omega arith)))
+              (λ q. rw (other n q, inside_other n (λ p. q (omega arith))) (sym (sum_nil (row_of before n))));
+          small = λ n k.
+              by_same n m
+              (λ z. rw (z, own) (omega (arith, get_d-⊕ (row_of before m) t.counts k, small k)))
+              (λ q. rw (other n q) (omega arith));
         }
 
 -- ---- all net-tokens
 
-blank : (m : ℕ) → m < 8 → row_in 32 (replicate 256 0) m ≡ zeros 32
-blank m h =
-    let t : List ℕ = replicate 256 0 in
-    let long : length (row_in 32 t m) ≡ 32 = length-row t m 32 (omega (arith, length-replicate {A = ℕ} 256 0)) in
-    ext_get_or 0 (row_in 32 t m) (zeros 32) (long ∙ sym (length-zeros 32)) λ c p.
-    row_at t m c (omega arith) ∙ nth-zeros 256 (m * 32 + c) ∙ sym (nth_zero 32 c)
+blank : (m : ℕ) → m < 8 → row_of no_rows m ≡ zeros 32
+blank m h = get_or-replicate 8 m no_row [] h
+
+pub rowed_none : Rowed no_rows
+rowed_none = record { many = length-replicate 8 no_row; long = λ n h. rw (blank n h) (length-zeros 32) }
+
+pub none-small : (n k : ℕ) → nth (row_of no_rows n) k ≤ 0
+none-small n k =
+    by_index 8 n
+    (λ h. rw (blank n h) (omega (arith, nth_zero 32 k)))
+    (λ h. rw (get_or-eq_default no_rows [] {n = n} (omega (arith, length-replicate 8 no_row))) (omega arith))
 
 module _ (types : List ℕ) (ts : List NetToken) where
   -- the sums of the first i net-tokens, and those of the others
-  abbrev pub Partly : ℕ → List ℕ → Type 0
-  Partly i s = (m : ℕ) → m < 8 → inner_tokens types m ts ≡ row_in 32 s m ⊕ inner_tokens types m (drop i ts)
+  abbrev pub Partly : ℕ → List (List ℕ) → Type 0
+  Partly i s = (m : ℕ) → m < 8 → inner_tokens types m ts ≡ row_of s m ⊕ inner_tokens types m (drop i ts)
 
-  pub inner_start : Partly 0 (replicate 256 0)
+  pub inner_start : Partly 0 no_rows
   inner_start m h =
       rw (blank m h) (sum-start (inside_in types m) (inner_tokens types m) (inner_none types m) (inner_more types m) ts)
 
-  pub inner_turn : (i : ℕ) (s after : List ℕ) (d : NetToken) → i < length ts → Partly i s → Added types (get_or ts i d) s after → Partly (i + 1) after
+  pub inner_turn : (i : ℕ) (s after : List (List ℕ)) (d : NetToken) → i < length ts → Partly i s → Added types (get_or ts i d) s after → Partly (i + 1) after
   inner_turn i s after d h p a m k =
       p m k
-      ∙ rw (a.rows m k) (sum_turn (inside_in types m) (inner_tokens types m) (inner_none types m) (inner_more types m) ts i (row_in 32 s m) d h)
+      ∙ rw (a.rows m k) (sum_turn (inside_in types m) (inner_tokens types m) (inner_none types m) (inner_more types m) ts i (row_of s m) d h)
 
-  pub inner_end : (i : ℕ) (s : List ℕ) → i ≤ 256 → length ts ≤ i → length s ≡ 256 → ((k : ℕ) → nth s k ≤ i * 65535) → Partly i s → Inner types ts s
-  inner_end i s few over long small p = record {
-    long = long;
+  pub inner_end : (i : ℕ) (s : List (List ℕ)) → i ≤ 256 → length ts ≤ i → Rowed s → ((n k : ℕ) → nth (row_of s n) k ≤ i * 65535) → Partly i s → Inner types ts s
+  inner_end i s few over rowed small p = record {
+    rowed = rowed;
     rows = λ m h.
         sym (p m h
-        ∙ sum_end (inside_in types m) (inner_tokens types m) (inner_none types m) (inner_more types m) ts i (row_in 32 s m) over
-        (length-row s m 32 (omega arith)));
-    small = λ k. omega (arith, small k);
+        ∙ sum_end (inside_in types m) (inner_tokens types m) (inner_none types m) (inner_more types m) ts i (row_of s m) over (rowed.long m h));
+    small = λ n k. omega (arith, small n k);
   }

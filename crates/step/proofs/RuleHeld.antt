@@ -20,22 +20,23 @@ use Rattle.eos.proofs.VectorLaws.{get_d-⊕}
 use Rattle.eos.proofs.VectorSums.{length-times, length-unit, length-zeros, length-one, long-left, nth-times, nth_zero}
 use Rattle.model.specs.Rules.{nth, right_act}
 use Rattle.model.specs.Acts.{act_of, held_act, outer_in}
-use Rattle.model.specs.Held.{row, row_in, tabled, listed, no_net, no_event, sides_in, net_of, event_of, sync_in, model_of}
+use Rattle.model.specs.Held.{row_in, listed, no_net, no_event, sides_in, net_of, event_of, sync_in, model_of}
 use Rattle.model.specs.Test.{held_net, empty_past, used_of, frame_in}
 use Rattle.model.specs.declared.ObjectNet.{ObjectNet}
 use Rattle.model.specs.declared.Event.{Event}
 use Rattle.model.specs.declared.Model.{Model}
 use Rattle.model.proofs.PaddedRows.{nth-padded, padded-take}
 use Rattle.model.proofs.SlotLaws.{by_index, length-listed, listed_at, listed_past}
-use Rattle.model.proofs.TableLaws.{length-row, rows_ext, length-tabled, tabled-row, nth-row}
+use Rattle.model.proofs.TableLaws.{length-row, nth-row}
 use Rattle.model.proofs.HeldTests.{Held, moves_are, most-nets, most-places, most-moves}
 use Rattle.model.proofs.HeldTestLoops.{few-steps}
 use Rattle.model.proofs.HeldActs.{act-is, act_range}
 use Rattle.model.proofs.ShapeLaws.{nets-long, net-is, event-is}
 use Rattle.model.proofs.UsedLaws.{types-empty, count-is, net_used, net-held, event_used}
-use Rattle.step.specs.Rule.{hold_sides, hold_rule}
+use Rattle.step.specs.Rule.{net_rows, hold_sides, hold_rule}
 use Rattle.step.specs.declared.Sides.{Sides}
 use Rattle.step.specs.RuleParts.{sum_rows, net_sum}
+use Rattle.step.proofs.NetRows.{rows_same}
 
 -- ---- sums, number by number
 
@@ -167,24 +168,19 @@ module _ (m : Model) (held : Held m) (e : ℕ) (known : e < m.listed) where
         ext_get_or 0 (padded mine) (padded theirs) (length-padded mine ∙ sym (length-padded theirs)) (λ i p. nth-padded mine (omega arith) i ∙ at i ∙ sym (nth-padded theirs long i))
         ∙ ap padded (sym (inner_of_lem k h))
 
-  -- the table of the code's sums is that of the theory's
+  -- the rows of the code's sums are those of the theory's
   pub inners_are : {side : eos.Transition → List ℕ} {pick : ObjectNet → List ℕ} → Side side pick
-      → tabled row 256 (listed (net_sum pick m.objects event.sync) 0 m.nets)
-      ≡ tabled row 256 (listed (inner_of side (model_of m) (eos.event (model_of m) e)) 0 (length (model_of m).nets))
+      → net_rows (listed (net_sum pick m.objects event.sync) 0 m.nets)
+      ≡ net_rows (listed (inner_of side (model_of m) (eos.event (model_of m) e)) 0 (length (model_of m).nets))
   inners_are {side} {pick} s =
       let f = net_sum pick m.objects event.sync in
       let g = inner_of side (model_of m) (eos.event (model_of m) e) in
       let few = most-nets m held in
-      let x = length-listed f 0 m.nets in
-      let y = length-listed g 0 m.nets in
       rw (nets-long m)
-      (rows_ext 8 (tabled row 256 (listed f 0 m.nets)) (tabled row 256 (listed g 0 m.nets))
-      (length-tabled row 256 (listed f 0 m.nets)) (length-tabled row 256 (listed g 0 m.nets)) (λ k h.
-      tabled-row row [] refl 8 (listed f 0 m.nets) (omega arith) k h
-      ∙ by_index m.nets k
+      (rows_same (listed f 0 m.nets) (listed g 0 m.nets) (omega (arith, length-listed f 0 m.nets)) (omega (arith, length-listed g 0 m.nets)) λ k h.
+      by_index m.nets k
       (λ p. rw (listed_at f m.nets k [] p, listed_at g m.nets k [] p) (inner-is s k p))
-      (λ p. rw (listed_past f m.nets k [] p, listed_past g m.nets k [] p))
-      ∙ sym (tabled-row row [] refl 8 (listed g 0 m.nets) (omega arith) k h)))
+      (λ p. rw (listed_past f m.nets k [] p, listed_past g m.nets k [] p)))
 
   -- ---- the outer side
 
@@ -252,7 +248,7 @@ module _ (m : Model) (held : Held m) (e : ℕ) (known : e < m.listed) where
   abbrev pub sides_with : (ObjectNet → List ℕ) → List ℕ → Sides
   sides_with pick table = record {
     outer = outer_in event.kind event.index (row_in 32 table);
-    inner = tabled row 256 (listed (net_sum pick m.objects event.sync) 0 m.nets);
+    inner = net_rows (listed (net_sum pick m.objects event.sync) 0 m.nets);
   }
 
   pub rule_is : length m.types ≡ 32 → length m.pre ≡ 1024 → length m.post ≡ 1024

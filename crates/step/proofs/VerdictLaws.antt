@@ -12,7 +12,7 @@ use Rattle.std.specs.Result.{IsErrAnd}
 use Rattle.eos.specs.Vector.{le_v, eq_v}
 use Rattle.eos.specs.Causes.{Cause, taking, giving, short, unequal, missing, crowded, first, unless, at, failing}
 use Rattle.marking.specs.declared.NetToken.{NetToken}
-use Rattle.model.specs.Held.{row_in}
+use Rattle.step.specs.Rule.{row_of}
 use Rattle.step.specs.declared.Sides.{Sides}
 use Rattle.step.specs.declared.Rule.{Rule}
 use Rattle.step.specs.declared.Cause.TheVariants.{Places, Short, Unequal, Missing, Crowded}
@@ -138,13 +138,13 @@ module _ (t : ℕ) (q : Rule) (taken given : List NetToken) where
     unfolding inner_causes
     pass_nets e = skip_at t short _ takes (told_none takes a) ∙ skip_at t unequal [] gives (told_none gives e) ∙ nothing t
 
--- over tables of the inner projections
-module _ (q : Rule) (taken : List NetToken) (held : List ℕ) (few : q.nets ≤ 8) (h : Inner q.types taken held) where
-  pub taken_same : failing q.nets 0 (λ n. le_v (row_in 32 q.pre.inner n) (row_in 32 held n)) ≡ failing q.nets 0 (inner_taken_in q taken)
+-- over rows of the inner projections
+module _ (q : Rule) (taken : List NetToken) (held : List (List ℕ)) (few : q.nets ≤ 8) (h : Inner q.types taken held) where
+  pub taken_same : failing q.nets 0 (λ n. le_v (row_of q.pre.inner n) (row_of held n)) ≡ failing q.nets 0 (inner_taken_in q taken)
   unfolding inner_taken_in
   taken_same = failing_same q.nets 0 _ (inner_taken_in q taken) (λ i k. rw (h.rows i (omega arith)))
 
-  pub given_same : (given : List NetToken) (made : List ℕ) → Inner q.types given made
+  pub given_same : (given : List NetToken) (made : List (List ℕ)) → Inner q.types given made
       → failing q.nets 0 (even_in made held q.pre.inner q.post.inner) ≡ failing q.nets 0 (inner_given_in q taken given)
   unfolding inner_given_in
   given_same given made m =

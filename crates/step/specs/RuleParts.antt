@@ -1,11 +1,11 @@
 -- What the parts of the code answer that adds up what an event asks and gives.
 use Rattle.std.specs.Prelude.{ℕ, zero, suc, ◌+◌, ◌*◌, List, get_or}
 use Rattle.eos.specs.Vector.{◌⊕◌, times, zeros}
-use Rattle.model.specs.Limits.{inner_room}
 use Rattle.model.specs.Rules.{nth}
-use Rattle.model.specs.Held.{row, row_in, tabled, listed, no_net}
+use Rattle.model.specs.Held.{row_in, listed, no_net}
 use Rattle.model.specs.declared.ObjectNet.{ObjectNet}
 use Rattle.model.specs.declared.Model.{Model}
+use Rattle.step.specs.Rule.{net_rows}
 
 -- v, and n rows from row i on, each as often as it is counted
 unfoldable pub sum_rows : (ℕ → ℕ) → (ℕ → List ℕ) → ℕ → ℕ → List ℕ → List ℕ
@@ -27,5 +27,5 @@ abbrev pub post_arcs : ObjectNet → List ℕ
 post_arcs net = net.post
 
 -- the same of each net, in its row
-abbrev pub net_sums : (ObjectNet → List ℕ) → Model → List ℕ → List ℕ
-net_sums side m sync = tabled row inner_room (listed (net_sum side m.objects sync) 0 m.nets)
+abbrev pub net_sums : (ObjectNet → List ℕ) → Model → List ℕ → List (List ℕ)
+net_sums side m sync = net_rows (listed (net_sum side m.objects sync) 0 m.nets)

@@ -8,7 +8,7 @@ use Rattle.eos.specs.Model.{Marking}
 use Rattle.eos.specs.Causes.{Refusal, Cause, taking, giving, short, unequal, missing, crowded, unless, at, failing}
 use Rattle.marking.specs.Tokens.{like}
 use Rattle.marking.specs.declared.NetToken.{NetToken}
-use Rattle.model.specs.Held.{row_in}
+use Rattle.step.specs.Rule.{row_of}
 use Rattle.step.specs.declared.Sides.{Sides}
 use Rattle.step.specs.declared.Rule.{Rule}
 use Rattle.step.specs.declared.Cause as cause
@@ -31,12 +31,12 @@ inner_tokens types n (t ∷ ts) = inside_in types n t ⊕ inner_tokens types n t
 
 -- the net-tokens taken have what the event asks of net n
 unfoldable pub inner_taken_in : Rule → List NetToken → ℕ → Bool
-inner_taken_in q taken n = le_v (row_in 32 q.pre.inner n) (inner_tokens q.types n taken)
+inner_taken_in q taken n = le_v (row_of q.pre.inner n) (inner_tokens q.types n taken)
 
 -- the net-tokens given have what the event leaves and gives of net n
 unfoldable pub inner_given_in : Rule → List NetToken → List NetToken → ℕ → Bool
 inner_given_in q taken given n =
-    eq_v (inner_tokens q.types n given) (inner_tokens q.types n taken ⊖ row_in 32 q.pre.inner n ⊕ row_in 32 q.post.inner n)
+    eq_v (inner_tokens q.types n given) (inner_tokens q.types n taken ⊖ row_of q.pre.inner n ⊕ row_of q.post.inner n)
 
 -- the first net-token, counted from i on, whose like, counted so far, exceed the marking's; `seen` are those before
 abbrev pub lacking_tokens : List NetToken → ℕ → List NetToken → List NetToken → Option ℕ

@@ -5,14 +5,12 @@ ghost use Rattle.std.specs.Prelude.{◌≡◌};
 ghost use Rattle.step.specs.Rule.{no_sides, no_rule};
 ghost use Rattle.step.specs.Verdict.{number_of};
 
-use model::Model;
-
-// One side of an event: how many net-tokens it has on each place, and how many tokens on each place of each object net; the number of
-// place i of net n stands at n * 32 + i, in one row as the held arcs are, which C lays out. Unused room is 0.
+// One side of an event: how many net-tokens it has on each place, and how many tokens on each place of each object net, a row for each
+// net. Unused room is 0.
 #[derive(Clone, Copy)]
 pub struct Sides {
     pub outer: [u64; 32],
-    pub inner: [u64; Model::INSIDE],
+    pub inner: [[u64; 32]; 8],
 }
 
 impl Sides {
@@ -21,7 +19,7 @@ impl Sides {
     {
         Sides {
             outer: [0u64; 32],
-            inner: [0u64; Model::INSIDE],
+            inner: [[0u64; 32]; 8],
         }
     }
 }

@@ -1,14 +1,14 @@
 // The projections of net-tokens: counted by place, and their insides added up net by net.
 #![tactic(auto)]
 
-ghost use Rattle.std.specs.Prelude.{◌≡◌, ℕ, ◌+◌, ◌^◌, ◌≤◌, ◌<◌, length, get_or, replicate};
+ghost use Rattle.std.specs.Prelude.{◌≡◌, ℕ, ◌≤◌, get_or};
 ghost use Rattle.eos.specs.Vector.{◌⊕◌};
-ghost use Rattle.model.specs.Limits.{inner_room, count_limit};
+ghost use Rattle.model.specs.Limits.{count_limit};
+ghost use Rattle.step.specs.Rule.{no_rows};
 ghost use Rattle.step.specs.Verdict.{outer_tokens};
-ghost use Rattle.step.specs.VerdictParts.{Placed, Added, Inner};
+ghost use Rattle.step.specs.VerdictParts.{Small, SmallRows, Placed, Rowed, Added, Inner};
 
 use marking::NetToken;
-use model::Model;
 
 pub mod containment;
 pub mod nets;
@@ -27,8 +27,8 @@ pub fn outer_of(tokens: &[NetToken]) -> [u64; 32]
 }
 
 // The counts of a net-token added to a row of sums.
-fn add_counts(row: &mut [u64], counts: &[u16; 32])
-    requires { (length row.old ≡ 32) × ((k : ℕ) → get_or row.old k 0 < 2 ^ 32) }
+fn add_counts(row: &mut [u64; 32], counts: &[u16; 32])
+    requires { Small row.old }
     ensures added { row.new ≡ row.old ⊕ counts.now }
     ensures small { (k : ℕ) → get_or counts.now k 0 ≤ count_limit }
 {
@@ -38,21 +38,20 @@ fn add_counts(row: &mut [u64], counts: &[u16; 32])
 }
 
 // The counts of a net-token added to the sums of its net; a black token has none.
-fn add_inside(sums: &mut [u64; Model::INSIDE], types: &[u8; 32], t: &NetToken)
-    requires { (1 ≤ t.now.place) × (t.now.place ≤ 32) × ((p : ℕ) → get_or types.now p 0 ≤ 8) × ((k : ℕ) → get_or sums.old k 0 < 2 ^ 32) }
+fn add_inside(sums: &mut [[u64; 32]; 8], types: &[u8; 32], t: &NetToken)
+    requires { (1 ≤ t.now.place) × (t.now.place ≤ 32) × ((p : ℕ) → get_or types.now p 0 ≤ 8) × Rowed sums.old × SmallRows sums.old }
     ensures { Added types.now t.now sums.old sums.new }
 {
     let d = usize::from(types[usize::from(t.place) - 1]);
     if d == 0 {
         return;
     }
-    let at = (d - 1) * 32;
-    add_counts(&mut sums[at..at + 32], &t.counts);
+    add_counts(&mut sums[d - 1], &t.counts);
 }
 
-// The insides of net-tokens added up, net by net, into sums that are all 0: place i of net n at n * 32 + i.
-pub fn inner_of(tokens: &[NetToken], types: &[u8; 32], sums: &mut [u64; Model::INSIDE])
-    requires { Placed tokens.now × ((p : ℕ) → get_or types.now p 0 ≤ 8) × (sums.old ≡ replicate inner_room 0) }
+// The insides of net-tokens added up, net by net, into sums that are all 0.
+pub fn inner_of(tokens: &[NetToken], types: &[u8; 32], sums: &mut [[u64; 32]; 8])
+    requires { Placed tokens.now × ((p : ℕ) → get_or types.now p 0 ≤ 8) × (sums.old ≡ no_rows) }
     ensures { Inner types.now tokens.now sums.new }
 {
     for t in tokens {

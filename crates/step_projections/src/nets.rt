@@ -1,59 +1,44 @@
-// The first net of which a step takes too little, and the first of which it does not give what the event leaves. A net is a row of 32
-// numbers of a table; it is compared without a branch, so that several numbers are compared at once.
-ghost use Rattle.std.specs.Prelude.{◌≡◌, ℕ, ◌^◌, ◌≤◌, ◌<◌, get_or};
+// The first net of which a step takes too little, and the first of which it does not give what the event leaves. Rows are compared without a
+// branch, so that several numbers are compared at once.
+ghost use Rattle.std.specs.Prelude.{◌≡◌, ◌≤◌};
 ghost use Rattle.eos.specs.Vector.{le_v};
 ghost use Rattle.eos.specs.Causes.{failing};
-ghost use Rattle.model.specs.Held.{row_in};
+ghost use Rattle.step.specs.Rule.{row_of};
 ghost use Rattle.step.specs.Verdict.{told};
-ghost use Rattle.step.specs.VerdictParts.{even_in};
+ghost use Rattle.step.specs.VerdictParts.{Small, SmallRows, even, even_in};
 
-use model::Model;
-
-// Whether net n is asked no more than is held of it.
-fn enough(n: usize, asked: &[u64; Model::INSIDE], held: &[u64; Model::INSIDE]) -> bool
-    requires { n < 8 }
-    ensures { result ≡ le_v (row_in 32 asked.now n) (row_in 32 held.now n) }
+// Whether of a net no more is asked than is held.
+fn enough(asked: &[u64; 32], held: &[u64; 32]) -> bool
+    ensures { result ≡ le_v asked.now held.now }
 {
     let mut all = true;
-    for k in 0..32 {
-        let j = n * 32 + k;
-        all &= asked[j] <= held[j];
+    for (ask, hold) in asked.iter().zip(held.iter()) {
+        all &= ask <= hold;
     }
     all
 }
 
 // The first net of which more is asked than is held.
-pub fn short_net(
-    nets: usize,
-    asked: &[u64; Model::INSIDE],
-    held: &[u64; Model::INSIDE],
-) -> Option<usize>
+pub fn short_net(nets: usize, asked: &[[u64; 32]; 8], held: &[[u64; 32]; 8]) -> Option<usize>
     requires { nets ≤ 8 }
-    ensures { result ≡ told (failing nets 0 (λ n. le_v (row_in 32 asked.now n) (row_in 32 held.now n))) }
+    ensures { result ≡ told (failing nets 0 (λ n. le_v (row_of asked.now n) (row_of held.now n))) }
 {
     for net in 0..nets {
-        if !enough(net, asked, held) {
+        if !enough(&asked[net], &held[net]) {
             return Some(net);
         }
     }
     None
 }
 
-// Whether what is made of net n is what is held of it, without pre and with post.
-fn even(
-    n: usize,
-    made: &[u64; Model::INSIDE],
-    held: &[u64; Model::INSIDE],
-    pre: &[u64; Model::INSIDE],
-    post: &[u64; Model::INSIDE],
-) -> bool
-    requires { (n < 8) × ((k : ℕ) → get_or held.now k 0 < 2 ^ 32) × ((k : ℕ) → get_or post.now k 0 < 2 ^ 32) }
-    ensures { result ≡ even_in made.now held.now pre.now post.now n }
+// Whether what is made of a net is what is held of it, without pre and with post.
+fn even(made: &[u64; 32], held: &[u64; 32], pre: &[u64; 32], post: &[u64; 32]) -> bool
+    requires { Small held.now × Small post.now }
+    ensures { result ≡ even made.now held.now pre.now post.now }
 {
     let mut all = true;
     for k in 0..32 {
-        let j = n * 32 + k;
-        all &= made[j] == held[j].saturating_sub(pre[j]) + post[j];
+        all &= made[k] == held[k].saturating_sub(pre[k]) + post[k];
     }
     all
 }
@@ -61,16 +46,16 @@ fn even(
 // The first net that is not balanced.
 pub fn unbalanced_net(
     nets: usize,
-    made: &[u64; Model::INSIDE],
-    held: &[u64; Model::INSIDE],
-    pre: &[u64; Model::INSIDE],
-    post: &[u64; Model::INSIDE],
+    made: &[[u64; 32]; 8],
+    held: &[[u64; 32]; 8],
+    pre: &[[u64; 32]; 8],
+    post: &[[u64; 32]; 8],
 ) -> Option<usize>
-    requires { (nets ≤ 8) × ((k : ℕ) → get_or held.now k 0 < 2 ^ 32) × ((k : ℕ) → get_or post.now k 0 < 2 ^ 32) }
+    requires { (nets ≤ 8) × SmallRows held.now × SmallRows post.now }
     ensures { result ≡ told (failing nets 0 (even_in made.now held.now pre.now post.now)) }
 {
     for net in 0..nets {
-        if !even(net, made, held, pre, post) {
+        if !even(&made[net], &held[net], &pre[net], &post[net]) {
             return Some(net);
         }
     }

@@ -1,18 +1,16 @@
 // What an event asks and gives, added up: the sides of its move or of idling, and those of its object nets' transitions.
 #![tactic(auto)]
 
-ghost use Rattle.std.specs.Prelude.{◌≡◌, true, ℕ, ◌+◌, ◌*◌, ◌≤◌, ◌<◌, length, get_or, replicate};
+ghost use Rattle.std.specs.Prelude.{◌≡◌, true, ℕ, ◌+◌, ◌*◌, ◌≤◌, ◌<◌, length, get_or};
 ghost use Rattle.eos.specs.Vector.{◌⊕◌, times, zeros};
-ghost use Rattle.model.specs.Limits.{inner_room};
 ghost use Rattle.model.specs.Held.{SizedModel, row_in, no_net, model_of};
 ghost use Rattle.model.specs.Rules.{nth};
 ghost use Rattle.model.specs.Test.{held_model};
-ghost use Rattle.step.specs.Rule.{hold_rule, no_rule};
+ghost use Rattle.step.specs.Rule.{no_rows, hold_rule, no_rule};
 ghost use Rattle.step.specs.RuleParts.{sum_rows, pre_arcs, post_arcs, net_sums};
 
 use model::{Event, Model};
 use model_acts::outer_side;
-use model_tables::put_row;
 use step::Rule;
 
 // Row t of a table of arcs added to the sum, as often as it is counted.
@@ -49,18 +47,18 @@ fn summed(
 fn inner_sides(
     m: &Model,
     sync: &[u8; Event::SYNC],
-    pre: &mut [u64; Model::INSIDE],
-    post: &mut [u64; Model::INSIDE],
+    pre: &mut [[u64; 32]; 8],
+    post: &mut [[u64; 32]; 8],
 )
     requires { (m.now.nets ≤ 8) × ((n : ℕ) → (get_or m.now.objects n no_net).transitions ≤ 32)
-        × (pre.old ≡ replicate inner_room 0) × (post.old ≡ replicate inner_room 0) }
+        × (pre.old ≡ no_rows) × (post.old ≡ no_rows) }
     ensures { (pre.new ≡ net_sums pre_arcs m.now sync.now) × (post.new ≡ net_sums post_arcs m.now sync.now) }
 {
     for n in 0..m.nets {
         let net = &m.objects[n];
         let transitions = net.transitions;
-        put_row(pre, n, &summed(sync, n * 32, &net.pre, transitions));
-        put_row(post, n, &summed(sync, n * 32, &net.post, transitions));
+        pre[n] = summed(sync, n * 32, &net.pre, transitions);
+        post[n] = summed(sync, n * 32, &net.post, transitions);
     }
 }
 

@@ -10,7 +10,6 @@ ghost use Rattle.step.specs.Verdict.{outer_causes, inner_causes, marking_causes,
 ghost use Rattle.step.specs.VerdictParts.{Sound, Placed};
 
 use marking::NetToken;
-use model::Model;
 use step::{Cause, Refusal, Rule, Sides};
 use step_projections::containment::lacking;
 use step_projections::nets::{short_net, unbalanced_net};
@@ -46,7 +45,7 @@ pub fn on_nets(rule: &Rule, taken: &[NetToken], given: &[NetToken]) -> Result<()
     requires { Sound rule.now × Placed taken.now × Placed given.now }
     ensures { result ≡ verdict_of (length taken.now) (first (inner_causes rule.now taken.now given.now)) }
 {
-    let mut held = [0u64; Model::INSIDE];
+    let mut held = [[0u64; 32]; 8];
     inner_of(taken, &rule.types, &mut held);
     if let Some(net) = short_net(rule.nets, &rule.pre.inner, &held) {
         return Err(Refusal {
@@ -54,7 +53,7 @@ pub fn on_nets(rule: &Rule, taken: &[NetToken], given: &[NetToken]) -> Result<()
             beside: net + 1,
         });
     }
-    let mut made = [0u64; Model::INSIDE];
+    let mut made = [[0u64; 32]; 8];
     inner_of(given, &rule.types, &mut made);
     if let Some(net) = unbalanced_net(rule.nets, &made, &held, &rule.pre.inner, &rule.post.inner) {
         return Err(Refusal {

@@ -1,4 +1,4 @@
-use Prim.Native.Nat.{ℕ, ◌+◌}
+use Prim.Native.Nat.{ℕ}
 use mathlib.Core.Path.{◌≡◌, sym, ◌∙◌, ap}
 use mathlib.Core.List.{List}
 use native.Mathlib.Omega.{arith}
@@ -10,7 +10,7 @@ use Rattle.step.proofs.VectorArrays.{sum_nil, add_at, add_turn}
 use Rattle.step_projections.proofs.add_counts.Goals as goal
 
 pub loop-k-init : goal.loop-k-init
-loop-k-init c = (c.requires.0, sym (sum_nil c.args.row.now), λ i. omega (arith, c.fits-counts i))
+loop-k-init c = (c.told-row, sym (sum_nil c.args.row.now), λ i. omega (arith, c.fits-counts i))
 
 pub overflow_add-row : goal.overflow_add-row
 overflow_add-row c =
@@ -18,7 +18,7 @@ overflow_add-row c =
     let k = c.loop-k.k in
     let e : nth c.loop-k.row k ≡ nth a.row.now k =
     ap (λ (x : List ℕ). nth x k) c.loop-k.invariant.1 ∙ add_at a.row.now a.counts.now k (omega arith) (omega arith) (omega arith) in
-    omega (arith, e, c.from.ensures, c.requires.1 k, c.loop-k.invariant.2 k)
+    omega (arith, e, c.from.ensures, c.requires k, c.loop-k.invariant.2 k)
 
 pub loop-k-preserved : goal.loop-k-preserved
 loop-k-preserved c =

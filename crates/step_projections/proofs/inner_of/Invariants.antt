@@ -1,11 +1,11 @@
 -- `inner_of` adds up the insides of net-tokens. The loop's invariant: for each net, the sums of the first ones, and the projection of the others, add up to that
 -- of all.
 use Prim.Native.Nat.{ℕ, ◌≤◌, ◌*◌}
-use mathlib.Core.Path.{◌≡◌}
-use lib.ListN.{length}
 use Rattle.model.specs.Rules.{nth}
+use Rattle.step.specs.Rule.{row_of}
+use Rattle.step.specs.VerdictParts.{Rowed}
 use Rattle.step.proofs.InsideLaws.{Partly}
 use Rattle.step_projections.proofs.inner_of.Given as goal
 
 abbrev pub invariant-loop-t : goal.invariant-loop-t
-invariant-loop-t l = (length l.sums ≡ 256) × ((k : ℕ) → nth l.sums k ≤ l.t-index * 65535) × Partly l.types l.tokens l.t-index l.sums
+invariant-loop-t l = Rowed l.sums × ((n k : ℕ) → nth (row_of l.sums n) k ≤ l.t-index * 65535) × Partly l.types l.tokens l.t-index l.sums

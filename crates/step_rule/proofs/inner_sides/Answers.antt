@@ -4,8 +4,7 @@ use mathlib.Core.Path.{◌≡◌, ap, sym, ◌∙◌}
 use mathlib.Core.List.{[]}
 use native.Mathlib.Omega.{arith}
 use native.Mathlib.Nat.{sub-zero}
-use lib.ListN.{length, get_or}
-use lib.Seq.{sets, length-sets}
+use lib.ListN.{length, get_or, length-set}
 use Rattle.model.specs.Held.{no_net}
 use Rattle.model.specs.declared.ObjectNet.{ObjectNet}
 use Rattle.model.proofs.ModelSized.{told-sized}
@@ -31,12 +30,10 @@ loop-n-preserved c =
     let u : length c.summed.result ≡ 32 = search rules in
     let v : length c.summed-in-loop-n.result ≡ 32 = search rules in (
       omega arith,
-      ap length c.put_row.ensures ∙ length-sets c.loop-n.pre (n * 32) c.summed.result ∙ i.1,
-      ap length c.put_row-in-loop-n.ensures ∙ length-sets c.loop-n.post (n * 32) c.summed-in-loop-n.result ∙ i.2,
-      nets_next (net_sum pre_arcs m.objects sync) n m.nets c.loop-n.pre _ (omega arith) (sym (ap length x) ∙ u)
-          (c.put_row.ensures ∙ ap (sets c.loop-n.pre (n * 32)) x) ∙ i.3,
-      nets_next (net_sum post_arcs m.objects sync) n m.nets c.loop-n.post _ (omega arith) (sym (ap length y) ∙ v)
-          (c.put_row-in-loop-n.ensures ∙ ap (sets c.loop-n.post (n * 32)) y) ∙ i.4,
+      length-set c.loop-n.pre n c.summed.result ∙ i.1,
+      length-set c.loop-n.post n c.summed-in-loop-n.result ∙ i.2,
+      nets_next (net_sum pre_arcs m.objects sync) n m.nets c.loop-n.pre c.summed.result (omega arith) (sym (ap length x) ∙ u) x ∙ i.3,
+      nets_next (net_sum post_arcs m.objects sync) n m.nets c.loop-n.post c.summed-in-loop-n.result (omega arith) (sym (ap length y) ∙ v) y ∙ i.4,
     )
 
 pub returns : goal.returns

@@ -5,7 +5,7 @@ use mathlib.Core.Path.{sym, ap, ◌∙◌}
 use native.Mathlib.Omega.{arith}
 use Rattle.eos.specs.Vector.{le_v}
 use Rattle.eos.specs.Causes.{failing}
-use Rattle.model.specs.Held.{row_in}
+use Rattle.step.specs.Rule.{row_of}
 use Rattle.step.specs.VerdictParts.{even_in}
 use Rattle.step.specs.Verdict.{told}
 use Rattle.eos.proofs.FirstLaws.{failing-least}
@@ -15,7 +15,7 @@ use Rattle.step_verdict.proofs.on_nets.Goals as goal
 pub overflow_add-result : goal.overflow_add-result
 overflow_add-result c =
     let q = c.args.rule.now in
-    let f : ℕ → Bool = λ n. le_v (row_in 32 q.pre.inner n) (row_in 32 c.inner_of.new.sums n) in
+    let f : ℕ → Bool = λ n. le_v (row_of q.pre.inner n) (row_of c.inner_of.new.sums n) in
     omega (arith, (failing-least q.nets f c.in-Some.net (told_some (failing q.nets 0 f) c.in-Some.net c.in-Some.ensures)).within, c.requires.0.nets)
 
 pub returns-in-Some : goal.returns-in-Some

@@ -1,11 +1,13 @@
--- `enough` compares a row of one table with that of another. The loop's invariant: all before k were enough, and what stands from k on decides.
+-- `enough` compares two rows. The loop's invariant: all that were compared were enough, and what is still to come decides.
 use mathlib.Core.Path.{◌≡◌}
 use mathlib.Core.Bool.{◌&&◌}
-use lib.ListN.{drop}
+use lib.ListN.{length}
 use Rattle.eos.specs.Vector.{le_v}
-use Rattle.model.specs.Held.{row_in}
 use Rattle.step_projections.proofs.nets.enough.Given as goal
 
-abbrev pub invariant-loop-k : goal.invariant-loop-k
-invariant-loop-k l =
-    le_v (row_in 32 l.asked l.n) (row_in 32 l.held l.n) ≡ (l.all && le_v (drop l.k (row_in 32 l.asked l.n)) (drop l.k (row_in 32 l.held l.n)))
+abbrev pub invariant-loop-ask : goal.invariant-loop-ask
+invariant-loop-ask l =
+    (goal.iterator-loop-ask).can_next l.ask-iterator
+    × (goal.iterator-loop-ask).is_finite l.ask-iterator
+    × (length l.ask-iterator.a.rest.now ≡ length l.ask-iterator.b.rest.now)
+    × (le_v l.asked l.held ≡ (l.all && le_v l.ask-iterator.a.rest.now l.ask-iterator.b.rest.now))

@@ -2,11 +2,9 @@
 use mathlib.Core.Path.{◌≡◌}
 use mathlib.Core.Bool.{◌&&◌}
 use lib.ListN.{drop}
-use Rattle.eos.specs.Vector.{eq_v}
-use Rattle.model.specs.Held.{row_in}
-use Rattle.step.proofs.FirstFailing.{moved}
+use Rattle.eos.specs.Vector.{◌⊕◌, ◌⊖◌, eq_v}
+use Rattle.step.specs.VerdictParts.{even}
 use Rattle.step_projections.proofs.nets.even.Given as goal
 
 abbrev pub invariant-loop-k : goal.invariant-loop-k
-invariant-loop-k l =
-    eq_v (row_in 32 l.made l.n) (moved l.held l.pre l.post l.n) ≡ (l.all && eq_v (drop l.k (row_in 32 l.made l.n)) (drop l.k (moved l.held l.pre l.post l.n)))
+invariant-loop-k l = even l.made l.held l.pre l.post ≡ (l.all && eq_v (drop l.k l.made) (drop l.k (l.held ⊖ l.pre ⊕ l.post)))
