@@ -9,17 +9,11 @@ fn put_pair(rt: &impl Print, pair: Pair) -> io::Result<()> {
 }
 
 pub fn model(rt: &impl Print, text: &[u8]) -> io::Result<()> {
-    match engine::read_model(text) {
-        Ok(_) => put_pair(rt, Pair::accepted()),
-        Err(refusal) => put_pair(rt, Pair::from(refusal)),
-    }
+    put_pair(rt, Pair::from(engine::read_model(text)))
 }
 
 pub fn marking(rt: &impl Print, m: Model, text: &[u8]) -> io::Result<()> {
-    match engine::read_marking(&m, text) {
-        Ok(_) => put_pair(rt, Pair::accepted()),
-        Err(refusal) => put_pair(rt, Pair::from(refusal)),
-    }
+    put_pair(rt, Pair::from(engine::read_marking(&m, text)))
 }
 
 // Answers the marking after the step. A step that fired says the bytes that it used.

@@ -117,15 +117,8 @@ fn case_of(rt: &(impl Files + Print), hand: Hand, line: &[u8]) -> io::Result<Han
 
 fn all_cases(rt: &(impl Files + Print), text: &[u8]) -> io::Result<()> {
     let mut hand = hand_of(b"");
-    let mut at = 0;
-    // A line is as long as `find` answers: no index goes over the text.
-    while at < text.len() {
-        let end = at + find(&text[at..], b'\n');
-        hand = case_of(rt, hand, &text[at..end])?;
-        if end == text.len() {
-            return Ok(());
-        }
-        at = end + 1;
+    for line in text.split(|b| *b == b'\n') {
+        hand = case_of(rt, hand, line)?;
     }
     Ok(())
 }

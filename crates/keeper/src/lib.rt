@@ -130,7 +130,8 @@ fn judged(
     })
 }
 
-// Reads the weight file of a held model, judges the weights, and weighs a held marking.
+// Reads the weight file of a held model, judges the weights, and weighs a held marking. By value: of a model that is lent the type does not tell
+// a proof how long its arrays of nets and events are (tried).
 pub fn check_weights(m: Model, k: Marking, s: &[u8]) -> Result<WeightCheck, WeightRefusal>
     ensures { result ≡ weight_checking m k s.now }
 {
