@@ -12,8 +12,8 @@ use Rattle.eos.specs.Vector.{◌⊕◌, ◌⊖◌, le_v, eq_v}
 use Rattle.eos.proofs.VectorLaws.{get_d-⊕}
 use Rattle.eos.proofs.VectorSums.{long-left}
 use Rattle.model.specs.Rules.{nth}
-use Rattle.model.specs.Held.{row_in}
-use Rattle.model.proofs.TableLaws.{row_at, length-row}
+use Rattle.step.specs.Flat.{row_in}
+use Rattle.step.proofs.FlatLaws.{row_at, length-row}
 use Rattle.step.proofs.VectorArrays.{length-less, nth-less}
 
 -- ---- vectors compared number by number

@@ -12,9 +12,9 @@ use Rattle.eos.specs.Vector.{◌⊕◌, zeros}
 use Rattle.eos.proofs.VectorSums.{length-zeros, nth_zero}
 use Rattle.marking.specs.declared.NetToken.{NetToken}
 use Rattle.model.specs.Rules.{nth}
-use Rattle.model.specs.Held.{row_in}
+use Rattle.step.specs.Flat.{row_in}
 use Rattle.model.proofs.PaddedRows.{nth-zeros}
-use Rattle.model.proofs.TableLaws.{row_at, length-row}
+use Rattle.step.proofs.FlatLaws.{row_at, length-row}
 use Rattle.step.specs.Verdict.{inside_in, inner_tokens}
 use Rattle.step.specs.VerdictParts.{Added, Inner}
 use Rattle.step.proofs.VectorArrays.{sum_nil, length_added, row_added, row_kept, added_small}

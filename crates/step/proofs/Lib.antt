@@ -1,3 +1,4 @@
+pub mod FlatLaws
 pub mod ArcSums
 pub mod RuleHeld
 pub mod RuleMade

@@ -16,10 +16,11 @@ use Rattle.text.specs.Lines.{every}
 use Rattle.text.specs.Answers.{padded}
 use Rattle.text.proofs.TestLaws.{within-is}
 use Rattle.model.specs.Rules.{right_sides, right_act, frame_of, right_model}
-use Rattle.model.specs.Held.{row, row_in, listed}
+use Rattle.model.specs.Held.{row, listed}
+use Rattle.step.specs.Flat.{row_in}
 use Rattle.model.proofs.RuleLaws.{sides_long, net-is, right_is, few-nets, right_move_lem, right_net_lem, right_event_lem}
 use Rattle.model.proofs.SlotLaws.{length-listed, listed_at}
-use Rattle.model.proofs.TableLaws.{tabled-row}
+use Rattle.step.proofs.FlatLaws.{tabled-row}
 use Rattle.step.specs.Rule.{hold_sides}
 
 -- a side of a transition is as long as its net has places

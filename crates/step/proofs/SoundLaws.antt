@@ -21,11 +21,12 @@ use Rattle.text.specs.Answers.{padded}
 use Rattle.text.proofs.PaddedLaws.{at-padded}
 use Rattle.text.proofs.TestLaws.{within-is}
 use Rattle.model.specs.Rules.{nth, byte, right_sides, right_model, frame_of}
-use Rattle.model.specs.Held.{row, tabled, listed}
+use Rattle.model.specs.Held.{row, listed}
+use Rattle.step.specs.Flat.{tabled}
 use Rattle.model.proofs.PaddedRows.{small_at, nth-zeros, padded_none}
 use Rattle.model.proofs.RuleLaws.{list_is, sides_are, net-is, right_is, few-nets, few-places, right_type, right_net_lem, right_event_lem, sync_at}
 use Rattle.model.proofs.SlotLaws.{by_index, length-listed, listed_at, listed_past}
-use Rattle.model.proofs.TableLaws.{row_at, length-tabled, tabled-row}
+use Rattle.step.proofs.FlatLaws.{row_at, length-tabled, tabled-row}
 use Rattle.marking.specs.Tokens.{OnPlaces}
 use Rattle.marking.specs.Held.{sizes_of, hold_token}
 use Rattle.marking.specs.Reading.{Limits, right_net_token}

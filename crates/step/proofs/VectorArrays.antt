@@ -11,9 +11,9 @@ use Rattle.eos.specs.Vector.{◌⊕◌, ◌⊖◌, zeros, unit}
 use Rattle.eos.proofs.VectorLaws.{get_d-⊕}
 use Rattle.eos.proofs.VectorSums.{length-zeros, long-left, nth_zero}
 use Rattle.model.specs.Rules.{nth}
-use Rattle.model.specs.Held.{row_in}
+use Rattle.step.specs.Flat.{row_in}
 use Rattle.model.proofs.SlotLaws.{by_index}
-use Rattle.model.proofs.TableLaws.{row_at, length-row}
+use Rattle.step.proofs.FlatLaws.{row_at, length-row}
 
 pub sum_nil : (x : List ℕ) → x ⊕ [] ≡ x
 sum_nil [] = refl

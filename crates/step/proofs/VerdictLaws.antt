@@ -12,7 +12,7 @@ use Rattle.std.specs.Result.{IsErrAnd}
 use Rattle.eos.specs.Vector.{le_v, eq_v}
 use Rattle.eos.specs.Causes.{Cause, taking, giving, short, unequal, missing, crowded, first, unless, at, failing}
 use Rattle.marking.specs.declared.NetToken.{NetToken}
-use Rattle.model.specs.Held.{row_in}
+use Rattle.step.specs.Flat.{row_in}
 use Rattle.step.specs.declared.Sides.{Sides}
 use Rattle.step.specs.declared.Rule.{Rule}
 use Rattle.step.specs.declared.Cause.TheVariants.{Places, Short, Unequal, Missing, Crowded}

@@ -1,3 +1,4 @@
+pub mod Flat
 pub mod Rule
 pub mod RuleParts
 pub mod Verdict

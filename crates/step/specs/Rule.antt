@@ -4,7 +4,8 @@ use Rattle.text.specs.Answers.{padded}
 use Rattle.eos.specs.Model as eos
 use Rattle.eos.specs.Firing.{outer_of, inner_of, pre, post}
 use Rattle.model.specs.Limits.{inner_room}
-use Rattle.model.specs.Held.{row, tabled, listed}
+use Rattle.model.specs.Held.{row, listed}
+use Rattle.step.specs.Flat.{tabled}
 use Rattle.step.specs.declared.Sides.{Sides}
 use Rattle.step.specs.declared.Rule.{Rule}
 

@@ -8,7 +8,7 @@ use Rattle.eos.specs.Model.{Marking}
 use Rattle.eos.specs.Causes.{Refusal, Cause, taking, giving, short, unequal, missing, crowded, unless, at, failing}
 use Rattle.marking.specs.Tokens.{like}
 use Rattle.marking.specs.declared.NetToken.{NetToken}
-use Rattle.model.specs.Held.{row_in}
+use Rattle.step.specs.Flat.{row_in}
 use Rattle.step.specs.declared.Sides.{Sides}
 use Rattle.step.specs.declared.Rule.{Rule}
 use Rattle.step.specs.declared.Cause as cause

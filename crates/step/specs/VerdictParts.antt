@@ -4,7 +4,7 @@ use Rattle.eos.specs.Vector.{◌⊕◌, ◌⊖◌, eq_v}
 use Rattle.model.specs.Limits.{room_limit, count_limit, inner_room}
 use Rattle.marking.specs.Tokens.{OnPlaces}
 use Rattle.marking.specs.declared.NetToken.{NetToken}
-use Rattle.model.specs.Held.{row_in}
+use Rattle.step.specs.Flat.{row_in}
 use Rattle.step.specs.declared.Rule.{Rule}
 use Rattle.step.specs.Verdict.{inside_in, inner_tokens}
 

@@ -3,7 +3,7 @@
 ghost use Rattle.std.specs.Prelude.{◌≡◌, ℕ, ◌^◌, ◌≤◌, ◌<◌, get_or};
 ghost use Rattle.eos.specs.Vector.{le_v};
 ghost use Rattle.eos.specs.Causes.{failing};
-ghost use Rattle.model.specs.Held.{row_in};
+ghost use Rattle.step.specs.Flat.{row_in};
 ghost use Rattle.step.specs.Verdict.{told};
 ghost use Rattle.step.specs.VerdictParts.{even_in};
 

@@ -3,7 +3,8 @@ use Prim.Native.Nat.{◌-◌, ◌≤◌}
 use mathlib.Core.Path.{◌≡◌}
 use lib.ListN.{length}
 use Rattle.text.specs.Repeat.{fill}
-use Rattle.model.specs.Held.{row, put_row, listed}
+use Rattle.model.specs.Held.{row, listed}
+use Rattle.step.specs.Flat.{put_row}
 use Rattle.step.specs.RuleParts.{net_sum, net_sums, pre_arcs, post_arcs}
 use Rattle.step_rule.proofs.inner_sides.Given as goal
 

@@ -5,7 +5,7 @@ use mathlib.Core.Path.{sym, ap, ◌∙◌}
 use native.Mathlib.Omega.{arith}
 use Rattle.eos.specs.Vector.{le_v}
 use Rattle.eos.specs.Causes.{failing}
-use Rattle.model.specs.Held.{row_in}
+use Rattle.step.specs.Flat.{row_in}
 use Rattle.step.specs.VerdictParts.{even_in}
 use Rattle.step.specs.Verdict.{told}
 use Rattle.eos.proofs.FirstLaws.{failing-least}

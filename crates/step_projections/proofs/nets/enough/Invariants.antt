@@ -3,7 +3,7 @@ use mathlib.Core.Path.{◌≡◌}
 use mathlib.Core.Bool.{◌&&◌}
 use lib.ListN.{drop}
 use Rattle.eos.specs.Vector.{le_v}
-use Rattle.model.specs.Held.{row_in}
+use Rattle.step.specs.Flat.{row_in}
 use Rattle.step_projections.proofs.nets.enough.Given as goal
 
 abbrev pub invariant-loop-k : goal.invariant-loop-k

@@ -5,7 +5,7 @@ use mathlib.Core.Bool.{Bool}
 use mathlib.Core.List.{List}
 use Rattle.eos.specs.Vector.{le_v}
 use Rattle.eos.specs.Causes.{failing}
-use Rattle.model.specs.Held.{row_in}
+use Rattle.step.specs.Flat.{row_in}
 use Rattle.step_projections.proofs.nets.short_net.Given as goal
 
 -- net n is asked no more than is held
