@@ -5,10 +5,10 @@ use std::io;
 
 fn models(rt: &impl Print, m: Model) -> io::Result<()> {
     let mut held = m;
-    held.pre[1023] = 1;
+    held.pre[31][31] = 1;
     print!(rt; "unused room not 0: ")?;
     marking(rt, held, b"start=0\n")?;
-    held.pre[1023] = 0;
+    held.pre[31][31] = 0;
     held.types[1] = 0;
     print!(rt; "held move that loses a type: ")?;
     marking(rt, held, b"start=0\n")?;

@@ -19,7 +19,7 @@ use Rattle.eos.proofs.FirstLaws.{failing-least}
 use Rattle.eos.specs.Weights.{Weights, dot, dots, value, is_zero, effect}
 use Rattle.model.specs.Rules.{nth, right_act}
 use Rattle.model.specs.Acts.{act_of, move_of}
-use Rattle.model.specs.Held.{no_net, no_event, row_in, event_of, model_of}
+use Rattle.model.specs.Held.{no_net, no_event, row_at, event_of, model_of}
 use Rattle.model.specs.Test.{frame_in, held_model}
 use Rattle.model.specs.declared.Event.{Event}
 use Rattle.model.specs.declared.Model.{Model}
@@ -50,13 +50,13 @@ module _ (m : Model) (w : Weights) (kept : Kept m w) (k : ℕ) (listed : k < m.l
   abbrev outside : (eos.Transition → List ℕ) → ℤ
   outside side = dot w.outward (outer_of side (model_of m) event)
 
-  abbrev counted : (ℕ → List ℕ) → ℕ → ℕ → ℤ
-  counted nets n t = dot (row_of rows (suc n)) (row_in 32 (nets n) t) *ℤ pos (nth (row_in 32 held.sync n) t)
+  abbrev counted : (ℕ → List (List ℕ)) → ℕ → ℕ → ℤ
+  counted nets n t = dot (row_of rows (suc n)) (row_at (nets n) t) *ℤ pos (nth (row_at held.sync n) t)
 
-  abbrev pres : ℕ → List ℕ
+  abbrev pres : ℕ → List (List ℕ)
   pres n = (get_or m.objects n no_net).pre
 
-  abbrev posts : ℕ → List ℕ
+  abbrev posts : ℕ → List (List ℕ)
   posts n = (get_or m.objects n no_net).post
 
   inside-pre : inside pre ≡ total m.nets (λ n. total 32 (counted pres n))
@@ -76,18 +76,18 @@ module _ (m : Model) (w : Weights) (kept : Kept m w) (k : ℕ) (listed : k < m.l
   act_right = (act-is (frame_in m) held.kind held.index (event_used m (held-is m kept.held) k listed).act).right
 
   module _ (gains : List (List ℤ)) (is : Gains m rows gains) where
-    net_gain : (n : ℕ) → n < m.nets → dot (row_of gains (suc n)) (row_in 32 held.sync n) ≡ total 32 (counted posts n) -ℤ total 32 (counted pres n)
+    net_gain : (n : ℕ) → n < m.nets → dot (row_of gains (suc n)) (row_at held.sync n) ≡ total 32 (counted posts n) -ℤ total 32 (counted pres n)
     unfolding gain_of
     net_gain n p =
-        dot_total (row_of gains (suc n)) (row_in 32 held.sync n) 32 (omega (arith, (is.nets n p).long))
+        dot_total (row_of gains (suc n)) (row_at held.sync n) 32 (omega (arith, (is.nets n p).long))
         ∙ total_same 32 _ (λ t. counted posts n t -ℤ counted pres n t)
         (λ t q.
-        let c = nth (row_in 32 held.sync n) t in
+        let c = nth (row_at held.sync n) t in
         ap (λ (z : ℤ). z *ℤ pos c) ((is.nets n p).is t q)
-        ∙ minus_times (dot (row_of rows (suc n)) (row_in 32 (posts n) t)) (dot (row_of rows (suc n)) (row_in 32 (pres n) t)) c)
+        ∙ minus_times (dot (row_of rows (suc n)) (row_at (posts n) t)) (dot (row_of rows (suc n)) (row_at (pres n) t)) c)
         ∙ total_minus 32 (counted posts n) (counted pres n)
 
-    inside_gain : total m.nets (λ n. dot (row_of gains (suc n)) (row_in 32 held.sync n)) ≡ inside post -ℤ inside pre
+    inside_gain : total m.nets (λ n. dot (row_of gains (suc n)) (row_at held.sync n)) ≡ inside post -ℤ inside pre
     inside_gain =
         total_same m.nets _ (λ n. total 32 (counted posts n) -ℤ total 32 (counted pres n)) net_gain
         ∙ total_minus m.nets (λ n. total 32 (counted posts n)) (λ n. total 32 (counted pres n))

@@ -1,10 +1,10 @@
 -- Weighted sums of vectors as sums over indices, which do not see where a vector ends.
-use Prim.Native.Nat.{ℕ, zero, suc, ◌+◌, ◌*◌, ◌≤◌, ◌<◌}
+use Prim.Native.Nat.{ℕ, zero, suc, ◌+◌, ◌≤◌, ◌<◌}
 use mathlib.Core.Path.{◌≡◌, refl, sym, ap, ap₂, ◌∙◌}
 use mathlib.Core.List.{List, [], ◌∷◌}
 use native.Mathlib.Omega.{arith}
 use lib.IntN.{ℤ, pos, ◌+ℤ◌, ◌-ℤ◌, ◌*ℤ◌, +ℤ_idl, +ℤ_idr, one, *ℤ-one, *ℤ-zero, zero-*ℤ}
-use lib.ListN.{length, drop, get_or, get_or-eq_default}
+use lib.ListN.{length, get_or, get_or-eq_default}
 use lib.Seq.{get_or-take}
 use Rattle.std.proofs.lemmas.Int.{ints}
 use Rattle.eos.specs.Vector.{◌⊕◌, times, zeros, unit, ◌≤ᵛ◌}
@@ -13,7 +13,7 @@ use Rattle.eos.specs.Firing.{summed, inner_of}
 use Rattle.eos.specs.Weights.{dot, dots}
 use Rattle.eos.proofs.WeightLaws.{*ℤ-pos-+, dot-⊕, dot_zero, zeros_none}
 use Rattle.model.specs.Rules.{nth}
-use Rattle.model.specs.Held.{row_in}
+use Rattle.model.specs.Held.{row_at, row_in}
 use Rattle.model.proofs.SlotLaws.{by_index}
 use Rattle.weigh.specs.Sums.{total, number_of}
 use Rattle.weigh.proofs.TotalLaws.{total_none, total_same, total_zero, total_front}
@@ -116,6 +116,6 @@ dot_row u w x y few long held is =
     ap (λ (v : ℤ). v *ℤ pos (nth x i)) z ∙ zero-*ℤ (pos (nth x i)) ∙ sym (ap (λ (v : ℤ). v *ℤ pos (nth y i)) y' ∙ zero-*ℤ (pos (nth y i)))))
     ∙ sym (dot_total w y 32 long)
 
-pub row-nth : (n m : ℕ) (table : List ℕ) (t i : ℕ) → i < n → i < m → nth (row_in n table t) i ≡ nth (row_in m table t) i
-row-nth n m table t i h k =
-    get_or-take n (drop (t * 32) table) i 0 h ∙ sym (get_or-take m (drop (t * 32) table) i 0 k)
+-- a number among the first of a row is one of the row
+pub row-nth : (n : ℕ) (table : List (List ℕ)) (t i : ℕ) → i < n → nth (row_in n table t) i ≡ nth (row_at table t) i
+row-nth n table t i h = get_or-take n (row_at table t) i 0 h

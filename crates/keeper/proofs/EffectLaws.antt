@@ -1,11 +1,11 @@
 -- What an event's net parts and its move weigh, by the tables where they are held.
-use Prim.Native.Nat.{ℕ, suc, ◌+◌, ◌*◌, ◌≤◌, ◌<◌}
+use Prim.Native.Nat.{ℕ, suc, ◌+◌, ◌≤◌, ◌<◌}
 use mathlib.Core.Path.{◌≡◌, ap, ap₂, sym, ◌∙◌}
 use mathlib.Core.List.{List, []}
 use native.Mathlib.Omega.{arith}
 use native.Mathlib.Nat.{zero-add}
 use lib.IntN.{ℤ, pos, ◌+ℤ◌, ◌*ℤ◌, +ℤ_idr, *ℤ-zero}
-use lib.ListN.{length, drop, get_or, get_or-eq_default, length-take}
+use lib.ListN.{length, get_or, get_or-eq_default, length-take}
 use Rattle.text.proofs.TestLaws.{within-is}
 use Rattle.eos.specs.Vector.{zeros, unit}
 use Rattle.eos.specs.Model as eos
@@ -13,7 +13,7 @@ use Rattle.eos.specs.Firing.{outer_of, inner_of}
 use Rattle.eos.specs.Weights.{Weights, dot, dots}
 use Rattle.eos.proofs.WeightLaws.{dot-⊕}
 use Rattle.model.specs.Rules.{nth}
-use Rattle.model.specs.Held.{no_net, no_event, row_in, sides_in, sync_in, net_of, event_of, model_of}
+use Rattle.model.specs.Held.{no_net, no_event, row_at, row_in, sides_in, sync_in, net_of, event_of, model_of}
 use Rattle.model.specs.Test.{frame_in}
 use Rattle.model.specs.declared.ObjectNet.{ObjectNet}
 use Rattle.model.specs.declared.Event.{Event}
@@ -52,16 +52,16 @@ module _ (m : Model) (w : Weights) (kept : Kept m w) (k : ℕ) (listed : k < m.l
   unfolding event_of
   counts_are_lem n p = ap (λ (e : eos.Event). get_or e.sync n []) (event-is m k listed) ∙ listed_at (sync_in m.objects held.sync) m.nets n [] p
 
-  counts-at : (n : ℕ) → n < m.nets → (t : ℕ) → t < 32 → nth (get_or event.sync n []) t ≡ nth (row_in 32 held.sync n) t
+  counts-at : (n : ℕ) → n < m.nets → (t : ℕ) → t < 32 → nth (get_or event.sync n []) t ≡ nth (row_at held.sync n) t
   counts-at n p t q =
       ap (λ (l : List ℕ). nth l t) (counts_are_lem n p)
-      ∙ ap (λ (g : ℕ → ℕ). g t) (nth-row 8 m.nets (frame_in m).steps held.sync (event_used m (held-is m kept.held) k listed).past (few-nets m w kept) n p (few-steps n p))
+      ∙ ap (λ (g : ℕ → ℕ). g t) (nth-row 8 m.nets (frame_in m).steps held.sync (event_used m (held-is m kept.held) k listed).past (few-nets m w kept) n p)
 
   counts-few : (n : ℕ) → n < m.nets → length (get_or event.sync n []) ≤ (net n).transitions
-  counts-few n p = rw (counts_are_lem n p) (omega (arith, length-take (net n).transitions (drop (n * 32) held.sync)))
+  counts-few n p = rw (counts_are_lem n p) (omega (arith, length-take (net n).transitions (row_at held.sync n)))
 
   -- one side of transitions: of moves in one table, of each net's in another
-  module _ (side : eos.Transition → List ℕ) (nothing : side eos.no_transition ≡ []) (moves : List ℕ) (nets : ℕ → List ℕ)
+  module _ (side : eos.Transition → List ℕ) (nothing : side eos.no_transition ≡ []) (moves : List (List ℕ)) (nets : ℕ → List (List ℕ))
       (move-side : (i : ℕ) → side (sides_in m.places m.pre m.post i) ≡ row_in m.places moves i)
       (net-side : (n i : ℕ) → side (sides_in (net n).places (net n).pre (net n).post i) ≡ row_in (net n).places (nets n) i) where
     transition_is : (n t : ℕ) → n < m.nets → t < (net n).transitions
@@ -72,7 +72,7 @@ module _ (m : Model) (w : Weights) (kept : Kept m w) (k : ℕ) (listed : k < m.l
         ∙ ap side (listed_at (sides_in (net n).places (net n).pre (net n).post) (net n).transitions t eos.no_transition q) ∙ net-side n t
 
     abbrev counted : ℕ → ℕ → ℤ
-    counted n t = dot (row_of rows (suc n)) (row_in 32 (nets n) t) *ℤ pos (nth (row_in 32 held.sync n) t)
+    counted n t = dot (row_of rows (suc n)) (row_at (nets n) t) *ℤ pos (nth (row_at held.sync n) t)
 
     one_part : (n : ℕ) → n < m.nets → (t : ℕ) → t < 32
         → dot (get_or w.inward n []) (side (get_or (eos.net (model_of m) n).transitions t eos.no_transition)) *ℤ pos (nth (get_or event.sync n []) t) ≡ counted n t
@@ -82,15 +82,15 @@ module _ (m : Model) (w : Weights) (kept : Kept m w) (k : ℕ) (listed : k < m.l
         let long = net-long m w kept n p in
         ap₂ (λ (v : ℤ) (c : ℕ). v *ℤ pos c)
         (ap (dot (get_or w.inward n [])) (transition_is n t p r)
-        ∙ dot_row (get_or w.inward n []) (row_of rows (suc n)) (row_in (net n).places (nets n) t) (row_in 32 (nets n) t)
+        ∙ dot_row (get_or w.inward n []) (row_of rows (suc n)) (row_in (net n).places (nets n) t) (row_at (nets n) t)
         (omega (arith, long, net-small m w kept n)) (inner-few m w kept n p) (inner-at m w kept n p)
-        (λ i h. row-nth (net n).places 32 (nets n) t i (omega (arith, long)) (omega (arith, long, net-small m w kept n))))
+        (λ i h. row-nth (net n).places (nets n) t i (omega (arith, long))))
         (counts-at n p t q))
         (λ r.
         let z : nth (get_or event.sync n []) t ≡ 0 = get_or-eq_default (get_or event.sync n []) 0 (omega (arith, counts-few n p)) in
-        let y : nth (row_in 32 held.sync n) t ≡ 0 = sym (counts-at n p t q) ∙ z in
+        let y : nth (row_at held.sync n) t ≡ 0 = sym (counts-at n p t q) ∙ z in
         let a = dot (get_or w.inward n []) (side (get_or (eos.net (model_of m) n).transitions t eos.no_transition)) in
-        let b = dot (row_of rows (suc n)) (row_in 32 (nets n) t) in
+        let b = dot (row_of rows (suc n)) (row_at (nets n) t) in
         ap (λ (c : ℕ). a *ℤ pos c) z ∙ *ℤ-zero a ∙ sym (ap (λ (c : ℕ). b *ℤ pos c) y ∙ *ℤ-zero b))
 
     net_part : (n : ℕ) → n < m.nets → dot (get_or w.inward n []) (inner_of side (model_of m) event n) ≡ total 32 (counted n)
@@ -107,13 +107,13 @@ module _ (m : Model) (w : Weights) (kept : Kept m w) (k : ℕ) (listed : k < m.l
 
     -- what its move weighs
     pub outside_move : (j : ℕ) → j < m.moves → event.act ≡ eos.move j
-        → dot w.outward (outer_of side (model_of m) event) ≡ dot (row_of rows 0) (row_in 32 moves j)
+        → dot w.outward (outer_of side (model_of m) event) ≡ dot (row_of rows 0) (row_at moves j)
     unfolding outer_of model_of
     outside_move j p e =
         let long = outer-long m w kept in
         ap (dot w.outward) (rw e (ap side (listed_at (sides_in m.places m.pre m.post) m.moves j eos.no_transition p) ∙ move-side j))
-        ∙ dot_row w.outward (row_of rows 0) (row_in m.places moves j) (row_in 32 moves j) (omega (arith, long, few-places m w kept)) (outer-few m w kept) (outer-at m w kept)
-        (λ i h. row-nth m.places 32 moves j i (omega (arith, long)) (omega (arith, long, few-places m w kept)))
+        ∙ dot_row w.outward (row_of rows 0) (row_in m.places moves j) (row_at moves j) (omega (arith, long, few-places m w kept)) (outer-few m w kept) (outer-at m w kept)
+        (λ i h. row-nth m.places moves j i (omega (arith, long)))
 
     -- and idling
     pub outside_idle : (j : ℕ) → event.act ≡ eos.idle j → dot w.outward (outer_of side (model_of m) event) ≡ number_of w.outward j

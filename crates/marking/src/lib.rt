@@ -38,8 +38,7 @@ pub struct Marking {
 }
 
 impl Marking {
-    // A constant's value calls no function, and so no From.
-    pub const ROOM: usize = Model::ROOM as usize;
+    pub const ROOM: usize = Model::ROOM;
 
     // No net-token.
     pub fn empty() -> Marking

@@ -15,8 +15,7 @@ use Rattle.eos.specs.Firing.{act_side}
 use Rattle.eos.proofs.VectorSums.{length-one}
 use Rattle.model.specs.Rules.{Frame, right_act, own_net}
 use Rattle.model.specs.Acts.{kind_of, index_of, act_of, is_act, held_act, own_in, outer_in}
-use Rattle.model.specs.Held.{row_in}
-use Rattle.model.proofs.TableLaws.{length-row}
+use Rattle.model.specs.Held.{row_at}
 
 -- ---- an act, held and read back
 
@@ -102,11 +101,11 @@ module _ (f : Frame) where
 
 -- ---- the outer side
 
-pub outer_wide : (kind i : ℕ) (table : List ℕ) → length table ≡ 1024 → 1 ≤ i → i ≤ 32 → length (outer_in kind i (row_in 32 table)) ≡ 32
-outer_wide kind i table long some few = go (act_of kind i) (index_back kind i some)
+pub outer_wide : (kind i : ℕ) (table : List (List ℕ)) → ((k : ℕ) → k < 32 → length (row_at table k) ≡ 32) → 1 ≤ i → i ≤ 32 → length (outer_in kind i (row_at table)) ≡ 32
+outer_wide kind i table wide some few = go (act_of kind i) (index_back kind i some)
   where
-    go : (a : Act) → index_of a ≡ i → length (act_side (row_in 32 table) 32 a) ≡ 32
-    go (move k) e = length-row table k 32 (omega arith)
+    go : (a : Act) → index_of a ≡ i → length (act_side (row_at table) 32 a) ≡ 32
+    go (move k) e = wide k (omega arith)
     go (idle p) e = length-one p 32 (omega arith)
 
 -- one net-token on a place

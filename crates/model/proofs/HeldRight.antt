@@ -1,5 +1,5 @@
 -- What passes the test of a held model stands for a right model.
-use Prim.Native.Nat.{ℕ, ◌+◌, ◌*◌, ◌≤◌, ◌<◌}
+use Prim.Native.Nat.{ℕ, ◌≤◌, ◌<◌}
 use mathlib.Core.Path.{◌≡◌, ap, ◌∙◌, fun_ext}
 use mathlib.Core.List.{List, []}
 use mathlib.Core.Bool.{true}
@@ -7,14 +7,14 @@ use native.Mathlib.Omega.{arith}
 use native.Mathlib.Nat.{zero-add}
 use lib.Dec.{leb}
 use borrow.Author.Tests.{le-leb}
-use lib.ListN.{length, take, drop, get_or}
-use lib.Seq.{get_or-take, get_or-drop, length-take-le}
+use lib.ListN.{length, take, get_or}
+use lib.Seq.{get_or-take, length-take-le}
 use Rattle.text.specs.Lines.{in_range, every}
 use Rattle.text.proofs.TestLaws.{and_both, and_eqb, within-is, every_of, every_at_of}
 use Rattle.eos.specs.Model as eos
 use Rattle.model.specs.Rules.{nth, byte, list_of, frame_of, monotonous, right_sides, keeps_types, right_move, own_net, takes_part, right_net, right_sync, right_event, right_model}
 use Rattle.model.specs.Acts.{act_of}
-use Rattle.model.specs.Held.{no_net, no_event, Bytes, SizedNet, SizedModel, row_in, listed, sides_in, net_of, sync_in, event_of, model_of}
+use Rattle.model.specs.Held.{no_net, no_event, Bytes, SizedNet, SizedModel, row_at, row_in, listed, sides_in, net_of, sync_in, event_of, model_of}
 use Rattle.model.specs.Test.{frame_in}
 use Rattle.model.specs.declared.ObjectNet.{ObjectNet}
 use Rattle.model.specs.declared.Event.{Event}
@@ -30,16 +30,15 @@ use Rattle.model.proofs.HeldTests.{Held, most-nets, most-places, most-moves, mos
 use Rattle.model.proofs.HeldActs.{act-is}
 
 -- n numbers of a row of bytes
-row_right : (rows : ℕ) (t : List ℕ) → Bytes (rows * 32) t → (i n : ℕ) → i < rows → n ≤ 32 → list_of n byte (row_in n t i) ≡ true
+row_right : (rows : ℕ) (t : List (List ℕ)) → Bytes rows t → (i n : ℕ) → i < rows → n ≤ 32 → list_of n byte (row_in n t i) ≡ true
 row_right rows t b i n h small =
-    let long = length-row t i n (omega (arith, b.long)) in
+    let long = length-row t i n (omega (arith, b.wide i h)) in
     and_eqb (length (row_in n t i)) n (every byte (row_in n t i)) long
     (every_of byte (row_in n t i) 0 (λ c p.
-    let e = get_or-take n (drop (i * 32) t) c 0 (omega arith) ∙ get_or-drop (i * 32) t c 0 in
-    rw e (le-leb (nth t (i * 32 + c)) 255 (b.small (i * 32 + c)))))
+    rw (get_or-take n (row_at t i) c 0 (omega arith)) (le-leb (nth (row_at t i) c) 255 (b.small i c))))
 
 -- the transitions of a table
-sides_right : (size : ℕ) (pre post : List ℕ) → Bytes 1024 pre → Bytes 1024 post → size ≤ 32 → (i : ℕ) → i < 32 → right_sides size (sides_in size pre post i) ≡ true
+sides_right : (size : ℕ) (pre post : List (List ℕ)) → Bytes 32 pre → Bytes 32 post → size ≤ 32 → (i : ℕ) → i < 32 → right_sides size (sides_in size pre post i) ≡ true
 unfolding right_sides
 sides_right size pre post a b small i h =
     and_both (list_of size byte (row_in size pre i)) (list_of size byte (row_in size post i)) (row_right 32 pre a i size h small) (row_right 32 post b i size h small)
@@ -89,8 +88,8 @@ module _ (m : Model) (sized : SizedModel m) (held : Held m) where
       let h = moves_are m held.moves in
       let few = most-moves m held in
       let a = fun_ext (nth-taken m.places m.types (types-empty m held sized.types)) in
-      let b = nth-row 32 m.moves (λ i. m.places) m.pre h.pre few i p places in
-      let c = nth-row 32 m.moves (λ i. m.places) m.post h.post few i p places in
+      let b = nth-row 32 m.moves (λ i. m.places) m.pre h.pre few i p in
+      let c = nth-row 32 m.moves (λ i. m.places) m.post h.post few i p in
       let k : keeps_types m.nets types_in (side i) ≡ true = (λ j. monotonous m.nets (types_long j) (a j) (b j) (c j)) ∙ h.typed i p in
       and_both (right_sides (length types_in) (side i)) (keeps_types m.nets types_in (side i))
       (rw types_long (sides_right m.places m.pre m.post sized.pre sized.post places i (omega arith))) k
@@ -99,7 +98,7 @@ module _ (m : Model) (sized : SizedModel m) (held : Held m) where
   steps : (i : ℕ) → i < m.nets → (net i).transitions ≤ 32
   steps i p = (within-is 0 32 (net i).transitions (net_used m held i p).1).1
 
-  event_right : (e : Event) → Bytes 256 e.sync → EventIn (frame_in m) e → right_event (frame_in m) (event_of m.nets m.objects e) ≡ true
+  event_right : (e : Event) → Bytes 8 e.sync → EventIn (frame_in m) e → right_event (frame_in m) (event_of m.nets m.objects e) ≡ true
   unfolding event_of right_sync
   event_right e b h =
       let f = frame_in m in
@@ -113,8 +112,8 @@ module _ (m : Model) (sized : SizedModel m) (held : Held m) where
             let q : i < m.nets = omega (arith, long) in
             let w = (net i).transitions in
             let v = row_in w e.sync i in
-            let same = empty-row 8 m.nets f.steps e.sync h.past nets b.long i q (steps i q) in
-            let part : takes_part (own_net f.type a) i v ≡ true = part_same _ i v (row_in 32 e.sync i) same ∙ h.part i q in
+            let same = empty-row 8 m.nets f.steps e.sync h.past nets i q in
+            let part : takes_part (own_net f.type a) i v ≡ true = part_same _ i v (row_at e.sync i) same ∙ h.part i q in
             rw (zero-add i, listed_at g m.nets i [] q)
             (and_both (list_of w byte v) (takes_part (own_net f.type a) i v) (row_right 8 e.sync b i w (omega (arith, nets)) (steps i q)) part));
       })

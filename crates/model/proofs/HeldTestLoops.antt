@@ -1,21 +1,21 @@
 -- The test of a held model by one turn of the loops that make it, and what holds of tables with unused room.
-use Prim.Native.Nat.{ℕ, zero, suc, ◌+◌, ◌-◌, ◌*◌, ◌≤◌, ◌<◌}
+use Prim.Native.Nat.{ℕ, zero, suc, ◌+◌, ◌-◌, ◌≤◌, ◌<◌}
 use mathlib.Core.Path.{◌≡◌, refl, sym, ap, ◌∙◌}
-use mathlib.Core.List.{List, [], ◌∷◌, ◌++◌}
+use mathlib.Core.List.{List, [], ◌∷◌}
 use mathlib.Core.Bool.{Bool, true, false, cond, ◌&&◌, and-true, and-false, and_assoc, and_comm}
 use native.Mathlib.Omega.{arith}
 use native.Mathlib.Nat.{add-zero, add-suc}
 use lib.Dec.{leb, eqb, ltb}
 use borrow.Author.Tests.{leb-true, eqb-true, eqb-false, lt-ltb, le-ltb}
-use lib.ListN.{length, take, drop, get_or, set, replicate, get_or-replicate, take-append-drop, drop_of_length-le}
-use lib.Seq.{get_or-set_same, get_or-set_other, drop-drop}
+use lib.ListN.{length, drop, get_or, set, replicate, get_or-replicate, drop_of_length-le}
+use lib.Seq.{get_or-set_same, get_or-set_other, drop-cons}
 use Rattle.eos.specs.Firing.{all_below}
 use Rattle.std.specs.List.{fold}
 use Rattle.text.specs.Lines.{in_range, every}
 use Rattle.text.proofs.Basics as T
 use Rattle.text.proofs.Basics.{by_test}
 use Rattle.model.specs.Rules.{nth, Frame}
-use Rattle.model.specs.Held.{no_net}
+use Rattle.model.specs.Held.{no_net, row_at}
 use Rattle.model.specs.Test.{empty, empty_past, used_of, held_events, frame_in, counts_are, empty_at, used_in, sizes_are, framed, event_at}
 use Rattle.model.specs.declared.Model.{Model}
 
@@ -45,49 +45,42 @@ all_folded f (a ∷ l) all = all_folded f l (all && f a) ∙ and_assoc all (f a)
 
 -- ---- tables with unused room
 
-and_swap : (a b c : Bool) → (a && b && c) ≡ (b && (a && c))
-and_swap true b c = refl
-and_swap false b c = sym (and-false b)
-
-empty_join : (a b : List ℕ) → empty (a ++ b) ≡ (empty a && empty b)
-empty_join [] b = refl
-empty_join (x ∷ a) b = rw (empty_join a b) (sym (and_assoc (eqb x 0) (empty a) (empty b)))
-
-empty_split : (n : ℕ) (l : List ℕ) → (empty (take n l) && empty (drop n l)) ≡ empty l
-empty_split n l = sym (empty_join (take n l) (drop n l)) ∙ rw (take-append-drop n l)
-
 all_same : (f g : ℕ → Bool) (n : ℕ) → ((i : ℕ) → i < n → f i ≡ g i) → all_below n f ≡ all_below n g
 all_same f g zero h = refl
 all_same f g (suc n) h = rw (h n (omega arith), all_same f g n (λ i k. h i (omega arith)))
 
-module _ (width : ℕ → ℕ) (table : List ℕ) (n : ℕ) where
-  -- rows of which nothing is used are tested as one part
-  unused : (k : ℕ) → (all_below (n + k) (empty_at (used_in n width) table) && empty (drop ((n + k) * 32) table))
-      ≡ (all_below n (empty_at width table) && empty (drop (n * 32) table))
-  unused zero =
-      rw (add-zero n)
-      (ap (λ (t : Bool). t && empty (drop (n * 32) table))
-      (all_same (empty_at (used_in n width) table) (empty_at width table) n (λ i h. rw (lt-ltb i n h))))
-  unused (suc k) =
-      let j = n + k in
-      let e : empty_at (used_in n width) table j ≡ empty (take 32 (drop (j * 32) table)) = rw (le-ltb j n (omega arith)) in
-      let q : suc j * 32 ≡ j * 32 + 32 = omega arith in
-      let d : drop (suc j * 32) table ≡ drop 32 (drop (j * 32) table) = rw q (sym (drop-drop 32 (j * 32) table)) in
-      rw (add-suc n k, d, e)
-      (and_swap (empty (take 32 (drop (j * 32) table))) (all_below j (empty_at (used_in n width) table)) (empty (drop 32 (drop (j * 32) table)))
-      ∙ ap (λ (t : Bool). all_below j (empty_at (used_in n width) table) && t) (empty_split 32 (drop (j * 32) table))
-      ∙ unused k)
+and_swap : (a b c : Bool) → (a && b && c) ≡ (b && (a && c))
+and_swap true b c = refl
+and_swap false b c = sym (and-false b)
 
-  pub past_rows : (rows : ℕ) → n ≤ rows → length table ≤ rows * 32
-      → (empty (drop (n * 32) table) && all_below n (empty_at width table)) ≡ empty_past rows (used_in n width) table
+module _ (width : ℕ → ℕ) (table : List (List ℕ)) (n : ℕ) where
+  -- rows of which nothing is used are tested as one part
+  unused : (k : ℕ) → n + k ≤ length table
+      → (all_below (n + k) (empty_at (used_in n width) table) && every empty (drop (n + k) table)) ≡ (all_below n (empty_at width table) && every empty (drop n table))
+  unused zero h =
+      rw (add-zero n)
+      (ap (λ (t : Bool). t && every empty (drop n table))
+      (all_same (empty_at (used_in n width) table) (empty_at width table) n (λ i h. rw (lt-ltb i n h))))
+  unused (suc k) h =
+      let j = n + k in
+      let e : empty_at (used_in n width) table j ≡ empty (row_at table j) = rw (le-ltb j n (omega arith)) in
+      let d : every empty (drop j table) ≡ (empty (row_at table j) && every empty (drop (suc j) table)) = ap (every empty) (drop-cons table j [] (omega arith)) in
+      rw (add-suc n k, e)
+      (and_swap (empty (row_at table j)) (all_below j (empty_at (used_in n width) table)) (every empty (drop (suc j) table))
+      ∙ ap (λ (t : Bool). all_below j (empty_at (used_in n width) table) && t) (sym d) ∙ unused k (omega arith))
+
+  pub past_rows : n ≤ length table → (every empty (drop n table) && all_below n (empty_at width table)) ≡ empty_past (length table) (used_in n width) table
   unfolding empty_past
-  past_rows rows h m =
+  past_rows h =
+      let rows = length table in
       let e : n + (rows - n) ≡ rows = omega arith in
-      and_comm (empty (drop (n * 32) table)) (all_below n (empty_at width table)) ∙ sym (unused (rows - n))
-      ∙ rw (e, drop_of_length-le table m, and-true (all_below rows (empty_at (used_in n width) table)))
+      let all : rows ≤ rows = omega arith in
+      let none : every empty (drop rows table) ≡ true = ap (every empty) (drop_of_length-le table all) in
+      and_comm (every empty (drop n table)) (all_below n (empty_at width table)) ∙ sym (unused (rows - n) (omega arith))
+      ∙ rw (e, none, and-true (all_below rows (empty_at (used_in n width) table)))
 
 -- rows of one width
-pub one_width : (n width : ℕ) (table : List ℕ) → empty_past 32 (used_in n (nth (replicate 32 width))) table ≡ empty_past 32 (used_of n width) table
+pub one_width : (n width : ℕ) (table : List (List ℕ)) → empty_past 32 (used_in n (nth (replicate 32 width))) table ≡ empty_past 32 (used_of n width) table
 unfolding empty_past
 one_width n width table =
     all_same (empty_at (used_in n (nth (replicate 32 width))) table) (empty_at (used_of n width) table) 32 (λ i h. rw (get_or-replicate 32 i width 0 h))

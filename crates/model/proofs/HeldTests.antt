@@ -11,7 +11,7 @@ use Rattle.text.proofs.TestLaws.{within-is}
 use Rattle.text.specs.Answers.{padded}
 use Rattle.model.specs.Rules.{Frame, takes_part}
 use Rattle.model.specs.Acts.{held_act, own_in}
-use Rattle.model.specs.Held.{row_in}
+use Rattle.model.specs.Held.{row_at}
 use Rattle.model.specs.Test.{empty, empty_past, used_of, held_types, held_moves, held_nets, frame_in, held_event, held_events, held_model, counts_are, type_at, sizes_are, net_at, event_at, move_at}
 use Rattle.model.specs.declared.ObjectNet.{ObjectNet}
 use Rattle.model.specs.declared.Event.{Event}
@@ -138,7 +138,7 @@ are_moves m h = rw (h.pre, h.post) (below_of m.moves (move_test m) h.typed)
 
 -- whether net n takes part as it has to
 abbrev pub part_test : Frame → Event → ℕ → Bool
-part_test f e n = takes_part (own_in f.type e.kind e.index) n (row_in 32 e.sync n)
+part_test f e n = takes_part (own_in f.type e.kind e.index) n (row_at e.sync n)
 
 -- the parts of the test of an event
 pub record EventIn (f : Frame) (e : Event) : Type 0 where

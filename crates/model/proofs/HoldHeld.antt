@@ -6,16 +6,16 @@ use mathlib.Core.Bool.{true, ◌&&◌}
 use native.Mathlib.Omega.{arith}
 use lib.Dec.{leb, eqb}
 use borrow.Author.Tests.{eq-eqb, le-leb}
-use lib.ListN.{length, get_or, replicate, get_or-eq_default}
+use lib.ListN.{length, get_or, get_or-eq_default}
 use Rattle.text.specs.Lines.{in_range}
 use Rattle.text.specs.Repeat.{fill}
 use Rattle.text.proofs.TestLaws.{and_both, within-is, every-at}
 use Rattle.eos.specs.Model as eos
 use Rattle.model.specs.Rules.{nth, frame_of, right_sides, keeps_types, own_net, right_model}
-use Rattle.model.specs.Held.{pre_of, post_of, row, tabled, hold_net, hold_event, no_net, no_event, hold_events, hold_model, row_in}
+use Rattle.model.specs.Held.{pre_of, post_of, row, tabled, hold_net, hold_event, no_net, no_event, hold_events, hold_model, row_at}
 use Rattle.model.specs.Test.{empty, empty_past, used_of, held_types, held_moves, held_net, held_nets, held_events, frame_in, held_event, empty_event, held_model}
 use Rattle.model.proofs.RuleLaws.{sides_long, RightNet, net-is, RightEvent, sync_at, Right, right_is, few-nets, few-places, few-moves, few-events, few-steps, right_type, right_move_lem, right_net_lem, right_event_lem}
-use Rattle.model.proofs.PaddedRows.{empty_of, nth-zeros, nth-padded, nth_padded_all, empty-padded}
+use Rattle.model.proofs.PaddedRows.{nth-padded, nth_padded_all, empty-padded}
 use Rattle.model.proofs.SlotLaws.{cond_below, cond_from, by_index}
 use Rattle.model.proofs.TableLaws.{tabled-row, tabled_past}
 use Rattle.model.proofs.HoldModel.{net-at, net_past, event-at, event_past, steps-at}
@@ -31,7 +31,7 @@ frame_same d places nets =
 
 -- a table of transitions uses no more than it holds
 sides_past : (f : eos.Transition → List ℕ) → f eos.no_transition ≡ [] → (size : ℕ) (l : List eos.Transition) → size ≤ 32 → length l ≤ 32
-    → ((i : ℕ) → i < length l → length (f (get_or l i eos.no_transition)) ≡ size) → empty_past 32 (used_of (length l) size) (tabled f 1024 l) ≡ true
+    → ((i : ℕ) → i < length l → length (f (get_or l i eos.no_transition)) ≡ size) → empty_past 32 (used_of (length l) size) (tabled f 32 l) ≡ true
 sides_past f nothing size l small few h = tabled_past f eos.no_transition nothing 32 (λ i. size) l few (λ i p. (small, h i p))
 
 -- a net
@@ -50,7 +50,7 @@ none_passes = net_passes eos.no_net (omega arith) (omega arith) (λ i p. absurd 
 
 empty-event : empty_event no_event ≡ true
 unfolding empty_event
-empty-event = empty_of (replicate 256 0) (nth-zeros 256)
+empty-event = refl
 
 module _ (d : eos.Model) (right : Right d) where
   places : length d.types ≤ 32
@@ -129,7 +129,7 @@ module _ (d : eos.Model) (right : Right d) where
         part = λ n p.
             let s = sync_at f e r n (omega (arith, r.long)) in
             let v = get_or e.sync n [] in
-            let held = row_in 32 (tabled row 256 e.sync) n in
+            let held = row_at (tabled row 8 e.sync) n in
             let same : empty held ≡ empty v =
             ap empty (tabled-row row [] refl 8 e.sync few n (omega (arith, nets))) ∙ empty-padded v (omega (arith, s.long, few-steps d right n p)) in
             rw (own_same f.type e.act, part_same (own_net f.type e.act) n held v same) s.part;

@@ -1,10 +1,10 @@
 -- A right model is read back from what it is held as; how it is held has the room and the bytes of the structs.
-use Prim.Native.Nat.{ℕ, ◌*◌, ◌≤◌, ◌<◌}
+use Prim.Native.Nat.{ℕ, ◌≤◌, ◌<◌}
 use mathlib.Core.Path.{◌≡◌, refl, ap, ap₂, ◌∙◌}
 use mathlib.Core.List.{List, []}
 use mathlib.Core.Bool.{true}
 use native.Mathlib.Omega.{arith}
-use lib.ListN.{length, get_or, replicate, length-replicate, get_or-eq_default}
+use lib.ListN.{length, get_or, get_or-eq_default}
 use Rattle.text.specs.Lines.{every}
 use Rattle.text.proofs.TestLaws.{and_eqb, within-is, every-at}
 use Rattle.eos.specs.Model as eos
@@ -13,10 +13,10 @@ use Rattle.model.specs.Held.{pre_of, post_of, row, tabled, hold_net, hold_event,
 use Rattle.model.specs.declared.ObjectNet.{ObjectNet}
 use Rattle.model.proofs.RuleLaws.{list_is, sides_are, sides_long, RightNet, net-is, RightEvent, sync_at, Right, right_is, few-nets, few-places, few-moves, few-events, few-steps, right_move_lem, right_net_lem, right_event_lem}
 use Rattle.text.proofs.PaddedLaws.{take-padded, length-padded}
-use Rattle.model.proofs.PaddedRows.{nth-zeros, small_at}
+use Rattle.model.proofs.PaddedRows.{small_at}
 use Rattle.model.proofs.HeldActs.{act-back}
 use Rattle.model.proofs.SlotLaws.{by_index, listed-is, length-held, held_at, held_past}
-use Rattle.model.proofs.TableLaws.{tabled_part, length-tabled, tabled-small}
+use Rattle.model.proofs.TableLaws.{tabled_part, tabled-bytes, zero_bytes}
 
 -- ---- what is looked up where it is held
 
@@ -63,9 +63,9 @@ steps-at l i h =
 -- transitions
 sides_back : (size : ℕ) (l : List eos.Transition) → size ≤ 32 → length l ≤ 32
     → ((i : ℕ) → i < length l → right_sides size (get_or l i eos.no_transition) ≡ true)
-    → listed (sides_in size (tabled pre_of 1024 l) (tabled post_of 1024 l)) 0 (length l) ≡ l
+    → listed (sides_in size (tabled pre_of 32 l) (tabled post_of 32 l)) 0 (length l) ≡ l
 sides_back size l few h right =
-    listed-is (sides_in size (tabled pre_of 1024 l) (tabled post_of 1024 l)) l eos.no_transition λ i p.
+    listed-is (sides_in size (tabled pre_of 32 l) (tabled post_of 32 l)) l eos.no_transition λ i p.
     let s = sides_long size (get_or l i eos.no_transition) (right i p) in
     ap₂ {C = eos.Transition} (λ a b. record { pre = a; post = b })
     (tabled_part pre_of eos.no_transition refl 32 l h i size p few s.0)
@@ -87,8 +87,8 @@ module _ (d : eos.Model) (right : Right d) where
   unfolding event_of hold_event
   event_of_hold e r =
       let nets = few-nets d right in
-      let b : listed (sync_in (hold_nets d.nets) (tabled row 256 e.sync)) 0 (length e.sync) ≡ e.sync =
-      listed-is (sync_in (hold_nets d.nets) (tabled row 256 e.sync)) e.sync [] (λ i p.
+      let b : listed (sync_in (hold_nets d.nets) (tabled row 8 e.sync)) 0 (length e.sync) ≡ e.sync =
+      listed-is (sync_in (hold_nets d.nets) (tabled row 8 e.sync)) e.sync [] (λ i p.
       let few = few-steps d right i (omega (arith, r.long)) in
       rw (steps-at d.nets i nets) (tabled_part row [] refl 8 e.sync (omega (arith, r.long)) i _ p few (sync_at (frame_of d) e r i p).long)) in
       ap₂ {C = eos.Event} (λ a s. record { act = a; sync = s }) (act-back e.act) (rw r.long at b)
@@ -113,19 +113,14 @@ model_of_hold d h = model-back d (right_is d h)
 
 -- ---- room and bytes
 
-zero_bytes : (n : ℕ) → Bytes n (replicate n 0)
-zero_bytes n = record { long = length-replicate n 0; small = λ i. omega (arith, nth-zeros n i) }
-
 -- a table of at most 32 numbers to a row
 table_bytes : {A : Type 0} (f : A → List ℕ) (none : A) → f none ≡ [] → (rows : ℕ) (l : List A) → length l ≤ rows
-    → ((i : ℕ) → i < length l → (n : ℕ) × (n ≤ 32) × (list_of n byte (f (get_or l i none)) ≡ true)) → Bytes (rows * 32) (tabled f (rows * 32) l)
-table_bytes f none nothing rows l few h = record {
-  long = length-tabled f (rows * 32) l;
-  small = tabled-small f none nothing rows l few (λ i p.
-      let b = h i p in
-      let w = list_is b.0 byte (f (get_or l i none)) b.2 in
-      (omega (arith, b.1, w.0), small_at (f (get_or l i none)) w.1));
-}
+    → ((i : ℕ) → i < length l → (n : ℕ) × (n ≤ 32) × (list_of n byte (f (get_or l i none)) ≡ true)) → Bytes rows (tabled f rows l)
+table_bytes f none nothing rows l few h =
+    tabled-bytes f none nothing rows l few (λ i p.
+    let b = h i p in
+    let w = list_is b.0 byte (f (get_or l i none)) b.2 in
+    (omega (arith, b.1, w.0), small_at (f (get_or l i none)) w.1))
 
 net-sized : (n : eos.ObjectNet) → RightNet n → SizedNet (hold_net n)
 unfolding hold_net
@@ -140,7 +135,7 @@ net-sized n r =
     }
 
 module _ (d : eos.Model) (right : Right d) where
-  event-sized : (e : eos.Event) → RightEvent (frame_of d) e → Bytes 256 (hold_event e).sync
+  event-sized : (e : eos.Event) → RightEvent (frame_of d) e → Bytes 8 (hold_event e).sync
   unfolding hold_event
   event-sized e r =
       let nets = few-nets d right in
@@ -165,12 +160,12 @@ module _ (d : eos.Model) (right : Right d) where
         nets = λ i p.
             by_index (length d.nets) i
             (λ q. rw (net-at d.nets i nets q) (net-sized (get_or d.nets i eos.no_net) (net-is _ (right_net_lem d right i q))))
-            (λ q. rw (net_past d.nets i nets q) (record { pre = zero_bytes 1024; post = zero_bytes 1024 }));
+            (λ q. rw (net_past d.nets i nets q) (record { pre = zero_bytes 32; post = zero_bytes 32 }));
         events = events-long d.events;
         sync = λ i p.
             by_index (length d.events) i
             (λ q. rw (event-at d.events i events q) (event-sized (get_or d.events i eos.no_event) (right_event_lem d right i q)))
-            (λ q. rw (event_past d.events i events q) (zero_bytes 256));
+            (λ q. rw (event_past d.events i events q) (zero_bytes 8));
       }
 
 -- what a right model is held as has the room and the bytes of the structs

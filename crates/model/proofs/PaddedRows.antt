@@ -2,12 +2,13 @@
 use Prim.Native.Nat.{ℕ, zero, suc, ◌+◌, ◌-◌, ◌≤◌}
 use mathlib.Core.Path.{◌≡◌, refl, ap, sym, ◌∙◌, fun_ext}
 use mathlib.Core.List.{List, [], ◌∷◌, ◌++◌}
-use mathlib.Core.Bool.{Bool, true, ◌&&◌}
+use mathlib.Core.Bool.{Bool, true, ◌&&◌, and_assoc}
 use native.Mathlib.Omega.{arith}
 use lib.Dec.{eqb}
 use borrow.Author.Tests.{eqb-true, eq-eqb, leb-true}
-use lib.ListN.{length, take, drop, replicate, length-replicate, length-take, get_or-eq_default}
+use lib.ListN.{length, take, drop, replicate, length-replicate, length-take, take-append-drop, get_or-eq_default}
 use lib.Seq.{ext_get_or, get_or-drop}
+use Rattle.std.specs.List.{flat_map}
 use Rattle.text.specs.Lines.{every}
 use Rattle.text.specs.Answers.{padded}
 use Rattle.text.proofs.Basics.{by_test, and_true}
@@ -41,6 +42,20 @@ nth-zeros (suc n) (suc i) = nth-zeros n i
 -- an empty row is one of zeros
 pub empty-zeros : (l : List ℕ) (n : ℕ) → length l ≡ n → empty l ≡ true → l ≡ replicate n 0
 empty-zeros l n e h = ext_get_or 0 l (replicate n 0) (e ∙ sym (length-replicate n 0)) (λ i p. empty-at l h i ∙ sym (nth-zeros n i))
+
+-- two rows, one behind the other
+empty_join : (a b : List ℕ) → empty (a ++ b) ≡ (empty a && empty b)
+empty_join [] b = refl
+empty_join (x ∷ a) b = rw (empty_join a b) (sym (and_assoc (eqb x 0) (empty a) (empty b)))
+
+-- rows, one behind the other
+pub empty_flat : (t : List (List ℕ)) → empty (flat_map (λ (x : List ℕ). x) t) ≡ every empty t
+empty_flat [] = refl
+empty_flat (r ∷ t) = empty_join r (flat_map (λ (x : List ℕ). x) t) ∙ ap (λ (b : Bool). empty r && b) (empty_flat t)
+
+-- a row in two parts
+pub empty_split : (n : ℕ) (l : List ℕ) → (empty (take n l) && empty (drop n l)) ≡ empty l
+empty_split n l = sym (empty_join (take n l) (drop n l)) ∙ rw (take-append-drop n l)
 
 -- ---- a row and its first numbers
 

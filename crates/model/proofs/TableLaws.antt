@@ -1,136 +1,91 @@
 -- Laws of tables in rows of 32: which row is looked up, which table holds a list, where a table is empty.
-use Prim.Native.Nat.{ℕ, suc, ◌+◌, ◌*◌, ◌/◌, ◌%◌, ◌≤◌, ◌<◌}
-use mathlib.Core.Path.{◌≡◌, refl, ap, sym, ◌∙◌, fun_ext}
-use mathlib.Core.List.{List, [], ◌∷◌, ◌++◌, append_assoc}
-use mathlib.Core.Bool.{true, cond}
+use Prim.Native.Nat.{ℕ, ◌≤◌, ◌<◌}
+use mathlib.Core.Path.{◌≡◌, ap, sym, ◌∙◌, fun_ext}
+use mathlib.Core.List.{List, []}
+use mathlib.Core.Bool.{Bool, true, cond, ◌&&◌, and-true}
 use native.Mathlib.Omega.{arith}
 use lib.Dec.{ltb}
-use lib.ListN.{length, take, drop, get_or, set, replicate, length-replicate, length-drop, get_or-eq_default}
-use lib.Seq.{sets, length-sets, sets-eq, ext_get_or, take-set-le, drop-set-lt, take-add, take-take, drop_at, take_at, length-take-le, get_or-take, get_or-drop}
+use lib.ListN.{length, take, drop, get_or, replicate, length-replicate, get_or-replicate, get_or-eq_default}
+use lib.Seq.{ext_get_or, length-take-le}
+use Rattle.std.proofs.lemmas.List.{get_or_default}
+use Rattle.text.specs.Lines.{every}
 use Rattle.text.specs.Answers.{padded}
+use Rattle.text.proofs.TestLaws.{every-at}
 use Rattle.model.specs.Rules.{nth}
-use Rattle.model.specs.Held.{put_row, tabled, row_in, listed}
+use Rattle.model.specs.Held.{no_row, tabled, Bytes, row_at, row_in, listed}
 use Rattle.model.specs.Test.{empty, empty_past}
 use Rattle.text.proofs.PaddedLaws.{length-padded, take-padded}
-use Rattle.model.proofs.PaddedRows.{nth-zeros, nth-taken, nth-padded, padded_past, padded-take, empty-padded, padded_none}
-use Rattle.model.proofs.SlotLaws.{below_at, below_of, cond_below, cond_from, by_index, listed_at, listed_past, length-listed, Slots, fill_keeps, fill-at, fill_past}
+use Rattle.model.proofs.PaddedRows.{empty-zeros, empty_split, nth-zeros, nth-taken, nth-padded, padded_past, padded-take, padded_none}
+use Rattle.model.proofs.SlotLaws.{below_at, below_of, cond_below, cond_from, by_index, listed_at, listed_past, length-listed, length-held, held_at, held_past}
 
 -- ---- rows
 
--- a number of a row is one of the table
-pub row_at : (t : List ℕ) (i c : ℕ) → c < 32 → nth (row_in 32 t i) c ≡ nth t (i * 32 + c)
-row_at t i c h = get_or-take 32 (drop (i * 32) t) c 0 h ∙ get_or-drop (i * 32) t c 0
-
 -- n numbers of a row that has them
-pub length-row : (t : List ℕ) (i n : ℕ) → i * 32 + n ≤ length t → length (row_in n t i) ≡ n
-length-row t i n h = length-take-le n (drop (i * 32) t) (omega (arith, length-drop (i * 32) t))
+pub length-row : (t : List (List ℕ)) (i n : ℕ) → n ≤ length (row_at t i) → length (row_in n t i) ≡ n
+length-row t i n h = length-take-le n (row_at t i) h
 
--- the first numbers of a row
-pub take_row : (t : List ℕ) (i n : ℕ) → n ≤ 32 → take n (row_in 32 t i) ≡ row_in n t i
-take_row t i n h = take-take n 32 (drop (i * 32) t) h
+-- a table of which each row is empty
+pub empty_rows : (t : List (List ℕ)) (n : ℕ) → length t ≡ n → ((i : ℕ) → i < n → length (row_at t i) ≡ 32) → every empty t ≡ true → t ≡ replicate n no_row
+empty_rows t n long wide h =
+    ext_get_or [] t (replicate n no_row) (long ∙ sym (length-replicate n no_row)) λ i p.
+    let q : i < n = omega (arith, long) in
+    empty-zeros (row_at t i) 32 (wide i q) (every-at empty t i [] h p) ∙ sym (get_or-replicate n i no_row [] q)
 
--- tables of the same rows are equal
-pub rows_ext : (rows : ℕ) (t u : List ℕ) → length t ≡ rows * 32 → length u ≡ rows * 32 → ((i : ℕ) → i < rows → row_in 32 t i ≡ row_in 32 u i) → t ≡ u
-rows_ext rows t u p q h =
-    ext_get_or 0 t u (p ∙ sym q) λ k b.
-    let e : k ≡ k / 32 * 32 + k % 32 = omega arith in
-    ap (nth t) e ∙ sym (row_at t (k / 32) (k % 32) (omega arith)) ∙ ap (λ (r : List ℕ). nth r (k % 32)) (h (k / 32) (omega arith))
-    ∙ row_at u (k / 32) (k % 32) (omega arith) ∙ ap (nth u) (sym e)
-
--- ---- a row put into a table
-take-sets : (v l : List ℕ) (m k : ℕ) → m ≤ k → take m (sets l k v) ≡ take m l
-take-sets [] l m k h = refl
-take-sets (x ∷ v) l m k h = take-sets v (set l k x) m (suc k) (omega arith) ∙ take-set-le m l k x h
-
-drop-sets : (v l : List ℕ) (m k : ℕ) → k + length v ≤ m → drop m (sets l k v) ≡ drop m l
-drop-sets [] l m k h = refl
-drop-sets (x ∷ v) l m k h = drop-sets v (set l k x) m (suc k) (omega arith) ∙ drop-set-lt m l k x (omega arith)
-
-part : (n m : ℕ) (l : List ℕ) → m ≤ length l → take n (drop m l) ≡ drop m (take (m + n) l)
-part n m l h = sym (ap (drop m) (take-add m n l) ∙ drop_at (take m l) (take n (drop m l)) m (length-take-le m l h))
-
-module _ (v : List ℕ) (long : length v ≡ 32) (t : List ℕ) (i : ℕ) where
-  row_same : i * 32 + 32 ≤ length t → row_in 32 (sets t (i * 32) v) i ≡ v
-  row_same h =
-      ap (λ (x : List ℕ). take 32 (drop (i * 32) x)) (sets-eq v t (i * 32) (omega arith) ∙ append_assoc (take (i * 32) t) v (drop (i * 32 + length v) t))
-      ∙ ap (take 32) (drop_at (take (i * 32) t) (v ++ drop (i * 32 + length v) t) (i * 32) (length-take-le (i * 32) t (omega arith)))
-      ∙ take_at v (drop (i * 32 + length v) t) 32 long
-
-  row_other : (j : ℕ) → j * 32 ≤ length t → (i ≡ j → ⊥) → row_in 32 (sets t (i * 32) v) j ≡ row_in 32 t j
-  row_other j h d =
-      by_index i j
-      (λ p.
-      part 32 (j * 32) (sets t (i * 32) v) (rw (length-sets t (i * 32) v) h) ∙ ap (drop (j * 32)) (take-sets v t (j * 32 + 32) (i * 32) (omega arith))
-      ∙ sym (part 32 (j * 32) t h))
-      (λ p.
-      let k : i < j = omega (arith, d) in
-      ap (take 32) (drop-sets v t (j * 32) (i * 32) (omega arith)))
-
--- a row of an empty table
-blank_row : (room j : ℕ) → j * 32 + 32 ≤ room → row_in 32 (replicate room 0) j ≡ replicate 32 0
-blank_row room j h =
-    let t : List ℕ = replicate room 0 in
-    let long : length (row_in 32 t j) ≡ 32 = length-row t j 32 (omega (arith, length-replicate {A = ℕ} room 0)) in
-    ext_get_or 0 (row_in 32 t j) (replicate 32 0) long λ c p.
-    row_at t j c (omega arith) ∙ nth-zeros room (j * 32 + c) ∙ sym (nth-zeros 32 c)
+-- a table with nothing in it
+pub zero_bytes : (n : ℕ) → Bytes n (replicate n no_row)
+zero_bytes n = record {
+  long = length-replicate n no_row;
+  wide = λ i p. rw (get_or-replicate n i no_row [] p);
+  small = λ i k.
+      by_index n i
+      (λ p. rw (get_or-replicate n i no_row [] p) (omega (arith, nth-zeros 32 k)))
+      (λ p. let e : row_at (replicate n no_row) i ≡ [] = get_or-eq_default (replicate n no_row) [] (rw (length-replicate n no_row) p) in rw e (omega arith));
+}
 
 -- ---- a list in a table, each thing in its row
 module _ {A : Type 0} (f : A → List ℕ) where
-  table_slots : Slots (put_row f) (row_in 32) (λ a. padded (f a)) (λ n t. n * 32 ≤ length t)
-  table_slots = record {
-    keeps = λ n i a t h. rw (length-sets t (i * 32) (padded (f a))) h;
-    same = λ n i a t h p. row_same (padded (f a)) (length-padded (f a)) t i (omega arith);
-    other = λ n i j a t h p q d. row_other (padded (f a)) (length-padded (f a)) t i j (omega arith) d;
-  }
-
   -- the table has its room
-  pub length-tabled : (room : ℕ) (l : List A) → length (tabled f room l) ≡ room
+  pub length-tabled : (rows : ℕ) (l : List A) → length (tabled f rows l) ≡ rows
   unfolding tabled
-  length-tabled room l =
-      fill_keeps (put_row f) (λ t. length t ≡ room) (λ i a t h. length-sets t (i * 32) (padded (f a)) ∙ h) 0 l (replicate room 0) (length-replicate room 0)
+  length-tabled rows l = length-held (λ a. padded (f a)) no_row l rows
 
   -- a thing that has no numbers stands for a row that is not used
   module _ (none : A) (nothing : f none ≡ []) (rows : ℕ) where
     -- a row of the table
-    pub tabled-row : (l : List A) → length l ≤ rows → (j : ℕ) → j < rows → row_in 32 (tabled f (rows * 32) l) j ≡ padded (f (get_or l j none))
+    pub tabled-row : (l : List A) → length l ≤ rows → (j : ℕ) → j < rows → row_at (tabled f rows l) j ≡ padded (f (get_or l j none))
     unfolding tabled
     tabled-row l few j h =
-        let t : List ℕ = replicate (rows * 32) 0 in
-        let room : rows * 32 ≤ length t = omega (arith, length-replicate {A = ℕ} (rows * 32) 0) in
-        by_index (length l) j
-        (λ p. fill-at (put_row f) (row_in 32) (λ a. padded (f a)) (λ n t. n * 32 ≤ length t) table_slots rows l j t none room few p)
-        (λ p.
-        fill_past (put_row f) (row_in 32) (λ a. padded (f a)) (λ n t. n * 32 ≤ length t) table_slots rows l j t room p h
-        ∙ blank_row (rows * 32) j (omega arith) ∙ rw (get_or-eq_default l none p, nothing, padded_none))
+        get_or_default (tabled f rows l) j [] no_row (rw (length-tabled rows l) h)
+        ∙ by_index (length l) j
+        (λ p. held_at (λ a. padded (f a)) no_row l rows j none few p)
+        (λ p. held_past (λ a. padded (f a)) no_row l rows j few p ∙ rw (get_or-eq_default l none p, nothing, padded_none))
 
     -- what was put there is taken back
     pub tabled_part : (l : List A) → length l ≤ rows → (j n : ℕ) → j < length l → n ≤ 32 → length (f (get_or l j none)) ≡ n
-        → row_in n (tabled f (rows * 32) l) j ≡ f (get_or l j none)
+        → row_in n (tabled f rows l) j ≡ f (get_or l j none)
     tabled_part l few j n h p e =
-        sym (take_row (tabled f (rows * 32) l) j n p) ∙ ap (take n) (tabled-row l few j (omega arith))
-        ∙ rw (← e) (take-padded (f (get_or l j none)) (omega arith))
+        ap (take n) (tabled-row l few j (omega arith)) ∙ rw (← e) (take-padded (f (get_or l j none)) (omega arith))
 
     -- the table of a list of bytes holds bytes
-    pub tabled-small : (l : List A) → length l ≤ rows → ((i : ℕ) → i < length l → (length (f (get_or l i none)) ≤ 32) × ((c : ℕ) → nth (f (get_or l i none)) c ≤ 255))
-        → (k : ℕ) → nth (tabled f (rows * 32) l) k ≤ 255
-    tabled-small l few h k =
-        by_index (rows * 32) k
-        (λ p.
-        let i = k / 32 in
-        let c = k % 32 in
-        let e : k ≡ i * 32 + c = omega arith in
-        let r : nth (tabled f (rows * 32) l) k ≡ nth (padded (f (get_or l i none))) c =
-        ap (nth (tabled f (rows * 32) l)) e ∙ sym (row_at (tabled f (rows * 32) l) i c (omega arith))
-        ∙ ap (λ (r : List ℕ). nth r c) (tabled-row l few i (omega arith)) in
-        by_index (length l) i
-        (λ q. omega (arith, r, nth-padded (f (get_or l i none)) (h i q).0 c, (h i q).1 c))
-        (λ q. let z : nth (padded (f (get_or l i none))) c ≡ 0 = rw (get_or-eq_default l none q, nothing, padded_none) (nth-zeros 32 c) in omega (arith, r, z)))
-        (λ p. omega (arith, get_or-eq_default (tabled f (rows * 32) l) 0 {n = k} (rw (length-tabled (rows * 32) l) p)))
+    pub tabled-bytes : (l : List A) → length l ≤ rows → ((i : ℕ) → i < length l → (length (f (get_or l i none)) ≤ 32) × ((c : ℕ) → nth (f (get_or l i none)) c ≤ 255))
+        → Bytes rows (tabled f rows l)
+    tabled-bytes l few h = record {
+      long = length-tabled rows l;
+      wide = λ i p. rw (tabled-row l few i p) (length-padded (f (get_or l i none)));
+      small = λ i c.
+          by_index rows i
+          (λ p.
+          rw (tabled-row l few i p)
+          (by_index (length l) i
+          (λ q. omega (arith, nth-padded (f (get_or l i none)) (h i q).0 c, (h i q).1 c))
+          (λ q. rw (get_or-eq_default l none q, nothing, padded_none) (omega (arith, nth-zeros 32 c)))))
+          (λ p. let e : row_at (tabled f rows l) i ≡ [] = get_or-eq_default (tabled f rows l) [] (rw (length-tabled rows l) p) in rw e (omega arith));
+    }
 
     module _ (width : ℕ → ℕ) where
       -- the table of a list uses no more than its rows
       pub tabled_past : (l : List A) → length l ≤ rows → ((i : ℕ) → i < length l → (width i ≤ 32) × (length (f (get_or l i none)) ≡ width i))
-          → empty_past rows (λ i. cond (ltb i (length l)) (width i) 0) (tabled f (rows * 32) l) ≡ true
+          → empty_past rows (λ i. cond (ltb i (length l)) (width i) 0) (tabled f rows l) ≡ true
       unfolding empty_past
       tabled_past l few h =
           below_of rows _ λ i p.
@@ -140,32 +95,30 @@ module _ {A : Type 0} (f : A → List ℕ) where
           (λ q. rw (cond_from (length l) i (width i) 0 q, get_or-eq_default l none q, nothing) (padded_past [] 0 (omega arith) (omega arith))))
 
       -- a table that uses no more than n rows is the table of what stands in them
-      pub table_is : (n : ℕ) (t : List ℕ) (g : ℕ → A) → length t ≡ rows * 32 → n ≤ rows → ((i : ℕ) → i < n → width i ≤ 32)
-          → ((i : ℕ) → f (g i) ≡ row_in (width i) t i) → empty_past rows (λ i. cond (ltb i n) (width i) 0) t ≡ true → t ≡ tabled f (rows * 32) (listed g 0 n)
+      pub table_is : (n : ℕ) (t : List (List ℕ)) (g : ℕ → A) → Bytes rows t → n ≤ rows
+          → ((i : ℕ) → f (g i) ≡ row_in (width i) t i) → empty_past rows (λ i. cond (ltb i n) (width i) 0) t ≡ true → t ≡ tabled f rows (listed g 0 n)
       unfolding empty_past
-      table_is n t g long few small is h =
-          rows_ext rows t (tabled f (rows * 32) (listed g 0 n)) long (length-tabled (rows * 32) (listed g 0 n)) λ i p.
+      table_is n t g b few is h =
+          ext_get_or [] t (tabled f rows (listed g 0 n)) (b.long ∙ sym (length-tabled rows (listed g 0 n))) λ i q.
+          let p : i < rows = omega (arith, b.long) in
           let used = cond (ltb i n) (width i) 0 in
-          sym (padded-take used (row_in 32 t i) (length-row t i 32 (omega arith)) (below_at rows _ h i p))
+          sym (padded-take used (row_at t i) (b.wide i p) (below_at rows _ h i p))
           ∙ by_index n i
-          (λ q. rw (cond_below n i (width i) 0 q, take_row t i (width i) (small i q), listed_at g n i none q, is i))
+          (λ q. rw (cond_below n i (width i) 0 q, listed_at g n i none q, is i))
           (λ q. rw (cond_from n i (width i) 0 q, listed_past g n i none q, nothing))
           ∙ sym (tabled-row (listed g 0 n) (rw (length-listed g 0 n) few) i p)
 
--- what a table does not use is not missed in its rows
-pub nth-row : (rows n : ℕ) (width : ℕ → ℕ) (t : List ℕ) → empty_past rows (λ i. cond (ltb i n) (width i) 0) t ≡ true → n ≤ rows
-    → (i : ℕ) → i < n → width i ≤ 32 → nth (row_in (width i) t i) ≡ nth (row_in 32 t i)
-unfolding empty_past
-nth-row rows n width t h few i p small =
-    let e : empty (drop (width i) (row_in 32 t i)) ≡ true = rw (cond_below n i (width i) 0 p) at (below_at rows _ h i (omega arith)) in
-    rw (← take_row t i (width i) small) (fun_ext (nth-taken (width i) (row_in 32 t i) e))
+module _ (rows n : ℕ) (width : ℕ → ℕ) (t : List (List ℕ)) (h : empty_past rows (λ i. cond (ltb i n) (width i) 0) t ≡ true) (few : n ≤ rows) (i : ℕ) (p : i < n) where
+  unused : empty (drop (width i) (row_at t i)) ≡ true
+  unfolding empty_past
+  unused = rw (cond_below n i (width i) 0 p) at (below_at rows _ h i (omega arith))
 
--- nor by a test for 0
-pub empty-row : (rows n : ℕ) (width : ℕ → ℕ) (t : List ℕ) → empty_past rows (λ i. cond (ltb i n) (width i) 0) t ≡ true → n ≤ rows → length t ≡ rows * 32
-    → (i : ℕ) → i < n → width i ≤ 32 → empty (row_in (width i) t i) ≡ empty (row_in 32 t i)
-unfolding empty_past
-empty-row rows n width t h few long i p small =
-    let e : empty (drop (width i) (row_in 32 t i)) ≡ true = rw (cond_below n i (width i) 0 p) at (below_at rows _ h i (omega arith)) in
-    let w : length (row_in (width i) t i) ≡ width i = length-row t i (width i) (omega arith) in
-    sym (empty-padded (row_in (width i) t i) (omega arith))
-    ∙ ap empty (ap padded (sym (take_row t i (width i) small)) ∙ padded-take (width i) (row_in 32 t i) (length-row t i 32 (omega arith)) e)
+  -- what a table does not use is not missed in its rows
+  pub nth-row : nth (row_in (width i) t i) ≡ nth (row_at t i)
+  nth-row = fun_ext (nth-taken (width i) (row_at t i) unused)
+
+  -- nor by a test for 0
+  pub empty-row : empty (row_in (width i) t i) ≡ empty (row_at t i)
+  empty-row =
+      let taken = empty (take (width i) (row_at t i)) in
+      sym (and-true taken) ∙ ap (λ (b : Bool). taken && b) (sym unused) ∙ empty_split (width i) (row_at t i)

@@ -1,10 +1,8 @@
 -- How a model is held: in arrays of fixed room, unused room 0. And what a held model stands for.
-use Rattle.std.specs.Prelude.{ℕ, zero, suc, ◌*◌, ◌≤◌, ◌<◌, ◌≡◌, List, [], ◌∷◌, length, take, drop, get_or, set, replicate}
-use Rattle.std.proofs.lemmas.List.Edits.{sets}
+use Rattle.std.specs.Prelude.{ℕ, zero, suc, ◌≤◌, ◌<◌, ◌≡◌, List, [], ◌∷◌, length, take, get_or, set, replicate}
 use Rattle.text.specs.Repeat.{fill}
 use Rattle.text.specs.Answers.{padded}
 use Rattle.eos.specs.Model as eos
-use Rattle.model.specs.Limits.{sync_room}
 use Rattle.model.specs.Acts.{kind_of, index_of, act_of}
 use Rattle.model.specs.declared.ObjectNet.{ObjectNet}
 use Rattle.model.specs.declared.Event.{Event}
@@ -12,13 +10,17 @@ use Rattle.model.specs.declared.Model.{Model}
 
 -- ---- held
 
--- a row of 32 numbers, at its index in a table
-abbrev pub put_row : {A : Type 0} → (A → List ℕ) → ℕ → A → List ℕ → List ℕ
-put_row f i a table = sets table (i * 32) (padded (f a))
+-- things at their index in an array
+abbrev pub put_at : {A B : Type 0} → (A → B) → ℕ → A → List B → List B
+put_at f i a l = set l i (f a)
 
--- rows of 32, the first at 0, in a table of `room` numbers
-unfoldable pub tabled : {A : Type 0} → (A → List ℕ) → ℕ → List A → List ℕ
-tabled f room l = fill (put_row f) 0 l (replicate room 0)
+-- a row that is not used
+abbrev pub no_row : List ℕ
+no_row = replicate 32 0
+
+-- rows of 32 numbers, the first at 0, in a table of so many rows
+unfoldable pub tabled : {A : Type 0} → (A → List ℕ) → ℕ → List A → List (List ℕ)
+tabled f rows l = fill (put_at (λ a. padded (f a))) 0 l (replicate rows no_row)
 
 abbrev pub pre_of : eos.Transition → List ℕ
 pre_of t = t.pre
@@ -33,23 +35,19 @@ unfoldable pub hold_net : eos.ObjectNet → ObjectNet
 hold_net n = record {
   places = n.size;
   transitions = length n.transitions;
-  pre = tabled pre_of 1024 n.transitions;
-  post = tabled post_of 1024 n.transitions;
+  pre = tabled pre_of 32 n.transitions;
+  post = tabled post_of 32 n.transitions;
 }
 
 unfoldable pub hold_event : eos.Event → Event
-hold_event e = record { kind = kind_of e.act; index = index_of e.act; sync = tabled row sync_room e.sync }
+hold_event e = record { kind = kind_of e.act; index = index_of e.act; sync = tabled row 8 e.sync }
 
 -- room that is not used
 abbrev pub no_net : ObjectNet
-no_net = record { places = 0; transitions = 0; pre = replicate 1024 0; post = replicate 1024 0 }
+no_net = record { places = 0; transitions = 0; pre = replicate 32 no_row; post = replicate 32 no_row }
 
 abbrev pub no_event : Event
-no_event = record { kind = 0; index = 0; sync = replicate sync_room 0 }
-
--- things at their index in an array
-abbrev pub put_at : {A B : Type 0} → (A → B) → ℕ → A → List B → List B
-put_at f i a l = set l i (f a)
+no_event = record { kind = 0; index = 0; sync = replicate 8 no_row }
 
 unfoldable pub hold_nets : List eos.ObjectNet → List ObjectNet
 hold_nets l = fill (put_at hold_net) 0 l (replicate 8 no_net)
@@ -64,8 +62,8 @@ hold_model m = record {
   moves = length m.moves;
   listed = length m.events;
   types = padded m.types;
-  pre = tabled pre_of 1024 m.moves;
-  post = tabled post_of 1024 m.moves;
+  pre = tabled pre_of 32 m.moves;
+  post = tabled post_of 32 m.moves;
   objects = hold_nets m.nets;
   events = hold_events m.events;
 }
@@ -78,50 +76,57 @@ no_model = record {
   moves = 0;
   listed = 0;
   types = replicate 32 0;
-  pre = replicate 1024 0;
-  post = replicate 1024 0;
+  pre = replicate 32 no_row;
+  post = replicate 32 no_row;
   objects = replicate 8 no_net;
   events = replicate 64 no_event;
 }
 
--- ---- what every value of the structs has: room of the named lengths, and bytes in it
+-- ---- tables
 
-pub record Bytes (n : ℕ) (l : List ℕ) : Type 0 where
-  pub long : length l ≡ n
-  pub small : (i : ℕ) → get_or l i 0 ≤ 255
+-- row i
+abbrev pub row_at : List (List ℕ) → ℕ → List ℕ
+row_at table i = get_or table i []
+
+-- its first n numbers
+abbrev pub row_in : ℕ → List (List ℕ) → ℕ → List ℕ
+row_in n table i = take n (row_at table i)
+
+-- ---- what every value of the structs has: tables of so many rows of 32 bytes
+
+pub record Bytes (n : ℕ) (table : List (List ℕ)) : Type 0 where
+  pub long : length table ≡ n
+  pub wide : (i : ℕ) → i < n → length (row_at table i) ≡ 32
+  pub small : (i k : ℕ) → get_or (row_at table i) k 0 ≤ 255
 
 pub record SizedNet (n : ObjectNet) : Type 0 where
-  pub pre : Bytes 1024 n.pre
-  pub post : Bytes 1024 n.post
+  pub pre : Bytes 32 n.pre
+  pub post : Bytes 32 n.post
 
 pub record SizedModel (m : Model) : Type 0 where
   pub types : length m.types ≡ 32
-  pub pre : Bytes 1024 m.pre
-  pub post : Bytes 1024 m.post
+  pub pre : Bytes 32 m.pre
+  pub post : Bytes 32 m.post
   pub objects : length m.objects ≡ 8
   pub nets : (i : ℕ) → i < 8 → SizedNet (get_or m.objects i no_net)
   pub events : length m.events ≡ 64
-  pub sync : (i : ℕ) → i < 64 → Bytes sync_room (get_or m.events i no_event).sync
+  pub sync : (i : ℕ) → i < 64 → Bytes 8 (get_or m.events i no_event).sync
 
 -- ---- what a held model stands for
-
--- the first n numbers of row i
-abbrev pub row_in : ℕ → List ℕ → ℕ → List ℕ
-row_in n table i = take n (drop (i * 32) table)
 
 -- n things, the first of index i
 abbrev pub listed : {A : Type 0} → (ℕ → A) → ℕ → ℕ → List A
 listed f i zero = []
 listed f i (suc n) = f i ∷ listed f (suc i) n
 
-abbrev pub sides_in : ℕ → List ℕ → List ℕ → ℕ → eos.Transition
+abbrev pub sides_in : ℕ → List (List ℕ) → List (List ℕ) → ℕ → eos.Transition
 sides_in n pre post i = record { pre = row_in n pre i; post = row_in n post i }
 
 unfoldable pub net_of : ObjectNet → eos.ObjectNet
 net_of n = record { size = n.places; transitions = listed (sides_in n.places n.pre n.post) 0 n.transitions }
 
 -- the counts of net n, of which there are as many as it has transitions
-abbrev pub sync_in : List ObjectNet → List ℕ → ℕ → List ℕ
+abbrev pub sync_in : List ObjectNet → List (List ℕ) → ℕ → List ℕ
 sync_in objects sync n = row_in (get_or objects n no_net).transitions sync n
 
 unfoldable pub event_of : ℕ → List ObjectNet → Event → eos.Event

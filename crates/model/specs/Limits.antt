@@ -1,5 +1,5 @@
 -- 01's limits, and the rooms of the arrays that hold what they limit. Limits of the same number are told apart by what they count. In code
--- they are constants of `Model`, `Event` and `Marking`.
+-- they are constants of `Model` and `Marking`.
 use Rattle.std.specs.Prelude.{ℕ, ◌*◌}
 
 -- ---- limits
@@ -27,9 +27,3 @@ weight_limit = 1000
 -- the bytes of a text
 abbrev pub longest : ℕ
 longest = 1048576
-
--- ---- rooms
-
--- the counts of an event: 8 nets of 32 transitions
-abbrev pub sync_room : ℕ
-sync_room = 8 * 32

@@ -5,7 +5,7 @@ use Rattle.text.specs.Lines.{in_range, every}
 use Rattle.eos.specs.Firing.{all_below}
 use Rattle.model.specs.Rules.{nth, Frame, monotonous, takes_part}
 use Rattle.model.specs.Acts.{held_act, own_in}
-use Rattle.model.specs.Held.{no_net, no_event, row_in}
+use Rattle.model.specs.Held.{no_net, no_event, row_at}
 use Rattle.model.specs.declared.ObjectNet.{ObjectNet}
 use Rattle.model.specs.declared.Event.{Event}
 use Rattle.model.specs.declared.Model.{Model}
@@ -17,11 +17,11 @@ abbrev pub empty : List ℕ → Bool
 empty l = every (λ v. eqb v 0) l
 
 -- row i behind the numbers that it uses
-abbrev pub empty_at : (ℕ → ℕ) → List ℕ → ℕ → Bool
-empty_at used table i = empty (drop (used i) (row_in 32 table i))
+abbrev pub empty_at : (ℕ → ℕ) → List (List ℕ) → ℕ → Bool
+empty_at used table i = empty (drop (used i) (row_at table i))
 
--- rows of 32, each 0 behind the numbers that it uses
-unfoldable pub empty_past : ℕ → (ℕ → ℕ) → List ℕ → Bool
+-- so many rows, each 0 behind the numbers that it uses
+unfoldable pub empty_past : ℕ → (ℕ → ℕ) → List (List ℕ) → Bool
 empty_past rows used table = all_below rows (empty_at used table)
 
 -- of the first n rows as many numbers are used as `width` says, of the others none
@@ -43,8 +43,8 @@ unfoldable pub held_types : Model → Bool
 held_types m = all_below 32 (type_at m.nets m.places m.types)
 
 -- monotonous typing of move i
-abbrev pub move_at : ℕ → ℕ → List ℕ → List ℕ → List ℕ → ℕ → Bool
-move_at nets places types pre post i = monotonous nets places (nth types) (nth (row_in 32 pre i)) (nth (row_in 32 post i))
+abbrev pub move_at : ℕ → ℕ → List ℕ → List (List ℕ) → List (List ℕ) → ℕ → Bool
+move_at nets places types pre post i = monotonous nets places (nth types) (nth (row_at pre i)) (nth (row_at post i))
 
 unfoldable pub held_moves : Model → Bool
 held_moves m =
@@ -87,8 +87,8 @@ abbrev pub framed : ℕ → ℕ → ℕ → List ℕ → List ℕ → Frame
 framed places moves nets types steps = record { places = places; moves = moves; nets = nets; type = nth types; steps = nth steps }
 
 -- the counts of net n in an event
-abbrev pub part_at : ℕ → List ℕ → ℕ → Bool
-part_at own sync n = takes_part own n (row_in 32 sync n)
+abbrev pub part_at : ℕ → List (List ℕ) → ℕ → Bool
+part_at own sync n = takes_part own n (row_at sync n)
 
 unfoldable pub held_event : Frame → Event → Bool
 held_event f e =
@@ -96,7 +96,7 @@ held_event f e =
     && (empty_past 8 (used_in f.nets f.steps) e.sync && all_below f.nets (part_at (own_in f.type e.kind e.index) e.sync))
 
 unfoldable pub empty_event : Event → Bool
-empty_event e = eqb e.kind 0 && (eqb e.index 0 && empty e.sync)
+empty_event e = eqb e.kind 0 && (eqb e.index 0 && every empty e.sync)
 
 abbrev pub event_is : Frame → ℕ → ℕ → Event → Bool
 event_is f listed k e = cond (ltb k listed) (held_event f e) (empty_event e)

@@ -6,14 +6,14 @@ ghost use Rattle.std.specs.Prelude.{◌≡◌, ◌≤◌};
 ghost use Rattle.model.specs.Acts.{as_act, kind_of, index_of, act_of, is_act};
 ghost use Rattle.model.specs.Held.{no_net, no_event, no_model};
 
-// An object net; arcs at transition * 32 + place. Unused room is 0.
+// An object net; a row of arcs for each transition. Unused room is 0.
 #[repr(C)]
 #[derive(Clone, Copy)]
 pub struct ObjectNet {
     pub places: usize,
     pub transitions: usize,
-    pub pre: [u8; 1024],
-    pub post: [u8; 1024],
+    pub pre: [[u8; 32]; 32],
+    pub post: [[u8; 32]; 32],
 }
 
 impl ObjectNet {
@@ -23,8 +23,8 @@ impl ObjectNet {
         ObjectNet {
             places: 0,
             transitions: 0,
-            pre: [0u8; 1024],
-            post: [0u8; 1024],
+            pre: [[0u8; 32]; 32],
+            post: [[0u8; 32]; 32],
         }
     }
 }
@@ -50,25 +50,22 @@ impl Act {
 }
 
 // An event: of kind 1 a move, of kind 2 idling at a place; the index is the move's or the place's number, from 1. A caller in C may store
-// any byte as either. The count of a transition stands at net * 32 + transition. Unused room is 0.
+// any byte as either. A row of counts for each net. Unused room is 0.
 #[repr(C)]
 #[derive(Clone, Copy)]
 pub struct Event {
     pub kind: u8,
     pub index: u8,
-    pub sync: [u8; Event::SYNC],
+    pub sync: [[u8; 32]; 8],
 }
 
 impl Event {
-    // The counts of 32 transitions for each of 8 nets.
-    pub const SYNC: usize = 8 * 32;
-
     pub const MOVE: u8 = 1;
 
     pub const IDLE: u8 = 2;
 
     // An event of an act.
-    pub fn new(act: Act, sync: [u8; Event::SYNC]) -> Event
+    pub fn new(act: Act, sync: [[u8; 32]; 8]) -> Event
         requires { index_of (as_act act) ≤ 255 }
         ensures { result ≡ record { kind = kind_of (as_act act); index = index_of (as_act act); sync = sync } }
     {
@@ -107,12 +104,12 @@ impl Event {
         Event {
             kind: 0,
             index: 0,
-            sync: [0u8; Event::SYNC],
+            sync: [[0u8; 32]; 8],
         }
     }
 }
 
-// The held model; arcs at move * 32 + place. Unused room is 0.
+// The held model; a row of arcs for each move. Unused room is 0.
 #[repr(C)]
 #[derive(Clone, Copy)]
 pub struct Model {
@@ -121,8 +118,8 @@ pub struct Model {
     pub moves: usize,
     pub listed: usize,
     pub types: [u8; 32],
-    pub pre: [u8; 1024],
-    pub post: [u8; 1024],
+    pub pre: [[u8; 32]; 32],
+    pub post: [[u8; 32]; 32],
     pub objects: [ObjectNet; 8],
     pub events: [Event; 64],
 }
@@ -146,7 +143,7 @@ impl Model {
     // The token lines of a block, the net-tokens of a held marking, and those that covering weights leave room for.
     pub const LINES: u16 = 256;
 
-    pub const ROOM: u16 = 256;
+    pub const ROOM: usize = 256;
 
     pub const COVER: u16 = 256;
 
@@ -170,8 +167,8 @@ impl Model {
             moves: 0,
             listed: 0,
             types: [0u8; 32],
-            pre: [0u8; 1024],
-            post: [0u8; 1024],
+            pre: [[0u8; 32]; 32],
+            post: [[0u8; 32]; 32],
             objects: [net; 8],
             events: [event; 64],
         }

@@ -1,11 +1,11 @@
 // What the act of an event says: whether it may be a model's, which net is its own, and what it takes or gives outside.
 #![tactic(auto)]
 
-ghost use Rattle.std.specs.Prelude.{◌≡◌, List, ℕ, ◌+◌, ◌*◌, ◌≤◌, ◌<◌, length};
+ghost use Rattle.std.specs.Prelude.{◌≡◌, List, ℕ, ◌≤◌};
 ghost use Rattle.eos.specs.Firing.{act_side};
 ghost use Rattle.model.specs.Rules.{nth, own_net};
 ghost use Rattle.model.specs.Acts.{as_act, index_of, held_act};
-ghost use Rattle.model.specs.Held.{row_in};
+ghost use Rattle.model.specs.Held.{row_at};
 ghost use Rattle.model.specs.Test.{framed};
 
 use model::{Act, Event};
@@ -35,25 +35,24 @@ pub fn own_net(types: &[u8; 32], act: Act) -> u8
     }
 }
 
-// Row i of a table of arcs. A loop over the places: `map` of an array is slower.
-fn arcs_at(table: &[u8; 1024], i: usize) -> [u64; 32]
-    requires { i < 32 }
-    ensures { result ≡ row_in 32 table.now i }
+// A row of arcs in wider numbers. A loop over the places: `map` of an array is slower.
+fn widened(arcs: &[u8; 32]) -> [u64; 32]
+    ensures { result ≡ arcs.now }
 {
     let mut row = [0u64; 32];
     for k in 0..32 {
-        row[k] = u64::from(table[i * 32 + k]);
+        row[k] = u64::from(arcs[k]);
     }
     row
 }
 
 // The outer side of an event: its move's row of the table, or one net-token on the place at which it idles.
-pub fn outer_side(act: Act, table: &[u8; 1024]) -> [u64; 32]
+pub fn outer_side(act: Act, table: &[[u8; 32]; 32]) -> [u64; 32]
     requires { index_of (as_act act) ≤ 32 }
-    ensures { result ≡ act_side (row_in 32 table.now) 32 (as_act act) }
+    ensures { result ≡ act_side (row_at table.now) 32 (as_act act) }
 {
     match act {
-        Act::Move { index } => arcs_at(table, index),
+        Act::Move { index } => widened(&table[index]),
         Act::Idle { place } => {
             let mut one = [0u64; 32];
             one[place] = 1;

@@ -6,7 +6,6 @@ ghost use Rattle.text.specs.Lines.{many};
 ghost use Rattle.text.specs.Repeat.{many_at};
 ghost use Rattle.text.specs.Answers.{kept, padded};
 ghost use Rattle.text_reader.specs.Place.{Reads, lent};
-ghost use Rattle.model.specs.Limits.{sync_room};
 ghost use Rattle.model.specs.Held.{row, tabled, hold_event, no_event};
 ghost use Rattle.model.specs.Test.{frame_in};
 ghost use Rattle.model_text.specs.Reading.{read_idle, read_move, read_act, read_sync, read_event};
@@ -15,7 +14,6 @@ ghost use Rattle.model_text.specs.Answers.{Fitting, hold_act, with_events};
 use model::{Act, Event, Model};
 use model_acts::own_net;
 use model_rules::takes_part;
-use model_tables::put_row;
 use text::{Cause, Fault};
 use text_reader::Reader;
 use text_scan::fault_at;
@@ -71,14 +69,13 @@ fn sync(r: &mut Reader, m: &Model, own: u8, n: usize) -> Result<[u8; 32], Fault>
 }
 
 // A line of counts for each net.
-fn syncs(r: &mut Reader, m: &Model, own: u8) -> Result<[u8; Event::SYNC], Fault>
+fn syncs(r: &mut Reader, m: &Model, own: u8) -> Result<[[u8; 32]; 8], Fault>
     requires { Fitting m.now }
-    ensures { Reads (kept (tabled row sync_room) (many_at (read_sync (frame_in m.now) own r.old.src.now) 0 m.now.nets r.old.at)) r.old r.new result }
+    ensures { Reads (kept (tabled row 8) (many_at (read_sync (frame_in m.now) own r.old.src.now) 0 m.now.nets r.old.at)) r.old r.new result }
 {
-    let mut table = [0; Event::SYNC];
+    let mut table = [[0; 32]; 8];
     for n in 0..m.nets {
-        let counts = sync(r, m, own, n)?;
-        put_row(&mut table, n, &counts);
+        table[n] = sync(r, m, own, n)?;
     }
     Ok(table)
 }

@@ -12,7 +12,6 @@ ghost use Rattle.model_text.specs.Answers.{hold_sides, hold_tables};
 
 use model::{Model, ObjectNet};
 use model_rules::monotonous;
-use model_tables::put_row;
 use model_text::{Sides, Tables};
 use text::{Cause, Fault};
 use text_reader::Reader;
@@ -45,13 +44,13 @@ pub fn tables(
     ensures { Reads (kept hold_tables (many (read_sides size (λ t. monotonous nets size (nth types.now) (nth t.pre) (nth t.post)) r.old.src.now) n r.old.at)) r.old r.new result }
 {
     let mut table = Tables {
-        pre: [0; 1024],
-        post: [0; 1024],
+        pre: [[0; 32]; 32],
+        post: [[0; 32]; 32],
     };
     for i in 0..n {
-        let row = sides(r, size, nets, types)?;
-        put_row(&mut table.pre, i, &row.pre);
-        put_row(&mut table.post, i, &row.post);
+        let Sides { pre, post } = sides(r, size, nets, types)?;
+        table.pre[i] = pre;
+        table.post[i] = post;
     }
     Ok(table)
 }

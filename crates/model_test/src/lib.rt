@@ -1,11 +1,11 @@
 // The test of a held model: counts in range, unused room 0, and the rules on types, moves and events.
 #![tactic(auto)]
 
-ghost use Rattle.std.specs.Prelude.{◌≡◌, ◌&&◌, cond, ℕ, ◌*◌, ◌+◌, ◌≤◌, eqb, leb, ltb, length, drop, get_or};
-ghost use Rattle.text.specs.Lines.{in_range};
+ghost use Rattle.std.specs.Prelude.{◌≡◌, ◌&&◌, cond, ℕ, ◌≤◌, eqb, leb, ltb, length, drop, get_or};
+ghost use Rattle.text.specs.Lines.{in_range, every};
 ghost use Rattle.eos.specs.Firing.{all_below};
 ghost use Rattle.model.specs.Rules.{nth};
-ghost use Rattle.model.specs.Held.{no_net, no_event, row_in};
+ghost use Rattle.model.specs.Held.{no_net, no_event};
 ghost use Rattle.model.specs.Test.{empty, empty_past, used_of, held_moves, held_event, empty_event, held_model, used_in, type_at, move_at, sizes_are, net_is, net_at, counts_are, framed, part_at, event_is, event_at};
 
 use model::{Event, Model, ObjectNet};
@@ -27,31 +27,27 @@ fn empty_bytes(s: &[u8], from: usize) -> bool
     s.len() <= from || all_empty(&s[from..])
 }
 
-// Whether each of the first n rows of 32 is 0 behind the numbers that it uses, and the table behind them.
-fn empty_past(rows: usize, table: &[u8], n: usize, widths: &[usize]) -> bool
-    requires { (length table.now ≡ rows * 32) × (n ≤ rows) × (n ≤ length widths.now) }
-    ensures { result ≡ empty_past rows (used_in n (nth widths.now)) table.now }
+// Whether each row is nothing but 0. They are looked at as one part, which is faster than row by row.
+fn rows_empty(rows: &[[u8; 32]]) -> bool
+    ensures { result ≡ every empty rows.now }
 {
-    empty_bytes(table, n * 32)
-        && (0..n).all(|i| empty_bytes(&table[i * 32..i * 32 + 32], widths[i]))
+    all_empty(rows.as_flattened())
+}
+
+// Whether each of the first n rows is 0 behind the numbers that it uses, and so is each row behind them.
+fn empty_past(table: &[[u8; 32]], n: usize, widths: &[usize]) -> bool
+    requires { (n ≤ length table.now) × (n ≤ length widths.now) }
+    ensures { result ≡ empty_past (length table.now) (used_in n (nth widths.now)) table.now }
+{
+    rows_empty(&table[n..]) && (0..n).all(|i| empty_bytes(&table[i], widths[i]))
 }
 
 // The same of a table of 32 rows, of which the first n use `width` numbers each.
-fn empty_behind(table: &[u8; 1024], n: usize, width: usize) -> bool
+fn empty_behind(table: &[[u8; 32]; 32], n: usize, width: usize) -> bool
     requires { n ≤ 32 }
     ensures { result ≡ empty_past 32 (used_of n width) table.now }
 {
-    empty_past(32, table, n, &[width; 32])
-}
-
-// A row of 32.
-fn table_row(table: &[u8], i: usize) -> [u8; 32]
-    requires { i * 32 + 32 ≤ length table.now }
-    ensures { result ≡ row_in 32 table.now i }
-{
-    let mut row = [0u8; 32];
-    row.copy_from_slice(&table[i * 32..i * 32 + 32]);
-    row
+    empty_past(table, n, &[width; 32])
 }
 
 // Whether place p may have type t.
@@ -79,11 +75,7 @@ fn typing_held(m: &Model) -> bool
     requires { (m.now.nets ≤ 8) × (m.now.places ≤ 32) × (m.now.moves ≤ 32) }
     ensures { result ≡ all_below m.now.moves (move_at m.now.nets m.now.places m.now.types m.now.pre m.now.post) }
 {
-    (0..m.moves).all(|i| {
-        let pre = table_row(&m.pre, i);
-        let post = table_row(&m.post, i);
-        monotonous(m.nets, m.places, &m.types, &pre, &post)
-    })
+    (0..m.moves).all(|i| monotonous(m.nets, m.places, &m.types, &m.pre[i], &m.post[i]))
 }
 
 fn moves_held(m: &Model) -> bool
@@ -135,11 +127,11 @@ fn transitions_of(objects: &[ObjectNet; 8]) -> [usize; 8]
 }
 
 // Whether each net takes part as an event that idles in net `own` asks.
-fn parts_held(own: u8, nets: usize, sync: &[u8; Event::SYNC]) -> bool
+fn parts_held(own: u8, nets: usize, sync: &[[u8; 32]; 8]) -> bool
     requires { nets ≤ 8 }
     ensures { result ≡ all_below nets (part_at own sync.now) }
 {
-    (0..nets).all(|n| takes_part(own, n, &table_row(sync, n)))
+    (0..nets).all(|n| takes_part(own, n, &sync[n]))
 }
 
 fn event_held(m: &Model, steps: &[usize; 8], e: &Event) -> bool
@@ -147,14 +139,14 @@ fn event_held(m: &Model, steps: &[usize; 8], e: &Event) -> bool
     ensures { result ≡ held_event (framed m.now.places m.now.moves m.now.nets m.now.types steps.now) e.now }
 {
     act_held(m.places, m.moves, &m.types, e)
-        && (empty_past(8, &e.sync, m.nets, steps)
+        && (empty_past(&e.sync, m.nets, steps)
             && parts_held(own_net(&m.types, e.act()), m.nets, &e.sync))
 }
 
 fn event_empty(e: &Event) -> bool
     ensures { result ≡ empty_event e.now }
 {
-    e.kind == 0 && (e.index == 0 && empty_bytes(&e.sync, 0))
+    e.kind == 0 && (e.index == 0 && rows_empty(&e.sync))
 }
 
 // Whether event k may be e.

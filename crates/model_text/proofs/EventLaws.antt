@@ -104,16 +104,16 @@ module _ (f : Frame) (old : Reader) where
           let o : own ≡ own_net f.type b = owns ∙ ap (own_net f.type) (ap as_act same ∙ act_again b) in
           rw (← o) (next b same o))
 
-      pub counts_refused : {new : Reader} (e : Fault) → Reads (kept (tabled row 256) counts) mid new (Err e) → Reads (kept hold_event whole) old new (Err e)
-      counts_refused e k = behind (Err e) (λ b same o. first_refused (tabled row 256) hold_event counts (λ _. make b) e k)
+      pub counts_refused : {new : Reader} (e : Fault) → Reads (kept (tabled row 8) counts) mid new (Err e) → Reads (kept hold_event whole) old new (Err e)
+      counts_refused e k = behind (Err e) (λ b same o. first_refused (tabled row 8) hold_event counts (λ _. make b) e k)
 
-      pub event_read : {new : Reader} (sync : List ℕ) → Reads (kept (tabled row 256) counts) mid new (Ok sync)
+      pub event_read : {new : Reader} (sync : List (List ℕ)) → Reads (kept (tabled row 8) counts) mid new (Ok sync)
           → Reads (kept hold_event whole) old new (Ok (record { kind = kind_of (as_act a); index = index_of (as_act a); sync = sync }))
       unfolding hold_event
       event_read {new} sync k =
           behind _
           (λ b same o.
-          followed (tabled row 256) hold_event counts (λ _. make b) sync _ k
+          followed (tabled row 8) hold_event counts (λ _. make b) sync _ k
           (λ v is held. rw (same, act_again b, held) (passes hold_event (make b v new.at) (record { act = b; sync = v }) refl refl)))
 
 -- ---- events laid into a model

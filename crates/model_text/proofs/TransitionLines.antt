@@ -1,13 +1,12 @@
 -- What is held of a transition's two lines keeps the rule on types where what was read does; transitions put in two tables.
-use Prim.Native.Nat.{ℕ, suc, ◌*◌, ◌≤◌}
+use Prim.Native.Nat.{ℕ, suc, ◌≤◌}
 use native.Mathlib.Omega.{arith}
 use Rattle.std.specs.Prelude.{Result}
 use Rattle.std.specs.declared.result.Result.TheVariants.{Ok, Err}
 use mathlib.Core.Path.{◌≡◌, refl, sym, ap, ap₂, ◌∙◌, fun_ext}
 use mathlib.Core.Bool.{true, false}
 use mathlib.Core.List.{List, [], ◌∷◌}
-use lib.ListN.{length, replicate}
-use lib.Seq.{sets}
+use lib.ListN.{length, set, replicate}
 use mathlib.Core.Bool.{Bool}
 use Rattle.text.specs.Bytes.{Text, bytes}
 use Rattle.text.specs.Lines.{Outcome, got, fault, then, need, read_list}
@@ -21,7 +20,7 @@ use Rattle.text_reader.specs.declared.Reader.{Reader}
 use Rattle.text_reader.proofs.ReadsLaws.{first_refused, followed, passes, fails}
 use Rattle.eos.specs.Model.{Transition}
 use Rattle.model.specs.Rules.{byte, nth, monotonous}
-use Rattle.model.specs.Held.{pre_of, post_of, put_row, tabled}
+use Rattle.model.specs.Held.{put_at, no_row, tabled}
 use Rattle.model.proofs.PaddedRows.{nth-padded}
 use Rattle.model_text.specs.Reading.{read_sides}
 use Rattle.model_text.specs.Answers.{hold_sides, hold_tables}
@@ -50,20 +49,20 @@ untyped n type = refl
 
 -- the rows of a transition laid in both tables
 abbrev pub lay_sides : ℕ → Sides → Tables → Tables
-lay_sides i row t = record { pre = sets t.pre (i * 32) row.pre; post = sets t.post (i * 32) row.post }
+lay_sides i row t = record { pre = set t.pre i row.pre; post = set t.post i row.post }
 
 abbrev pub no_tables : Tables
-no_tables = record { pre = replicate 1024 0; post = replicate 1024 0 }
+no_tables = record { pre = replicate 32 no_row; post = replicate 32 no_row }
 
-both_tables : (i : ℕ) (l : List Transition) (a b : List ℕ)
-    → fill (λ k t. lay_sides k (hold_sides t)) i l (record { pre = a; post = b }) ≡ record { pre = fill (put_row pre_of) i l a; post = fill (put_row post_of) i l b }
+both_tables : (i : ℕ) (l : List Transition) (a b : List (List ℕ))
+    → fill (λ k t. lay_sides k (hold_sides t)) i l (record { pre = a; post = b }) ≡ record { pre = fill (put_at (λ (t : Transition). padded t.pre)) i l a; post = fill (put_at (λ (t : Transition). padded t.post)) i l b }
 unfolding fill
 both_tables i [] a b = refl
-both_tables i (t ∷ l) a b = both_tables (suc i) l (sets a (i * 32) (padded t.pre)) (sets b (i * 32) (padded t.post))
+both_tables i (t ∷ l) a b = both_tables (suc i) l (set a i (padded t.pre)) (set b i (padded t.post))
 
 pub tables_held : (l : List Transition) → fill (λ k t. lay_sides k (hold_sides t)) 0 l no_tables ≡ hold_tables l
 unfolding tabled
-tables_held l = both_tables 0 l (replicate 1024 0) (replicate 1024 0)
+tables_held l = both_tables 0 l (replicate 32 no_row) (replicate 32 no_row)
 
 -- ---- the two lines read
 

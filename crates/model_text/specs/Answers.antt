@@ -16,7 +16,7 @@ abbrev pub hold_sides : eos.Transition → Sides
 hold_sides t = record { pre = padded t.pre; post = padded t.post }
 
 abbrev pub hold_tables : List eos.Transition → Tables
-hold_tables ts = record { pre = tabled pre_of 1024 ts; post = tabled post_of 1024 ts }
+hold_tables ts = record { pre = tabled pre_of 32 ts; post = tabled post_of 32 ts }
 
 abbrev pub hold_act : eos.Act → Act
 hold_act (move k) = Move k
@@ -33,8 +33,8 @@ with_system m y = record {
   moves = length y.moves;
   listed = m.listed;
   types = m.types;
-  pre = tabled pre_of 1024 y.moves;
-  post = tabled post_of 1024 y.moves;
+  pre = tabled pre_of 32 y.moves;
+  post = tabled post_of 32 y.moves;
   objects = hold_nets y.nets;
   events = m.events;
 }

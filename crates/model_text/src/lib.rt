@@ -8,11 +8,11 @@ pub struct Sides {
     pub post: [u8; 32],
 }
 
-// The arcs of transitions, at transition * 32 + place. Unused room is 0.
+// The arcs of transitions, a row for each. Unused room is 0.
 #[derive(Clone, Copy)]
 pub struct Tables {
-    pub pre: [u8; 1024],
-    pub post: [u8; 1024],
+    pub pre: [[u8; 32]; 32],
+    pub post: [[u8; 32]; 32],
 }
 
 // How many object nets and places there are, and the type of each place.

@@ -14,8 +14,7 @@ use Rattle.text.specs.Repeat.{fill}
 use Rattle.text.specs.Answers.{padded}
 use Rattle.text.proofs.PaddedLaws.{padded-is}
 use lib.Seq.{ext_get_or}
-use Rattle.model.specs.Held.{row_in, put_at, listed}
-use Rattle.model.proofs.TableLaws.{row_at, length-row}
+use Rattle.model.specs.Held.{put_at, listed}
 use Rattle.step.specs.Rule.{no_rows, net_rows}
 use Rattle.step.specs.RuleParts.{sum_rows}
 
@@ -25,22 +24,19 @@ length-⊕ [] y e = sym e
 length-⊕ (a ∷ x) [] e = refl
 length-⊕ (a ∷ x) (b ∷ y) e = ap suc (length-⊕ x y (omega arith))
 
--- one number of a sum with a row of a table
-pub plus_at : (v table : List ℕ) (count t k : ℕ) → k < 32 → nth v k + count * nth table (t * 32 + k) ≡ nth (v ⊕ times count (row_in 32 table t)) k
-plus_at v table count t k h =
-    sym (get_d-⊕ v (times count (row_in 32 table t)) k ∙ ap (λ (n : ℕ). nth v k + n) (nth-times count (row_in 32 table t) k ∙ ap (λ (n : ℕ). count * n) (row_at table t k h)))
+-- one number of a sum with a row
+pub plus_at : (v row : List ℕ) (count k : ℕ) → nth v k + count * nth row k ≡ nth (v ⊕ times count row) k
+plus_at v row count k = sym (get_d-⊕ v (times count row) k ∙ ap (λ (n : ℕ). nth v k + n) (nth-times count row k))
 
-pub length_plus : (v table : List ℕ) (count t : ℕ) → length v ≡ 32 → t * 32 + 32 ≤ length table → length (v ⊕ times count (row_in 32 table t)) ≡ 32
-length_plus v table count t e h =
-    let k : length (times count (row_in 32 table t)) ≡ 32 = length-times count (row_in 32 table t) ∙ length-row table t 32 h in
-    length-⊕ v (times count (row_in 32 table t)) (e ∙ sym k) ∙ e
+pub length_plus : (v row : List ℕ) (count : ℕ) → length v ≡ 32 → length row ≡ 32 → length (v ⊕ times count row) ≡ 32
+length_plus v row count e h = length-⊕ v (times count row) (e ∙ sym (length-times count row ∙ h)) ∙ e
 
 -- a count of 0 adds nothing
-pub plus_none : (v table : List ℕ) (count t : ℕ) → length v ≡ 32 → t * 32 + 32 ≤ length table → count ≡ 0 → v ≡ v ⊕ times count (row_in 32 table t)
-plus_none v table count t e h z =
-    ext_get_or 0 v (v ⊕ times count (row_in 32 table t)) (e ∙ sym (length_plus v table count t e h)) (λ k p.
-    let n : nth v k ≡ nth v k + count * nth table (t * 32 + k) = rw z (omega arith) in
-    n ∙ plus_at v table count t k (omega arith))
+pub plus_none : (v row : List ℕ) (count : ℕ) → length v ≡ 32 → length row ≡ 32 → count ≡ 0 → v ≡ v ⊕ times count row
+plus_none v row count e h z =
+    ext_get_or 0 v (v ⊕ times count row) (e ∙ sym (length_plus v row count e h)) (λ k p.
+    let n : nth v k ≡ nth v k + count * nth row k = rw z (omega arith) in
+    n ∙ plus_at v row count k)
 
 -- a product of two bytes
 pub bytes_product : (a b : ℕ) → a ≤ 255 → b ≤ 255 → a * b ≤ 65025
@@ -70,14 +66,6 @@ module _ (count : ℕ → ℕ) (rows : ℕ → List ℕ) where
       rw k
 
 -- ---- the numbers of net after net laid in their rows
-
-pub length-sum : (count : ℕ → ℕ) (table : List ℕ) (t n : ℕ) (v : List ℕ) → length v ≡ 32 → (t + n) * 32 ≤ length table
-    → length (sum_rows count (row_in 32 table) t n v) ≡ 32
-unfolding sum_rows
-length-sum count table t zero v e h = e
-length-sum count table t (suc n) v e h =
-    let k : suc t + n ≡ t + suc n = omega arith in
-    length-sum count table (suc t) n (v ⊕ times (count t) (row_in 32 table t)) (length_plus v table (count t) t e (omega arith)) (rw k h)
 
 pub whole_row : (v : List ℕ) → length v ≡ 32 → padded v ≡ v
 whole_row v e =

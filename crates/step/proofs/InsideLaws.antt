@@ -14,7 +14,8 @@ use Rattle.eos.proofs.VectorSums.{length-zeros, long-left, nth_zero}
 use Rattle.marking.specs.declared.NetToken.{NetToken}
 use Rattle.model.specs.Rules.{nth}
 use Rattle.model.proofs.SlotLaws.{by_index}
-use Rattle.step.specs.Rule.{no_row, no_rows, row_of}
+use Rattle.model.specs.Held.{no_row}
+use Rattle.step.specs.Rule.{no_rows, row_of}
 use Rattle.step.specs.Verdict.{inside_in, inner_tokens}
 use Rattle.step.specs.VerdictParts.{Rowed, Added, Inner}
 use Rattle.step.proofs.VectorArrays.{sum_nil}

@@ -9,7 +9,8 @@ use Rattle.text.specs.Answers.{padded}
 use Rattle.model.proofs.PaddedRows.{padded_none}
 use Rattle.model.proofs.HeldTestLoops.{at_any}
 use Rattle.model.proofs.SlotLaws.{by_index, length-held, held_at, held_past}
-use Rattle.step.specs.Rule.{no_row, row_of, net_rows}
+use Rattle.model.specs.Held.{no_row}
+use Rattle.step.specs.Rule.{row_of, net_rows}
 
 pub length_rows : (l : List (List ℕ)) → length (net_rows l) ≡ 8
 unfolding net_rows

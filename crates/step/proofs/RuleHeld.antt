@@ -7,8 +7,8 @@ use native.Mathlib.Omega.{arith}
 use native.Mathlib.Nat.{zero-add, add-zero}
 use lib.Dec.{ltb}
 use borrow.Author.Tests.{ltb-true}
-use lib.ListN.{length, take, drop, get_or, length-take, get_or-eq_default}
-use lib.Seq.{ext_get_or, get_or-take, get_or-drop}
+use lib.ListN.{length, take, get_or, length-take, get_or-eq_default}
+use lib.Seq.{ext_get_or, get_or-take}
 use Rattle.text.proofs.Basics.{and_true}
 use Rattle.text.specs.Answers.{padded}
 use Rattle.text.proofs.PaddedLaws.{length-padded}
@@ -20,14 +20,14 @@ use Rattle.eos.proofs.VectorLaws.{get_d-⊕}
 use Rattle.eos.proofs.VectorSums.{length-times, length-unit, length-zeros, length-one, long-left, nth-times, nth_zero}
 use Rattle.model.specs.Rules.{nth, right_act}
 use Rattle.model.specs.Acts.{act_of, held_act, outer_in}
-use Rattle.model.specs.Held.{row_in, listed, no_net, no_event, sides_in, net_of, event_of, sync_in, model_of}
+use Rattle.model.specs.Held.{row_in, listed, no_net, no_event, sides_in, net_of, event_of, sync_in, model_of, row_at}
 use Rattle.model.specs.Test.{held_net, empty_past, used_of, frame_in}
 use Rattle.model.specs.declared.ObjectNet.{ObjectNet}
 use Rattle.model.specs.declared.Event.{Event}
 use Rattle.model.specs.declared.Model.{Model}
 use Rattle.model.proofs.PaddedRows.{nth-padded, padded-take}
 use Rattle.model.proofs.SlotLaws.{by_index, length-listed, listed_at, listed_past}
-use Rattle.model.proofs.TableLaws.{length-row, nth-row}
+use Rattle.model.proofs.TableLaws.{nth-row}
 use Rattle.model.proofs.HeldTests.{Held, moves_are, most-nets, most-places, most-moves}
 use Rattle.model.proofs.HeldTestLoops.{few-steps}
 use Rattle.model.proofs.HeldActs.{act-is, act_range}
@@ -91,10 +91,17 @@ length-summed side f w h (a ∷ cs) t (suc n) =
     length_both w (times a (side (f t))) (summed side cs (listed f (suc t) n)) (omega (arith, length-times a (side (f t)), h t)) (length-summed side f w h cs (suc t) n)
 
 -- a row is no longer than it is asked for
-row-few : (n : ℕ) (table : List ℕ) (i : ℕ) → length (row_in n table i) ≤ n
-row-few n table i = omega (arith, length-take n (drop (i * 32) table))
+row-few : (n : ℕ) (table : List (List ℕ)) (i : ℕ) → length (row_in n table i) ≤ n
+row-few n table i = omega (arith, length-take n (row_at table i))
 
-length-rows : (count : ℕ → ℕ) (table : List ℕ) (t n : ℕ) (v : List ℕ) → length v ≡ 32 → length (sum_rows count (row_in 32 table) t n v) ≡ 32
+-- where the first numbers are all that there are, so are the first 32
+seen : (r : List ℕ) (w i : ℕ) → w ≤ 32 → nth (take w r) i ≡ nth r i → nth (take 32 r) i ≡ nth (take w r) i
+seen r w i h e =
+    by_index 32 i
+    (λ p. get_or-take 32 r i 0 p ∙ sym e)
+    (λ p. get_or-eq_default (take 32 r) 0 {n = i} (omega (arith, length-take 32 r)) ∙ sym (get_or-eq_default (take w r) 0 {n = i} (omega (arith, length-take w r))))
+
+length-rows : (count : ℕ → ℕ) (table : List (List ℕ)) (t n : ℕ) (v : List ℕ) → length v ≡ 32 → length (sum_rows count (row_in 32 table) t n v) ≡ 32
 unfolding sum_rows
 length-rows count table t zero v e = e
 length-rows count table t (suc n) v e =
@@ -102,11 +109,11 @@ length-rows count table t (suc n) v e =
     length-rows count table (suc t) n (v ⊕ times (count t) (row_in 32 table t)) (long-left v (times (count t) (row_in 32 table t)) k ∙ e)
 
 -- ---- one side of a held model's transitions, as the code finds it
-pub record Side (side : eos.Transition → List ℕ) (pick : ObjectNet → List ℕ) : Type 0 where
+pub record Side (side : eos.Transition → List ℕ) (pick : ObjectNet → List (List ℕ)) : Type 0 where
   pub row : (o : ObjectNet) (t : ℕ) → side (sides_in o.places o.pre o.post t) ≡ row_in o.places (pick o) t
   pub room : (o : ObjectNet) → held_net o ≡ true → empty_past 32 (used_of o.transitions o.places) (pick o) ≡ true
 
-abbrev room_of : ObjectNet → List ℕ → Bool
+abbrev room_of : ObjectNet → List (List ℕ) → Bool
 room_of o table = empty_past 32 (used_of o.transitions o.places) table
 
 pub pre_side : Side pre (λ o. o.pre)
@@ -128,10 +135,10 @@ module _ (m : Model) (held : Held m) (e : ℕ) (known : e < m.listed) where
   unfolding event_of
   sync-is k h = listed_at (sync_in m.objects event.sync) m.nets k [] h
 
-  module _ {side : eos.Transition → List ℕ} {pick : ObjectNet → List ℕ} (s : Side side pick) where
+  module _ {side : eos.Transition → List ℕ} {pick : ObjectNet → List (List ℕ)} (s : Side side pick) where
     -- the counts that a net's transitions have
-    counts_are_lem : (k j : ℕ) → j < (net k).transitions → nth (row_in (net k).transitions event.sync k) j ≡ nth event.sync (k * 32 + (0 + j))
-    counts_are_lem k j h = rw (zero-add j) (get_or-take (net k).transitions (drop (k * 32) event.sync) j 0 h ∙ get_or-drop (k * 32) event.sync j 0)
+    counts_are_lem : (k j : ℕ) → j < (net k).transitions → nth (row_in (net k).transitions event.sync k) j ≡ nth (row_at event.sync k) (0 + j)
+    counts_are_lem k j h = rw (zero-add j) (get_or-take (net k).transitions (row_at event.sync k) j 0 h)
 
     -- what the theory adds up
     inner_of_lem : (k : ℕ) → k < m.nets → inner_of side (model_of m) (eos.event (model_of m) e) k
@@ -148,7 +155,7 @@ module _ (m : Model) (held : Held m) (e : ℕ) (known : e < m.listed) where
         let few = (within-is 0 32 o.transitions used.1).1 in
         let f = sides_in o.places o.pre o.post in
         let counts = row_in o.transitions event.sync k in
-        let count : ℕ → ℕ = λ t. nth event.sync (k * 32 + t) in
+        let count : ℕ → ℕ = nth (row_at event.sync k) in
         let mine = net_sum pick m.objects event.sync k in
         let sums = summed side counts (listed f 0 o.transitions) in
         let theirs = zeros o.places ⊕ sums in
@@ -158,7 +165,7 @@ module _ (m : Model) (held : Held m) (e : ℕ) (known : e < m.listed) where
         let all : length mine ≡ 32 = length-rows count (pick o) 0 o.transitions (zeros 32) refl in
         let empties = s.room o (net-held m held k (omega (arith, most-nets m held))) in
         let rows : (u i : ℕ) → u < o.transitions → nth (row_in 32 (pick o) u) i ≡ nth (side (f u)) i =
-        λ u i p. rw (s.row o u) (sym (ap (λ (g : ℕ → ℕ). g i) (nth-row 32 o.transitions (λ _. o.places) (pick o) empties few u p wide))) in
+        λ u i p. rw (s.row o u) (seen (row_at (pick o) u) o.places i wide (ap (λ (g : ℕ → ℕ). g i) (nth-row 32 o.transitions (λ _. o.places) (pick o) empties few u p))) in
         let at : (i : ℕ) → nth mine i ≡ nth theirs i =
         λ i.
         let x = nth-sum count (row_in 32 (pick o)) 0 o.transitions (zeros 32) i in
@@ -169,7 +176,7 @@ module _ (m : Model) (held : Held m) (e : ℕ) (known : e < m.listed) where
         ∙ ap padded (sym (inner_of_lem k h))
 
   -- the rows of the code's sums are those of the theory's
-  pub inners_are : {side : eos.Transition → List ℕ} {pick : ObjectNet → List ℕ} → Side side pick
+  pub inners_are : {side : eos.Transition → List ℕ} {pick : ObjectNet → List (List ℕ)} → Side side pick
       → net_rows (listed (net_sum pick m.objects event.sync) 0 m.nets)
       ≡ net_rows (listed (inner_of side (model_of m) (eos.event (model_of m) e)) 0 (length (model_of m).nets))
   inners_are {side} {pick} s =
@@ -185,20 +192,20 @@ module _ (m : Model) (held : Held m) (e : ℕ) (known : e < m.listed) where
   -- ---- the outer side
 
   -- a side of the moves, in its table
-  pub record Moving (side : eos.Transition → List ℕ) (table : List ℕ) : Type 0 where
+  pub record Moving (side : eos.Transition → List ℕ) (table : List (List ℕ)) : Type 0 where
     pub row : (i : ℕ) → side (sides_in m.places m.pre m.post i) ≡ row_in m.places table i
     pub room : empty_past 32 (used_of m.moves m.places) table ≡ true
-    pub long : length table ≡ 1024
+    pub wide : (i : ℕ) → i < 32 → length (row_at table i) ≡ 32
 
-  pub pre_moving : length m.pre ≡ 1024 → Moving pre m.pre
-  pre_moving long = record { row = λ i. refl; room = (moves_are m held.moves).pre; long = long }
+  pub pre_moving : ((i : ℕ) → i < 32 → length (row_at m.pre i) ≡ 32) → Moving pre m.pre
+  pre_moving wide = record { row = λ i. refl; room = (moves_are m held.moves).pre; wide = wide }
 
-  pub post_moving : length m.post ≡ 1024 → Moving post m.post
-  post_moving long = record { row = λ i. refl; room = (moves_are m held.moves).post; long = long }
+  pub post_moving : ((i : ℕ) → i < 32 → length (row_at m.post i) ≡ 32) → Moving post m.post
+  post_moving wide = record { row = λ i. refl; room = (moves_are m held.moves).post; wide = wide }
 
-  module _ {side : eos.Transition → List ℕ} {table : List ℕ} (s : Moving side table) where
+  module _ {side : eos.Transition → List ℕ} {table : List (List ℕ)} (s : Moving side table) where
     -- a move's row, as the theory and as the code has it
-    move-is : (i : ℕ) → i < m.moves → padded (side (get_or (model_of m).moves i eos.no_transition)) ≡ row_in 32 table i
+    move-is : (i : ℕ) → i < m.moves → padded (side (get_or (model_of m).moves i eos.no_transition)) ≡ row_at table i
     unfolding model_of
     move-is i h =
         let f = sides_in m.places m.pre m.post in
@@ -206,10 +213,10 @@ module _ (m : Model) (held : Held m) (e : ℕ) (known : e < m.listed) where
         let few = most-moves m held in
         let v = row_in m.places table i in
         let short : length v ≤ 32 = omega (arith, row-few m.places table i) in
-        let n : length (row_in 32 table i) ≡ 32 = length-row table i 32 (omega (arith, s.long)) in
+        let n : length (row_at table i) ≡ 32 = s.wide i (omega arith) in
         rw (listed_at f m.moves i eos.no_transition h, s.row i)
-        (ext_get_or 0 (padded v) (row_in 32 table i) (length-padded v ∙ sym n)
-        (λ j p. nth-padded v short j ∙ ap (λ (g : ℕ → ℕ). g j) (nth-row 32 m.moves (λ _. m.places) table s.room few i h wide)))
+        (ext_get_or 0 (padded v) (row_at table i) (length-padded v ∙ sym n)
+        (λ j p. nth-padded v short j ∙ ap (λ (g : ℕ → ℕ). g j) (nth-row 32 m.moves (λ _. m.places) table s.room few i h)))
 
     -- one net-token on a place
     idle-is : (p : ℕ) → p < m.places → padded (unit p ⊕ zeros (eos.places (model_of m))) ≡ unit p ⊕ zeros 32
@@ -225,7 +232,7 @@ module _ (m : Model) (held : Held m) (e : ℕ) (known : e < m.listed) where
         λ i. omega (arith, get_d-⊕ (unit p) (zeros n) i, nth_zero n i, get_d-⊕ (unit p) (zeros 32) i, nth_zero 32 i) in
         ext_get_or 0 (padded v) one (length-padded v ∙ sym (length-one p 32 (omega arith))) (λ i q. nth-padded v short i ∙ at i)
 
-    outer-is : (a : eos.Act) → right_act (frame_in m) a ≡ true → padded (of_act side (model_of m) a) ≡ act_side (row_in 32 table) 32 a
+    outer-is : (a : eos.Act) → right_act (frame_in m) a ≡ true → padded (of_act side (model_of m) a) ≡ act_side (row_at table) 32 a
     unfolding right_act
     outer-is (eos.move k) h = move-is k (ltb-true k m.moves h)
     outer-is (eos.idle p) h = idle-is p (ltb-true p m.places (and_true (ltb p m.places) _ h).0)
@@ -240,18 +247,18 @@ module _ (m : Model) (held : Held m) (e : ℕ) (known : e < m.listed) where
   types_are a = sym (padded-take m.places m.types a (types-empty m held a))
 
   -- what the theory has for the event's outer side
-  outer_of_lem : {side : eos.Transition → List ℕ} {table : List ℕ} → Moving side table → outer_in event.kind event.index (row_in 32 table) ≡ padded (outer_of side (model_of m) (eos.event (model_of m) e))
+  outer_of_lem : {side : eos.Transition → List ℕ} {table : List (List ℕ)} → Moving side table → outer_in event.kind event.index (row_at table) ≡ padded (outer_of side (model_of m) (eos.event (model_of m) e))
   unfolding outer_of event_of
   outer_of_lem {side} s = rw (event-is m e known) (sym (outer-is s (act_of event.kind event.index) (act-is (frame_in m) event.kind event.index act-held).right))
 
   -- a side from its parts
-  abbrev pub sides_with : (ObjectNet → List ℕ) → List ℕ → Sides
+  abbrev pub sides_with : (ObjectNet → List (List ℕ)) → List (List ℕ) → Sides
   sides_with pick table = record {
-    outer = outer_in event.kind event.index (row_in 32 table);
+    outer = outer_in event.kind event.index (row_at table);
     inner = net_rows (listed (net_sum pick m.objects event.sync) 0 m.nets);
   }
 
-  pub rule_is : length m.types ≡ 32 → length m.pre ≡ 1024 → length m.post ≡ 1024
+  pub rule_is : length m.types ≡ 32 → ((i : ℕ) → i < 32 → length (row_at m.pre i) ≡ 32) → ((i : ℕ) → i < 32 → length (row_at m.post i) ≡ 32)
       → record {
         nets = m.nets;
         types = m.types;

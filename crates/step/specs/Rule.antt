@@ -1,23 +1,20 @@
 -- How an event's sides are held, added up over the counts of its transitions: what net n has stands in row n; unused room 0.
-use Rattle.std.specs.Prelude.{ℕ, List, [], length, get_or, replicate}
+use Rattle.std.specs.Prelude.{ℕ, List, length, replicate}
 use Rattle.text.specs.Repeat.{fill}
 use Rattle.text.specs.Answers.{padded}
 use Rattle.eos.specs.Model as eos
 use Rattle.eos.specs.Firing.{outer_of, inner_of, pre, post}
-use Rattle.model.specs.Held.{put_at, listed}
+use Rattle.model.specs.Held.{no_row, row_at, put_at, listed}
 use Rattle.step.specs.declared.Sides.{Sides}
 use Rattle.step.specs.declared.Rule.{Rule}
 
--- no numbers, in a row and in all of them
-abbrev pub no_row : List ℕ
-no_row = replicate 32 0
-
+-- no numbers in any row
 abbrev pub no_rows : List (List ℕ)
 no_rows = replicate 8 no_row
 
 -- the row of net n
 abbrev pub row_of : List (List ℕ) → ℕ → List ℕ
-row_of rows n = get_or rows n []
+row_of rows n = row_at rows n
 
 -- what each net has, in its row
 unfoldable pub net_rows : List (List ℕ) → List (List ℕ)

@@ -1,7 +1,7 @@
 // What an event asks and gives, added up: the sides of its move or of idling, and those of its object nets' transitions.
 #![tactic(auto)]
 
-ghost use Rattle.std.specs.Prelude.{◌≡◌, true, ℕ, ◌+◌, ◌*◌, ◌≤◌, ◌<◌, length, get_or};
+ghost use Rattle.std.specs.Prelude.{◌≡◌, true, ℕ, ◌+◌, ◌≤◌, ◌<◌, get_or};
 ghost use Rattle.eos.specs.Vector.{◌⊕◌, times, zeros};
 ghost use Rattle.model.specs.Held.{SizedModel, row_in, no_net, model_of};
 ghost use Rattle.model.specs.Rules.{nth};
@@ -9,47 +9,37 @@ ghost use Rattle.model.specs.Test.{held_model};
 ghost use Rattle.step.specs.Rule.{no_rows, hold_rule, no_rule};
 ghost use Rattle.step.specs.RuleParts.{sum_rows, pre_arcs, post_arcs, net_sums};
 
-use model::{Event, Model};
+use model::Model;
 use model_acts::outer_side;
 use step::Rule;
 
-// Row t of a table of arcs added to the sum, as often as it is counted.
-fn plus_times(sum: &mut [u64; 32], count: u8, table: &[u8; 1024], t: usize)
-    requires { (t < 32) × ((i : ℕ) → nth sum.old i ≤ 4294967296) }
-    ensures { (sum.new ≡ sum.old ⊕ times count (row_in 32 table.now t)) × ((i : ℕ) → nth sum.new i ≤ nth sum.old i + 65025) }
+// A row of arcs added to the sum, as often as it is counted.
+fn plus_times(sum: &mut [u64; 32], count: u8, arcs: &[u8; 32])
+    requires { (i : ℕ) → nth sum.old i ≤ 4294967296 }
+    ensures { (sum.new ≡ sum.old ⊕ times count arcs.now) × ((i : ℕ) → nth sum.new i ≤ nth sum.old i + 65025) }
 {
     if count == 0 {
         return;
     }
     for k in 0..32 {
-        sum[k] += u64::from(count) * u64::from(table[t * 32 + k]);
+        sum[k] += u64::from(count) * u64::from(arcs[k]);
     }
 }
 
-// The rows of a net's transitions added up, each as often as it is counted; the net's counts begin at `from`.
-fn summed(
-    sync: &[u8; Event::SYNC],
-    from: usize,
-    table: &[u8; 1024],
-    transitions: usize,
-) -> [u64; 32]
-    requires { (from + 32 ≤ length sync.now) × (transitions ≤ 32) }
-    ensures { result ≡ sum_rows (λ t. nth sync.now (from + t)) (row_in 32 table.now) 0 transitions (zeros 32) }
+// The rows of a net's transitions added up, each as often as it is counted.
+fn summed(counts: &[u8; 32], table: &[[u8; 32]; 32], transitions: usize) -> [u64; 32]
+    requires { transitions ≤ 32 }
+    ensures { result ≡ sum_rows (nth counts.now) (row_in 32 table.now) 0 transitions (zeros 32) }
 {
     let mut sum = [0u64; 32];
     for t in 0..transitions {
-        plus_times(&mut sum, sync[from + t], table, t);
+        plus_times(&mut sum, counts[t], &table[t]);
     }
     sum
 }
 
 // The rows of the object nets on both sides, for the counts of an event.
-fn inner_sides(
-    m: &Model,
-    sync: &[u8; Event::SYNC],
-    pre: &mut [[u64; 32]; 8],
-    post: &mut [[u64; 32]; 8],
-)
+fn inner_sides(m: &Model, sync: &[[u8; 32]; 8], pre: &mut [[u64; 32]; 8], post: &mut [[u64; 32]; 8])
     requires { (m.now.nets ≤ 8) × ((n : ℕ) → (get_or m.now.objects n no_net).transitions ≤ 32)
         × (pre.old ≡ no_rows) × (post.old ≡ no_rows) }
     ensures { (pre.new ≡ net_sums pre_arcs m.now sync.now) × (post.new ≡ net_sums post_arcs m.now sync.now) }
@@ -57,8 +47,8 @@ fn inner_sides(
     for n in 0..m.nets {
         let net = &m.objects[n];
         let transitions = net.transitions;
-        pre[n] = summed(sync, n * 32, &net.pre, transitions);
-        post[n] = summed(sync, n * 32, &net.post, transitions);
+        pre[n] = summed(&sync[n], &net.pre, transitions);
+        post[n] = summed(&sync[n], &net.post, transitions);
     }
 }
 

@@ -1,5 +1,5 @@
 -- What transitions gain, as a row is filled and as the rows are laid one after the other.
-use Prim.Native.Nat.{ℕ, zero, suc, ◌+◌, ◌-◌, ◌*◌, ◌≤◌, ◌<◌}
+use Prim.Native.Nat.{ℕ, zero, suc, ◌+◌, ◌≤◌, ◌<◌}
 use mathlib.Core.Path.{◌≡◌, refl, ap, sym, ◌∙◌}
 use mathlib.Core.Bool.{Bool, true, false}
 use mathlib.Core.List.{List, [], ◌∷◌}
@@ -8,13 +8,13 @@ use native.Mathlib.Omega.{arith}
 use native.Mathlib.Nat.{zero-add}
 use native.Mathlib.Numerals.{add-one}
 use Rattle.std.specs.Prelude as answer
-use lib.IntN.{ℤ, pos, negsuc, nat_abs, ◌-ℤ◌}
-use lib.ListN.{length, get_or, set, take, drop, replicate, length-set}
+use lib.IntN.{ℤ, pos, negsuc, nat_abs}
+use lib.ListN.{length, get_or, set, replicate, length-set}
 use lib.Seq.{get_or-set_same, get_or-set_other, set_out}
 use Rattle.eos.specs.Causes.{failing}
 use Rattle.eos.proofs.FailingLaws.{failing_first, failing_none}
-use Rattle.eos.specs.Weights.{dot, is_zero}
-use Rattle.model.specs.Held.{no_net, row_in}
+use Rattle.eos.specs.Weights.{is_zero}
+use Rattle.model.specs.Held.{no_net}
 use Rattle.model.specs.declared.Model.{Model}
 use Rattle.model.proofs.SlotLaws.{by_index}
 use Rattle.weigh.specs.Sums.{row_of, number_of, gain_of, Small, GainRow, Gains, move_gain, found}
@@ -45,22 +45,12 @@ small_rest a rest g e h k =
     omega (arith, p, h (suc k))
 
 -- the first t gains stand in it
-pub record Filling (w : List ℤ) (pre post : List ℕ) (t : ℕ) (row : List ℤ) : Type 0 where
+pub record Filling (w : List ℤ) (pre post : List (List ℕ)) (t : ℕ) (row : List ℤ) : Type 0 where
   pub long : length row ≡ 32
   pub small : Small row
   pub is : (k : ℕ) → k < t → number_of row k ≡ gain_of w pre post k
 
--- a gain as the code has it, with the parts of the tables cut out
-pub gain_is : (w : List ℤ) (pre post : List ℕ) (t : ℕ)
-    → dot w (take (t * 32 + 32 - t * 32) (drop (t * 32) post)) -ℤ dot w (take (t * 32 + 32 - t * 32) (drop (t * 32) pre)) ≡ gain_of w pre post t
-unfolding gain_of
-gain_is w pre post t = let e : t * 32 + 32 - t * 32 ≡ 32 = omega arith in rw e
-
--- and a part of an event's counts
-pub counts_part : (w : List ℤ) (sync : List ℕ) (n : ℕ) → dot w (take (n * 32 + 32 - n * 32) (drop (n * 32) sync)) ≡ dot w (row_in 32 sync n)
-counts_part w sync n = let e : n * 32 + 32 - n * 32 ≡ 32 = omega arith in rw e
-
-module _ (w : List ℤ) (pre post : List ℕ) where
+module _ (w : List ℤ) (pre post : List (List ℕ)) where
   pub filling_none : Filling w pre post 0 (replicate 32 (pos 0))
   filling_none = record { long = refl; small = small_none 32; is = λ k p. absurd (omega arith) }
 

@@ -9,7 +9,7 @@ use Rattle.eos.specs.Weights.{dot, positive, is_zero}
 use Rattle.model.specs.Limits.{count_limit}
 use Rattle.model.specs.Rules.{nth}
 use Rattle.model.specs.Acts.{move_in}
-use Rattle.model.specs.Held.{no_net, no_event, row_in}
+use Rattle.model.specs.Held.{no_net, no_event, row_at}
 use Rattle.marking.specs.declared.NetToken.{NetToken}
 use Rattle.model.specs.declared.ObjectNet.{ObjectNet}
 use Rattle.model.specs.declared.Event.{Event}
@@ -32,15 +32,15 @@ number_of row i = get_or row i (pos 0)
 -- ---- events
 
 -- what transition t gains: its post weighed, less its pre weighed
-unfoldable pub gain_of : List ℤ → List ℕ → List ℕ → ℕ → ℤ
-gain_of w pre post t = dot w (row_in 32 post t) -ℤ dot w (row_in 32 pre t)
+unfoldable pub gain_of : List ℤ → List (List ℕ) → List (List ℕ) → ℕ → ℤ
+gain_of w pre post t = dot w (row_at post t) -ℤ dot w (row_at pre t)
 
 -- what a row holds stays small
 abbrev pub Small : List ℤ → Type 0
 Small row = (k : ℕ) → nat_abs (number_of row k) ≤ 137436856320
 
 -- a row of what each transition gains
-pub record GainRow (w : List ℤ) (pre post : List ℕ) (row : List ℤ) : Type 0 where
+pub record GainRow (w : List ℤ) (pre post : List (List ℕ)) (row : List ℤ) : Type 0 where
   pub long : length row ≡ 32
   pub small : Small row
   pub is : (t : ℕ) → t < 32 → number_of row t ≡ gain_of w pre post t
@@ -59,7 +59,7 @@ move_gain row (suc k) = number_of row k
 
 -- what an event gains: what its move gains, and each transition's gain as often as it is counted. Idling gains nothing outside
 unfoldable pub event_gain : ℕ → Event → List (List ℤ) → ℤ
-event_gain nets e gains = move_gain (row_of gains 0) (move_in e.kind e.index) +ℤ total nets (λ n. dot (row_of gains (suc n)) (row_in 32 e.sync n))
+event_gain nets e gains = move_gain (row_of gains 0) (move_in e.kind e.index) +ℤ total nets (λ n. dot (row_of gains (suc n)) (row_at e.sync n))
 
 -- an event's move or place is one of 32
 pub record ActIn (e : Event) : Type 0 where

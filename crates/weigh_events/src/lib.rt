@@ -22,16 +22,12 @@ fn gain(weights: &[i16], pre: &[u8], post: &[u8]) -> i64
 }
 
 // What each of 32 transitions gains by a row of weights.
-fn gain_row(weights: &[i16; 32], pre: &[u8; 1024], post: &[u8; 1024]) -> [i64; 32]
+fn gain_row(weights: &[i16; 32], pre: &[[u8; 32]; 32], post: &[[u8; 32]; 32]) -> [i64; 32]
     ensures { GainRow weights.now pre.now post.now result }
 {
     let mut row = [0i64; 32];
     for t in 0..32 {
-        row[t] = gain(
-            weights,
-            &pre[t * 32..t * 32 + 32],
-            &post[t * 32..t * 32 + 32],
-        );
+        row[t] = gain(weights, &pre[t], &post[t]);
     }
     row
 }
@@ -92,7 +88,7 @@ fn event_gain(e: &Event, nets: usize, gains: &[[i64; 32]; 9]) -> i64
 {
     let mut sum = act_gain(e.act(), &gains[0]);
     for n in 0..nets {
-        sum += counts_gain(&gains[n + 1], &e.sync[n * 32..n * 32 + 32]);
+        sum += counts_gain(&gains[n + 1], &e.sync[n]);
     }
     sum
 }

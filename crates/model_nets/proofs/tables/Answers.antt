@@ -1,7 +1,6 @@
 use Prim.Native.Nat.{ℕ}
 use mathlib.Core.List.{List}
-use mathlib.Core.Path.{refl, ◌∙◌}
-use native.Mathlib.Omega.{arith}
+use mathlib.Core.Path.{refl}
 use Rattle.std.proofs.lemmas.Result.{err_from_is_err_and}
 use Rattle.text.specs.Bytes.{Text}
 use Rattle.text.specs.Lines.{Outcome}
@@ -18,10 +17,10 @@ abbrev one : ℕ → ℕ → List ℕ → Text → ℕ → ℕ → Outcome Trans
 one size nets types s i at = read_sides size (λ t. monotonous nets size (nth types) (nth t.pre) (nth t.post)) s at
 
 pub loop-i-init : goal.loop-i-init
-loop-i-init c = (refl, refl, begins hold_sides lay_sides _ c.args.n c.args.r.now no_tables)
+loop-i-init c = begins hold_sides lay_sides _ c.args.n c.args.r.now no_tables
 
-pub returns-in_err-row : goal.returns-in_err-row
-returns-in_err-row c =
+pub returns-in_err-pre : goal.returns-in_err-pre
+returns-in_err-pre c =
     let a = c.args in
     let l = c.loop-i in
     let f = one a.size a.nets a.types.now in
@@ -29,21 +28,14 @@ returns-in_err-row c =
     rw (p.1, p.2)
     (of_many hold_tables (f a.r.now.src.now 0) a.n a.r.now.at
     (as_held (filling hold_sides lay_sides no_tables) hold_tables _ tables_held
-    (stops hold_sides lay_sides f a.n a.r.now no_tables l.i l.table l.r l.invariant.2 c.loop-i-test.true _ _ c.in_err-row.ensures)))
-
-pub put_row-requires : goal.put_row-requires
-put_row-requires c = omega (arith, c.loop-i.invariant.0, c.loop-i-test.true, c.requires.0)
+    (stops hold_sides lay_sides f a.n a.r.now no_tables l.i l.table l.r l.invariant c.loop-i-test.true _ _ c.in_err-pre.ensures)))
 
 pub loop-i-preserved : goal.loop-i-preserved
 loop-i-preserved c =
     let a = c.args in
     let l = c.loop-i in
-    let f = one a.size a.nets a.types.now in (
-      c.put_row.auto.table ∙ l.invariant.0,
-      c.put_row-in-loop-i.auto.table ∙ l.invariant.1,
-      turns hold_sides lay_sides f a.n a.r.now no_tables l.i l.table l.r l.invariant.2 c.loop-i-test.true _ c.in_ok-row.row _ c.in_ok-row.ensures
-          (rw (c.put_row.ensures, c.put_row-in-loop-i.ensures)),
-    )
+    let f = one a.size a.nets a.types.now in
+    turns hold_sides lay_sides f a.n a.r.now no_tables l.i l.table l.r l.invariant c.loop-i-test.true _ _ _ c.in_ok-pre.ensures refl
 
 pub returns : goal.returns
 returns c =
@@ -52,4 +44,4 @@ returns c =
     let f = one a.size a.nets a.types.now in
     of_many hold_tables (f a.r.now.src.now 0) a.n a.r.now.at
     (as_held (filling hold_sides lay_sides no_tables) hold_tables _ tables_held
-    (ends hold_sides lay_sides f a.n a.r.now no_tables l.i l.table l.r l.invariant.2 c.loop-i-test.false))
+    (ends hold_sides lay_sides f a.n a.r.now no_tables l.i l.table l.r l.invariant c.loop-i-test.false))

@@ -1,6 +1,4 @@
 -- `tables` holds the transitions that are read: what is read from the first on is what is read from here on, behind the rows laid.
-use mathlib.Core.Path.{◌≡◌}
-use lib.ListN.{length}
 use Rattle.model.specs.Rules.{nth, monotonous}
 use Rattle.model_text.specs.Reading.{read_sides}
 use Rattle.model_text.specs.Answers.{hold_sides}
@@ -10,5 +8,4 @@ use Rattle.model_nets.proofs.tables.Given as goal
 
 abbrev pub invariant-loop-i : goal.invariant-loop-i
 invariant-loop-i l =
-    (length l.table.pre ≡ 1024) × (length l.table.post ≡ 1024)
-    × Going hold_sides lay_sides (λ s _ at. read_sides l.size (λ t. monotonous l.nets l.size (nth l.types) (nth t.pre) (nth t.post)) s at) l.n l.fn.r no_tables l.i l.table l.r
+    Going hold_sides lay_sides (λ s _ at. read_sides l.size (λ t. monotonous l.nets l.size (nth l.types) (nth t.pre) (nth t.post)) s at) l.n l.fn.r no_tables l.i l.table l.r

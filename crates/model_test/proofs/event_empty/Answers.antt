@@ -7,7 +7,7 @@ use Rattle.model_test.proofs.event_empty.Goals as goal
 
 pub returns-then-e-eq0-2 : goal.returns-then-e-eq0-2
 unfolding empty_event
-returns-then-e-eq0-2 c = and_yes _ _ _ (eq-eqb _ _ c.if-e-eq0.true) (and_yes _ _ _ (eq-eqb _ _ c.if-e-eq0-2.true) c.empty_bytes.ensures)
+returns-then-e-eq0-2 c = and_yes _ _ _ (eq-eqb _ _ c.if-e-eq0.true) (and_yes _ _ _ (eq-eqb _ _ c.if-e-eq0-2.true) c.rows_empty.ensures)
 
 pub returns-else-e-eq0-2 : goal.returns-else-e-eq0-2
 unfolding empty_event

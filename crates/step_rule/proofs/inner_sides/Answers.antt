@@ -1,11 +1,10 @@
 use borrow.Author.Rules.{rules}
-use Prim.Native.Nat.{◌*◌}
 use mathlib.Core.Path.{◌≡◌, ap, sym, ◌∙◌}
 use mathlib.Core.List.{[]}
 use native.Mathlib.Omega.{arith}
 use native.Mathlib.Nat.{sub-zero}
 use lib.ListN.{length, get_or, length-set}
-use Rattle.model.specs.Held.{no_net}
+use Rattle.model.specs.Held.{no_net, row_at}
 use Rattle.model.specs.declared.ObjectNet.{ObjectNet}
 use Rattle.model.proofs.ModelSized.{told-sized}
 use Rattle.model.proofs.HeldTestLoops.{at_any}
@@ -25,8 +24,8 @@ loop-n-preserved c =
     let sized = told-sized m c.type_inv.m in
     let none : ObjectNet = record { places = 0; transitions = 0; pre = []; post = [] } in
     let net : get_or m.objects n none ≡ get_or m.objects n no_net = at_any m.objects n none no_net (omega (arith, sized.objects)) in
-    let x = c.summed.ensures ∙ ap (λ (o : ObjectNet). arc_sum pre_arcs o sync (n * 32)) net in
-    let y = c.summed-in-loop-n.ensures ∙ ap (λ (o : ObjectNet). arc_sum post_arcs o sync (n * 32)) net in
+    let x = c.summed.ensures ∙ ap (λ (o : ObjectNet). arc_sum pre_arcs o (row_at sync n)) net in
+    let y = c.summed-in-loop-n.ensures ∙ ap (λ (o : ObjectNet). arc_sum post_arcs o (row_at sync n)) net in
     let u : length c.summed.result ≡ 32 = search rules in
     let v : length c.summed-in-loop-n.result ≡ 32 = search rules in (
       omega arith,

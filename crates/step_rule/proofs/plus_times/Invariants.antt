@@ -4,10 +4,9 @@ use mathlib.Core.Path.{◌≡◌}
 use lib.ListN.{length}
 use Rattle.eos.specs.Vector.{◌⊕◌, times}
 use Rattle.model.specs.Rules.{nth}
-use Rattle.model.specs.Held.{row_in}
 use Rattle.step_rule.proofs.plus_times.Given as goal
 
 abbrev pub invariant-loop-k : goal.invariant-loop-k
 invariant-loop-k l =
-    (l.k ≤ 32) × (length l.sum ≡ 32) × ((i : ℕ) → i < l.k → nth l.sum i ≡ nth (l.initial.sum ⊕ times l.count (row_in 32 l.table l.t)) i) × ((i : ℕ) → l.k ≤ i → nth l.sum i ≡ nth l.initial.sum i)
+    (l.k ≤ 32) × (length l.sum ≡ 32) × ((i : ℕ) → i < l.k → nth l.sum i ≡ nth (l.initial.sum ⊕ times l.count l.arcs) i) × ((i : ℕ) → l.k ≤ i → nth l.sum i ≡ nth l.initial.sum i)
     × ((i : ℕ) → nth l.sum i ≤ nth l.initial.sum i + 65025)

@@ -3,7 +3,7 @@ use borrow.Author.Rules.{rules}
 use mathlib.Core.Path.{refl, ap, ◌∙◌}
 use mathlib.Core.List.{[]}
 use Rattle.eos.specs.Firing.{act_side}
-use Rattle.model.specs.Held.{row_in}
+use Rattle.model.specs.Held.{row_at}
 use Rattle.model.specs.declared.Event.{Event}
 use Rattle.model.proofs.ModelSized.{told-sized}
 use Rattle.step.specs.declared.Rule.{Rule}
@@ -53,5 +53,5 @@ returns-clause-made c =
     let act = act_read m c.requires.0 sized e c.requires.1 none _ c.act-act.ensures in
     let counts = counts_read m c.requires.0 sized e c.requires.1 none in
     rule_made m c.requires.0 sized e c.requires.1 _ refl refl
-    (c.outer_side-rule.ensures ∙ ap (act_side (row_in 32 m.pre) 32) act) (c.inner_sides.ensures.0 ∙ ap (net_sums pre_arcs m) counts)
-    (c.outer_side-rule-2.ensures ∙ ap (act_side (row_in 32 m.post) 32) act) (c.inner_sides.ensures.1 ∙ ap (net_sums post_arcs m) counts)
+    (c.outer_side-rule.ensures ∙ ap (act_side (row_at m.pre) 32) act) (c.inner_sides.ensures.0 ∙ ap (net_sums pre_arcs m) counts)
+    (c.outer_side-rule-2.ensures ∙ ap (act_side (row_at m.post) 32) act) (c.inner_sides.ensures.1 ∙ ap (net_sums post_arcs m) counts)

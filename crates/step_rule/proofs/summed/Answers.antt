@@ -1,12 +1,18 @@
-use Prim.Native.Nat.{◌+◌}
-use mathlib.Core.Path.{refl, ap, sym, ◌∙◌}
+use Prim.Native.Nat.{ℕ, ◌≤◌}
+use mathlib.Core.Path.{◌≡◌, refl, ap, sym, ◌∙◌}
 use native.Mathlib.Omega.{arith}
 use native.Mathlib.Nat.{sub-zero}
 use lib.ListN.{length}
 use Rattle.model.specs.Rules.{nth}
-use Rattle.model.specs.Held.{row_in}
+use Rattle.model.specs.Held.{row_at, row_in}
+use Rattle.std.proofs.lemmas.List.{take_all}
+use Rattle.eos.specs.Vector.{◌⊕◌, times}
+use borrow.Author.Rules.{rules}
+use mathlib.Core.List.{List}
 use Rattle.model.proofs.PaddedRows.{nth-zeros}
-use Rattle.step.proofs.ArcSums.{length_plus, sum_next, sum_done}
+use Rattle.eos.proofs.VectorSums.{length-times}
+use Rattle.step.proofs.VectorArrays.{at_least}
+use Rattle.step.proofs.ArcSums.{sum_next, sum_done}
 use Rattle.step_rule.proofs.summed.Goals as goal
 
 pub loop-t-init : goal.loop-t-init
@@ -16,15 +22,20 @@ pub loop-t-preserved : goal.loop-t-preserved
 loop-t-preserved c =
     let a = c.args in
     let t = c.loop-t.t in
-    let n = length_plus c.loop-t.sum a.table.now (nth a.sync.now (a.from + t)) t c.loop-t.invariant.1 (omega (arith, c.told-table)) in (
+    let row : List ℕ = row_at a.table.now t in
+    let count : ℕ = nth a.counts.now t in
+    let long : length c.plus_times.new.sum ≡ 32 = search rules in
+    let all = ap length c.plus_times.ensures.0 in
+    let few : length row ≤ 32 = omega (arith, at_least c.loop-t.sum (times count row), length-times count row, all, long) in
+    let same : row ≡ row_in 32 a.table.now t = sym (take_all 32 row few) in (
       omega arith,
-      ap length c.plus_times.ensures.0 ∙ n,
+      long,
       (λ i. omega (arith, c.loop-t.invariant.2 i, c.plus_times.ensures.1 i)),
-      sum_next (λ t. nth a.sync.now (a.from + t)) (row_in 32 a.table.now) t a.transitions c.loop-t.sum _ (omega arith) c.plus_times.ensures.0
+      sum_next (nth a.counts.now) (row_in 32 a.table.now) t a.transitions c.loop-t.sum _ (omega arith) (c.plus_times.ensures.0 ∙ ap (λ (r : List ℕ). c.loop-t.sum ⊕ times count r) same)
           ∙ c.loop-t.invariant.3,
     )
 
 pub returns : goal.returns
 returns c =
     let a = c.args in
-    sym (sum_done (λ t. nth a.sync.now (a.from + t)) (row_in 32 a.table.now) c.loop-t.t a.transitions c.loop-t.sum (omega arith)) ∙ c.loop-t.invariant.3
+    sym (sum_done (nth a.counts.now) (row_in 32 a.table.now) c.loop-t.t a.transitions c.loop-t.sum (omega arith)) ∙ c.loop-t.invariant.3

@@ -1,5 +1,5 @@
 -- `summed` adds up the rows. The loop's invariant: what is added, and the rows from t on, make up the sum.
-use Prim.Native.Nat.{ℕ, ◌-◌, ◌≤◌, ◌+◌, ◌*◌}
+use Prim.Native.Nat.{ℕ, ◌-◌, ◌≤◌, ◌*◌}
 use mathlib.Core.Path.{◌≡◌}
 use lib.ListN.{length}
 use Rattle.eos.specs.Vector.{zeros}
@@ -11,4 +11,4 @@ use Rattle.step_rule.proofs.summed.Given as goal
 abbrev pub invariant-loop-t : goal.invariant-loop-t
 invariant-loop-t l =
     (l.t ≤ l.transitions) × (length l.sum ≡ 32) × ((i : ℕ) → nth l.sum i ≤ l.t * 65025)
-    × (sum_rows (λ t. nth l.sync (l.from + t)) (row_in 32 l.table) l.t (l.transitions - l.t) l.sum ≡ sum_rows (λ t. nth l.sync (l.from + t)) (row_in 32 l.table) 0 l.transitions (zeros 32))
+    × (sum_rows (nth l.counts) (row_in 32 l.table) l.t (l.transitions - l.t) l.sum ≡ sum_rows (nth l.counts) (row_in 32 l.table) 0 l.transitions (zeros 32))

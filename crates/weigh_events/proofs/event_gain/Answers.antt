@@ -1,4 +1,4 @@
-use Prim.Native.Nat.{suc, ◌+◌, ◌*◌}
+use Prim.Native.Nat.{◌+◌, ◌*◌}
 use mathlib.Core.Path.{◌≡◌, ap, ◌∙◌}
 use borrow.Author.Rules.{rules}
 use native.Mathlib.Omega.{arith}
@@ -12,7 +12,7 @@ use Rattle.model.proofs.HeldActs.{index_back}
 use Rattle.weigh.specs.Sums.{row_of, move_gain, event_gain}
 use Rattle.weigh.proofs.TotalLaws.{total_begins, total_further}
 use Rattle.weigh.proofs.DotLaws.{sum_step, within}
-use Rattle.weigh.proofs.GainLaws.{move_small, counts_part}
+use Rattle.weigh.proofs.GainLaws.{move_small}
 use Rattle.weigh_events.proofs.event_gain.Goals as goal
 
 pub act_gain-sum-requires : goal.act_gain-sum-requires
@@ -41,7 +41,7 @@ loop-n-preserved c =
     let t = c.counts_gain-sum.ensures in
     let e = sum_step l.sum-bits (l.n * 1121484747571200 + 137436856320) 1121484747571200 c.counts_gain-sum.result (omega (arith, c.requires.0)) i.1 i.2 t.low t.high in
     let more : l.n * 1121484747571200 + 137436856320 + 1121484747571200 ≡ (l.n + 1) * 1121484747571200 + 137436856320 = omega arith in (
-      rw e.0 (total_further _ _ _ l.n _ i.0 (t.value ∙ rw (add-one l.n) (counts_part (row_of c.args.gains.now (suc l.n)) c.args.e.now.sync l.n))),
+      rw e.0 (total_further _ _ _ l.n _ i.0 (rw (add-one l.n) at t.value)),
       rw (e.0, ← more) e.1,
       rw (e.0, ← more) e.2,
     )
