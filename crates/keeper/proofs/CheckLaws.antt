@@ -62,7 +62,7 @@ module _ (m : Model) (k : Marking) (s : Text) where
       (λ p few unheld. rw (p, le-leb (length s) longest few, weight_checking, unheld))
 
   pub check_long : longest < length s → Err (Unread TooLong) ≡ weight_checking m k s
-  check_long h = check_unread TooLong (admitted_long m k s TooLong (short_past s h))
+  check_long h = check_unread TooLong (admitted_long m k s TooLong (short_past longest s h))
 
   module _ (few : length s ≤ longest) where
     pub check_unheld : held_both m k ≡ false → Err (Unread NotHeld) ≡ weight_checking m k s

@@ -6,7 +6,7 @@ ghost use Rattle.runner_trace.specs.Running.{ran_to};
 use keeper::{WeightCheck, WeightRefusal, check_weights};
 use marking::Marking;
 use model::Model;
-use reader::{ModelReading, ReadRefusal, read_model};
+use reader::{ModelReading, ReadRefusal, read_model, short};
 use runner_trace::{RunEnd, run, run_refused};
 
 // The limit on a file.
@@ -15,26 +15,22 @@ const LONGEST: usize = 65536;
 pub fn model_file(s: &[u8]) -> Result<ModelReading, ReadRefusal>
     ensures { result ≡ model_file s.now }
 {
-    if LONGEST < s.len() {
-        return Err(ReadRefusal::TooLong);
-    }
+    short(s, LONGEST)?;
     read_model(s)
 }
 
 pub fn weights_file(m: Model, k: Marking, s: &[u8]) -> Result<WeightCheck, WeightRefusal>
     ensures { result ≡ weights_file m k s.now }
 {
-    if LONGEST < s.len() {
-        return Err(WeightRefusal::Unread(ReadRefusal::TooLong));
-    }
+    short(s, LONGEST)?;
     check_weights(m, k, s)
 }
 
 pub fn trace_file(m: &Model, k: &mut Marking, s: &[u8]) -> RunEnd
     ensures { ran_to result k.new ≡ trace_file m.now k.old s.now }
 {
-    if LONGEST < s.len() {
-        return run_refused(ReadRefusal::TooLong);
+    if let Err(refusal) = short(s, LONGEST) {
+        return run_refused(refusal);
     }
     run(m, k, s)
 }

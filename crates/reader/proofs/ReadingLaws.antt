@@ -51,34 +51,34 @@ module _ (m : Model) (k : Marking) where
 
 -- ---- a text that is too long, and one that is not
 
-module _ (s : Text) where
-  pub short_ok : Ok tt ≡ short s → length s ≤ longest
+module _ (most : ℕ) (s : Text) where
+  pub short_ok : Ok tt ≡ short most s → length s ≤ most
   unfolding short
   short_ok e =
-      by_test (leb (length s) longest) (leb-true (length s) longest)
+      by_test (leb (length s) most) (leb-true (length s) most)
       (λ h. let w = rw (h, short) at e in let z : ◌≡◌ {A = ℕ} 0 1 = cc in absurd (omega arith))
 
-  pub short_err : (e : ReadRefusal) → Err e ≡ short s → (e ≡ TooLong) × (longest < length s)
+  pub short_err : (e : ReadRefusal) → Err e ≡ short most s → (e ≡ TooLong) × (most < length s)
   unfolding short
   short_err e h =
-      by_test (leb (length s) longest)
+      by_test (leb (length s) most)
       (λ t. let w = rw (t, short) at h in let z : ◌≡◌ {A = ℕ} 0 1 = cc in absurd (omega arith))
-      (λ t. let w = rw (t, short) at h in (cc, leb-false (length s) longest t))
+      (λ t. let w = rw (t, short) at h in (cc, leb-false (length s) most t))
 
-  pub short_within : length s ≤ longest → Ok tt ≡ short s
+  pub short_within : length s ≤ most → Ok tt ≡ short most s
   unfolding short
-  short_within h = rw (le-leb (length s) longest h, short)
+  short_within h = rw (le-leb (length s) most h, short)
 
-  pub short_past : longest < length s → Err TooLong ≡ short s
+  pub short_past : most < length s → Err TooLong ≡ short most s
   unfolding short
-  short_past h = rw (lt-leb (length s) longest h, short)
+  short_past h = rw (lt-leb (length s) most h, short)
 
 -- ---- a model
 
 module _ (s : Text) where
-  pub model-long : (e : ReadRefusal) → Err e ≡ short s → Err e ≡ model_reading s
+  pub model-long : (e : ReadRefusal) → Err e ≡ short longest s → Err e ≡ model_reading s
   unfolding model_reading
-  model-long e h = let l = short_err s e h in rw (l.0, lt-leb (length s) longest l.1, model_reading)
+  model-long e h = let l = short_err longest s e h in rw (l.0, lt-leb (length s) longest l.1, model_reading)
 
   -- a line is refused, or all are read
   pub model_refused : length s ≤ longest → (e : Fault) → Err e ≡ accepted (kept hold_loaded (read_model s)) → Err (faulty s e) ≡ model_reading s
@@ -101,9 +101,9 @@ module _ (s : Text) where
 -- ---- a marking
 
 module _ (m : Model) (s : Text) where
-  pub marking_long : (e : ReadRefusal) → Err e ≡ short s → Err e ≡ marking_reading m s
+  pub marking_long : (e : ReadRefusal) → Err e ≡ short longest s → Err e ≡ marking_reading m s
   unfolding marking_reading
-  marking_long e h = let l = short_err s e h in rw (l.0, lt-leb (length s) longest l.1, marking_reading)
+  marking_long e h = let l = short_err longest s e h in rw (l.0, lt-leb (length s) longest l.1, marking_reading)
 
   module _ (few : length s ≤ longest) where
     -- the model is not held
@@ -132,9 +132,9 @@ module _ (m : Model) (s : Text) where
 -- ---- what every call on a model, a marking of it and a text asks first
 
 module _ (m : Model) (k : Marking) (s : Text) where
-  pub admitted_long : (e : ReadRefusal) → Err e ≡ short s → Err e ≡ admitted m k s
+  pub admitted_long : (e : ReadRefusal) → Err e ≡ short longest s → Err e ≡ admitted m k s
   unfolding admitted
-  admitted_long e h = let l = short_err s e h in rw (l.0, lt-leb (length s) longest l.1, admitted)
+  admitted_long e h = let l = short_err longest s e h in rw (l.0, lt-leb (length s) longest l.1, admitted)
 
   module _ (few : length s ≤ longest) where
     pub admitted_held : held_both m k ≡ true → Ok tt ≡ admitted m k s
@@ -150,7 +150,7 @@ module _ (m : Model) (k : Marking) (s : Text) where
   admitted_ok e =
       by_le (length s) longest
       (λ few. (few, by_test (held_both m k) (λ h. h) (λ h. let w = e ∙ sym (admitted_unheld few h) in let z : ◌≡◌ {A = ℕ} 0 1 = cc in absurd (omega arith))))
-      (λ h. let w = e ∙ sym (admitted_long TooLong (short_past s h)) in let z : ◌≡◌ {A = ℕ} 0 1 = cc in absurd (omega arith))
+      (λ h. let w = e ∙ sym (admitted_long TooLong (short_past longest s h)) in let z : ◌≡◌ {A = ℕ} 0 1 = cc in absurd (omega arith))
 
   -- refused: too long, or not held
   pub admitted_err : {G : Type 0} (e : ReadRefusal) → Err e ≡ admitted m k s → (e ≡ TooLong → longest < length s → G)
@@ -160,4 +160,4 @@ module _ (m : Model) (k : Marking) (s : Text) where
       (λ few. by_test (held_both m k)
       (λ t. let w = h ∙ sym (admitted_held few t) in let z : ◌≡◌ {A = ℕ} 0 1 = cc in absurd (omega arith))
       (λ t. let w = h ∙ sym (admitted_unheld few t) in unheld (cc) few t))
-      (λ t. let w = h ∙ sym (admitted_long TooLong (short_past s t)) in long (cc) t)
+      (λ t. let w = h ∙ sym (admitted_long TooLong (short_past longest s t)) in long (cc) t)

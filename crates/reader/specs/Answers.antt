@@ -53,9 +53,9 @@ write_pair r = pair_of unwritten_pair r
 abbrev pub faulty : Text → Fault → ReadRefusal
 faulty s e = Faulty (spot_of s e)
 
--- a text is not too long
-unfoldable pub short : Text → Result (Unit {0}) ReadRefusal
-short s = elim (leb (length s) longest) [ true ↦ Ok tt | false ↦ Err TooLong ]
+-- a text has at most so many bytes
+unfoldable pub short : ℕ → Text → Result (Unit {0}) ReadRefusal
+short most s = elim (leb (length s) most) [ true ↦ Ok tt | false ↦ Err TooLong ]
 
 unfoldable pub loaded : Text → Outcome Loaded → Result ModelReading ReadRefusal
 loaded s (got l x) = Ok (record { model = hold_model l.model; start = hold_marking (eos.canonical l.start) })

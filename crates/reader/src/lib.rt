@@ -46,11 +46,11 @@ pub fn faulty(s: &[u8], fault: Fault) -> ReadRefusal
     }
 }
 
-// A text is not too long.
-fn short(s: &[u8]) -> Result<(), ReadRefusal>
-    ensures { result ≡ short s.now }
+// A text has at most so many bytes.
+pub fn short(s: &[u8], most: usize) -> Result<(), ReadRefusal>
+    ensures { result ≡ short most s.now }
 {
-    if Model::LONGEST < s.len() {
+    if most < s.len() {
         return Err(ReadRefusal::TooLong);
     }
     Ok(())
@@ -60,7 +60,7 @@ fn short(s: &[u8]) -> Result<(), ReadRefusal>
 pub fn read_model(s: &[u8]) -> Result<ModelReading, ReadRefusal>
     ensures { result ≡ model_reading s.now }
 {
-    short(s)?;
+    short(s, Model::LONGEST)?;
     let mut model = Model::empty();
     let mut start = Marking::empty();
     if let Err(fault) = model_lines(s, &mut model, &mut start) {
@@ -73,7 +73,7 @@ pub fn read_model(s: &[u8]) -> Result<ModelReading, ReadRefusal>
 pub fn read_marking(m: &Model, s: &[u8]) -> Result<Marking, ReadRefusal>
     ensures { result ≡ marking_reading m.now s.now }
 {
-    short(s)?;
+    short(s, Model::LONGEST)?;
     if !model_test::is_held(m) {
         return Err(ReadRefusal::NotHeld);
     }
@@ -105,7 +105,7 @@ pub fn test_marking(m: &Model, k: &Marking) -> bool
 pub fn admitted(m: &Model, k: &Marking, s: &[u8]) -> Result<(), ReadRefusal>
     ensures { result ≡ admitted m.now k.now s.now }
 {
-    short(s)?;
+    short(s, Model::LONGEST)?;
     if test_marking(m, k) {
         Ok(())
     } else {

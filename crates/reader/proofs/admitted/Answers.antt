@@ -10,7 +10,7 @@ returns-in_err-short c =
     rw (p.1, p.2) (admitted_long _ _ _ _ c.in_err-short.ensures)
 
 pub returns-then-test_marking : goal.returns-then-test_marking
-returns-then-test_marking c = admitted_held _ _ _ (short_ok _ c.in_ok-short.ensures) (sym c.test_marking.ensures ∙ c.if-test_marking.true)
+returns-then-test_marking c = admitted_held _ _ _ (short_ok _ _ c.in_ok-short.ensures) (sym c.test_marking.ensures ∙ c.if-test_marking.true)
 
 pub returns-else-test_marking : goal.returns-else-test_marking
-returns-else-test_marking c = admitted_unheld _ _ _ (short_ok _ c.in_ok-short.ensures) (sym c.test_marking.ensures ∙ c.if-test_marking.false)
+returns-else-test_marking c = admitted_unheld _ _ _ (short_ok _ _ c.in_ok-short.ensures) (sym c.test_marking.ensures ∙ c.if-test_marking.false)

@@ -18,7 +18,7 @@ returns-in_err-short c =
     rw (p.1, p.2) (marking_long _ _ _ c.in_err-short.ensures)
 
 pub returns-then-not-is_held : goal.returns-then-not-is_held
-returns-then-not-is_held c = marking_unheld _ _ (short_ok _ c.in_ok-short.ensures) (sym c.is_held.ensures ∙ c.if-not-is_held.true)
+returns-then-not-is_held c = marking_unheld _ _ (short_ok _ _ c.in_ok-short.ensures) (sym c.is_held.ensures ∙ c.if-not-is_held.true)
 
 pub place_sizes-requires : goal.place_sizes-requires
 place_sizes-requires c = passed (goal.at.place_sizes-requires c).Else-not-is_held
@@ -29,8 +29,8 @@ marking_lines-requires c = sizes_roomy _ (passed (goal.at.marking_lines-requires
 pub returns-in-Err : goal.returns-in-Err
 returns-in-Err c =
     ap Err c.faulty.ensures
-    ∙ marking_refused _ _ (short_ok _ c.in_ok-short.ensures) (passed (goal.at.returns-in-Err c).Else-not-is_held) _ c.place_sizes.ensures _ c.in-Err.ensures
+    ∙ marking_refused _ _ (short_ok _ _ c.in_ok-short.ensures) (passed (goal.at.returns-in-Err c).Else-not-is_held) _ c.place_sizes.ensures _ c.in-Err.ensures
 
 pub returns : goal.returns
 returns c =
-    marking_accepted _ _ (short_ok _ c.in_ok-short.ensures) (passed (goal.at.returns c).Else-not-is_held) _ c.place_sizes.ensures _ c.in_default.ensures
+    marking_accepted _ _ (short_ok _ _ c.in_ok-short.ensures) (passed (goal.at.returns c).Else-not-is_held) _ c.place_sizes.ensures _ c.in_default.ensures

@@ -11,7 +11,7 @@ returns-in_err-short c =
     rw (p.1, p.2) (model-long _ _ c.in_err-short.ensures)
 
 pub returns-in-Err : goal.returns-in-Err
-returns-in-Err c = ap Err c.faulty.ensures ∙ model_refused _ (short_ok _ c.in_ok-short.ensures) _ c.in-Err.ensures
+returns-in-Err c = ap Err c.faulty.ensures ∙ model_refused _ (short_ok _ _ c.in_ok-short.ensures) _ c.in-Err.ensures
 
 pub returns : goal.returns
-returns c = model_accepted _ (short_ok _ c.in_ok-short.ensures) _ _ c.in_default.ensures
+returns c = model_accepted _ (short_ok _ _ c.in_ok-short.ensures) _ _ c.in_default.ensures

@@ -2,8 +2,8 @@
 use Rattle.reader.proofs.ReadingLaws.{short_past, short_within}
 use Rattle.reader.proofs.short.Goals as goal
 
-pub returns-then-s-gt-LONGEST : goal.returns-then-s-gt-LONGEST
-returns-then-s-gt-LONGEST c = short_past _ c.if-s-gt-LONGEST.true
+pub returns-then-most-s : goal.returns-then-most-s
+returns-then-most-s c = short_past _ _ c.if-most-s.true
 
 pub returns : goal.returns
-returns c = short_within _ c.if-s-gt-LONGEST.false
+returns c = short_within _ _ c.if-most-s.false
