@@ -5,3 +5,4 @@ pub mod StageLaws
 pub mod FileFaults
 pub mod AnswerSizes
 pub mod ListingFits
+pub mod ListingEnds
