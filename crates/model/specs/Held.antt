@@ -1,5 +1,7 @@
 -- How a model is held: in arrays of fixed room, unused room 0. And what a held model stands for.
 use Rattle.std.specs.Prelude.{ℕ, zero, suc, ◌≤◌, ◌<◌, ◌≡◌, List, [], ◌∷◌, length, take, get_or, set, replicate}
+use Rattle.std.specs.Prelude as code
+use Rattle.std.proofs.Math.Option.{Option, none, some}
 use Rattle.text.specs.Repeat.{fill}
 use Rattle.text.specs.Answers.{padded}
 use Rattle.eos.specs.Model as eos
@@ -85,12 +87,17 @@ no_model = record {
 -- ---- tables
 
 -- row i
-abbrev pub row_at : List (List ℕ) → ℕ → List ℕ
+abbrev pub row_at : {A : Type 0} → List (List A) → ℕ → List A
 row_at table i = get_or table i []
 
 -- its first n numbers
 abbrev pub row_in : ℕ → List (List ℕ) → ℕ → List ℕ
 row_in n table i = take n (row_at table i)
+
+-- an index of the theory, as the code answers it
+abbrev pub told : Option ℕ → code.Option ℕ
+told none = code.None
+told (some i) = code.Some i
 
 -- ---- what every value of the structs has: tables of so many rows of 32 bytes
 

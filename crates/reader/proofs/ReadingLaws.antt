@@ -1,6 +1,6 @@
 -- What the calls that read and test answer, by how their parts ended.
 use Prim.Native.Nat.{ℕ, ◌≤◌, ◌<◌}
-use mathlib.Core.Path.{◌≡◌, ap, ◌∙◌, sym}
+use mathlib.Core.Path.{◌≡◌, refl, ap, ◌∙◌, sym}
 use mathlib.Core.Bool.{Bool, true, false}
 use lib.ListN.{length}
 use borrow.Author.Tests.{le-leb, lt-leb, leb-false, leb-true}
@@ -8,6 +8,7 @@ use Rattle.text.specs.Bytes.{Text}
 use Rattle.text.proofs.Basics.{and_true, by_le, by_test}
 use Rattle.text.specs.Lines.{Outcome, got, bad}
 use native.Mathlib.Omega.{arith}
+use Rattle.std.specs.Prelude.{Result}
 use Rattle.std.specs.declared.result.Result.TheVariants.{Ok, Err}
 use Rattle.text.specs.Answers.{kept, accepted}
 use Rattle.text.specs.declared.Fault.{Fault}
@@ -21,7 +22,7 @@ use Rattle.marking.specs.Answers.{hold_block}
 use Rattle.marking.specs.declared.Marking.{Marking}
 use Rattle.marking.proofs.SizeLaws.{held_roomy}
 use Rattle.reader.specs.Reading.{Loaded, read_model, read_marking}
-use Rattle.reader.specs.Answers.{faulty, loaded, restored, held_both, model_reading, marking_or, marking_reading, held_in, admitted, short}
+use Rattle.reader.specs.Answers.{faulty, named, loaded, restored, held_both, model_reading, marking_or, marking_reading, held_in, admitted, short}
 use Rattle.reader.specs.Parts.{hold_loaded}
 use Rattle.marking.specs.declared.PlaceSizes.{PlaceSizes}
 use Rattle.reader.specs.declared.ReadRefusal.TheVariants.{NotHeld, TooLong}
@@ -48,6 +49,18 @@ module _ (m : Model) (k : Marking) where
   pub both_model : held_both m k ≡ true → held_model m ≡ true
   unfolding held_in
   both_model h = (and_true (held_model m) _ h).0
+
+-- ---- what was read, where a fault is named by its line
+
+module _ {A : Type 0} (s : Text) where
+  pub named_ok : {a : A} (r : Result A Fault) → Ok a ≡ named s r → r ≡ Ok a
+  named_ok (Ok b) e = cc
+  named_ok (Err d) e = let z : ◌≡◌ {A = ℕ} 0 1 = cc in absurd (omega arith)
+
+  -- a refusal names the fault that was met
+  pub named_err : {G : Type 0} {e : ReadRefusal} (r : Result A Fault) → Err e ≡ named s r → ((d : Fault) → r ≡ Err d → e ≡ faulty s d → G) → G
+  named_err (Ok b) h f = let z : ◌≡◌ {A = ℕ} 0 1 = cc in absurd (omega arith)
+  named_err (Err d) h f = f d refl (cc)
 
 -- ---- a text that is too long, and one that is not
 

@@ -53,6 +53,11 @@ write_pair r = pair_of unwritten_pair r
 abbrev pub faulty : Text → Fault → ReadRefusal
 faulty s e = Faulty (spot_of s e)
 
+-- what was read of a text, where a fault is named by its line
+abbrev pub named : {A : Type 0} → Text → Result A Fault → Result A ReadRefusal
+named s (Ok a) = Ok a
+named s (Err e) = Err (faulty s e)
+
 -- a text has at most so many bytes
 unfoldable pub short : ℕ → Text → Result (Unit {0}) ReadRefusal
 short most s = elim (leb (length s) most) [ true ↦ Ok tt | false ↦ Err TooLong ]

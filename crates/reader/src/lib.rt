@@ -3,7 +3,7 @@
 
 ghost use Rattle.std.specs.Prelude.{◌≡◌};
 ghost use Rattle.model.specs.Test.{held_model};
-ghost use Rattle.reader.specs.Answers.{faulty, short, model_reading, marking_reading, held_both, admitted, too_small, marking_writing};
+ghost use Rattle.reader.specs.Answers.{faulty, named, short, model_reading, marking_reading, held_both, admitted, too_small, marking_writing};
 
 use lines::{marking_lines, model_lines};
 use marking::Marking;
@@ -46,6 +46,16 @@ pub fn faulty(s: &[u8], fault: Fault) -> ReadRefusal
     }
 }
 
+// What was read of a text, where a fault is named by its line.
+pub fn named<T: Drop>(s: &[u8], read: Result<T, Fault>) -> Result<T, ReadRefusal>
+    ensures { result ≡ named s.now read }
+{
+    match read {
+        Ok(value) => Ok(value),
+        Err(fault) => Err(faulty(s, fault)),
+    }
+}
+
 // A text has at most so many bytes.
 pub fn short(s: &[u8], most: usize) -> Result<(), ReadRefusal>
     ensures { result ≡ short most s.now }
@@ -63,9 +73,7 @@ pub fn read_model(s: &[u8]) -> Result<ModelReading, ReadRefusal>
     short(s, Model::LONGEST)?;
     let mut model = Model::empty();
     let mut start = Marking::empty();
-    if let Err(fault) = model_lines(s, &mut model, &mut start) {
-        return Err(faulty(s, fault));
-    }
+    named(s, model_lines(s, &mut model, &mut start))?;
     Ok(ModelReading { model, start })
 }
 
@@ -78,9 +86,7 @@ pub fn read_marking(m: &Model, s: &[u8]) -> Result<Marking, ReadRefusal>
         return Err(ReadRefusal::NotHeld);
     }
     let mut marking = Marking::empty();
-    if let Err(fault) = marking_lines(s, &place_sizes(m), &mut marking) {
-        return Err(faulty(s, fault));
-    }
+    named(s, marking_lines(s, &place_sizes(m), &mut marking))?;
     Ok(marking)
 }
 

@@ -2,7 +2,7 @@
 -- fault.
 use mathlib.Core.Path.{ap, ◌∙◌}
 use Rattle.std.specs.Prelude.{Err}
-use Rattle.std.proofs.lemmas.Result.{err_from_is_err_and}
+use Rattle.text.proofs.Basics.{handed_on}
 use Rattle.reader.specs.declared.ReadRefusal.{ReadRefusal}
 use Rattle.reader.proofs.ReadingLaws.{admitted_ok}
 use Rattle.keeper.specs.declared.WeightRefusal.TheVariants.{Unread}
@@ -13,8 +13,7 @@ use Rattle.keeper.proofs.check_weights.Goals as goal
 
 pub returns-in_err-admitted : goal.returns-in_err-admitted
 returns-in_err-admitted c =
-    let p = err_from_is_err_and c.from_residual.result c.from_residual.ensures.1 in
-    rw (p.1, p.2) (check_unread _ _ _ _ c.in_err-admitted.ensures)
+    rw (handed_on _ c.from_residual.ensures.1) (check_unread _ _ _ _ c.in_err-admitted.ensures)
 
 pub weight_lines-requires : goal.weight_lines-requires
 weight_lines-requires c = model-held _ _ (admitted_ok _ _ _ c.in_ok-admitted.ensures).1

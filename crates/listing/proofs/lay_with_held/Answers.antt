@@ -1,7 +1,7 @@
 -- `lay_with_held` meets its contract: the net-tokens do not fit behind the head, or both are laid.
 use mathlib.Core.Path.{refl, ◌∙◌}
 use native.Mathlib.Omega.{arith}
-use Rattle.std.proofs.lemmas.Result.{err_from_is_err_and}
+use Rattle.text.proofs.Basics.{handed_on}
 use Rattle.reader.proofs.ReadingLaws.{both_model}
 use Rattle.reader.proofs.WriteAnswers.{write_asks}
 use Rattle.listing.proofs.ListingLaid.{head_room, held_whole, held-short, by_sizes}
@@ -21,8 +21,7 @@ put_text-requires c = head_room c.args.head.now _ _ c.in_ok-bytes.ensures refl
 pub returns-in_err-bytes : goal.returns-in_err-bytes
 returns-in_err-bytes c =
     let a = c.args in
-    let p = err_from_is_err_and c.from_residual.result c.from_residual.ensures.1 in
-    rw (p.1, p.2) (held-short a.head.now _ _ c.in_err-bytes.ensures refl ∙ by_sizes a.m.now a.k.now a.head.now a.out.now _ c.place_sizes.ensures)
+    rw (handed_on _ c.from_residual.ensures.1) (held-short a.head.now _ _ c.in_err-bytes.ensures refl ∙ by_sizes a.m.now a.k.now a.head.now a.out.now _ c.place_sizes.ensures)
 
 pub returns : goal.returns
 returns c =

@@ -1,6 +1,6 @@
 -- `block` reads the number of net-tokens, and then their lines.
 use native.Mathlib.Omega.{arith}
-use Rattle.std.proofs.lemmas.Result.{err_from_is_err_and}
+use Rattle.text.proofs.Basics.{handed_on}
 use Rattle.marking.specs.Held.{as_sizes}
 use Rattle.marking.specs.Answers.{hold_block}
 use Rattle.marking.proofs.BlockLaws.{block_refused, block_counted, counted_few}
@@ -9,8 +9,7 @@ use Rattle.marking_read.proofs.block.Goals as goal
 pub returns-in_err-number : goal.returns-in_err-number
 returns-in_err-number c =
     let a = c.args in
-    let p = err_from_is_err_and c.from_residual.result c.from_residual.ensures.1 in
-    rw (p.1, p.2) (block_refused hold_block a.key.now a.most (as_sizes a.z.now) a.r.now _ c.in_err-number.ensures)
+    rw (handed_on _ c.from_residual.ensures.1) (block_refused hold_block a.key.now a.most (as_sizes a.z.now) a.r.now _ c.in_err-number.ensures)
 
 pub net_tokens-requires : goal.net_tokens-requires
 net_tokens-requires c =

@@ -1,5 +1,5 @@
 -- `net_token` reads the line of a net-token, which may be refused.
-use Rattle.std.proofs.lemmas.Result.{err_from_is_err_and}
+use Rattle.text.proofs.Basics.{handed_on}
 use Rattle.marking.specs.Held.{as_sizes}
 use Rattle.marking.specs.Reading.{limits}
 use Rattle.marking.proofs.BlockLaws.{token_refused, token_read}
@@ -7,8 +7,7 @@ use Rattle.marking_read.proofs.net_token.Goals as goal
 
 pub returns-in_err-place : goal.returns-in_err-place
 returns-in_err-place c =
-    let p = err_from_is_err_and c.from_residual.result c.from_residual.ensures.1 in
-    rw (p.1, p.2) (token_refused (limits 256 65535) (as_sizes c.args.z.now) c.args.r.now _ c.in_err-place.ensures)
+    rw (handed_on _ c.from_residual.ensures.1) (token_refused (limits 256 65535) (as_sizes c.args.z.now) c.args.r.now _ c.in_err-place.ensures)
 
 pub returns : goal.returns
 returns c = token_read (limits 256 65535) (as_sizes c.args.z.now) c.args.r.now _ c.in_ok-place.ensures

@@ -1,5 +1,5 @@
 use native.Mathlib.Omega.{arith}
-use Rattle.std.proofs.lemmas.Result.{err_from_is_err_and}
+use Rattle.text.proofs.Basics.{handed_on}
 use Rattle.marking.specs.Held.{as_sizes}
 use Rattle.marking.specs.Reading.{limits}
 use Rattle.marking.proofs.BlockLaws.{going_start, going_long, going_kept, going_turn, going_bad, going_done}
@@ -12,8 +12,7 @@ pub returns-in_err-token : goal.returns-in_err-token
 returns-in_err-token c =
     let a = c.args in
     let l = c.loop in
-    let p = err_from_is_err_and c.from_residual.result c.from_residual.ensures.1 in
-    rw (p.1, p.2) (going_bad (limits 256 65535) (as_sizes a.z.now) a.n a.r.now _ _ _ l.invariant _ _ (omega arith) c.in_err-token.ensures)
+    rw (handed_on _ c.from_residual.ensures.1) (going_bad (limits 256 65535) (as_sizes a.z.now) a.n a.r.now _ _ _ l.invariant _ _ (omega arith) c.in_err-token.ensures)
 
 pub insert-requires : goal.insert-requires
 insert-requires c =

@@ -1,6 +1,6 @@
 -- `event` reads the lines of an event: one of them is refused, or it is held.
 use native.Mathlib.Omega.{arith}
-use Rattle.std.proofs.lemmas.Result.{err_from_is_err_and}
+use Rattle.text.proofs.Basics.{handed_on}
 use Rattle.model.specs.Test.{frame_in}
 use Rattle.model_text.proofs.EventLaws.{act_refused, act_in, counts_refused, event_read}
 use Rattle.model_events.proofs.event.Goals as goal
@@ -8,8 +8,7 @@ use Rattle.model_events.proofs.event.Goals as goal
 pub returns-in_err-act : goal.returns-in_err-act
 returns-in_err-act c =
     let a = c.args in
-    let p = err_from_is_err_and c.from_residual.result c.from_residual.ensures.1 in
-    rw (p.1, p.2) (act_refused (frame_in a.m.now) a.r.now _ c.in_err-act.ensures)
+    rw (handed_on _ c.from_residual.ensures.1) (act_refused (frame_in a.m.now) a.r.now _ c.in_err-act.ensures)
 
 pub own_net-requires : goal.own_net-requires
 own_net-requires c = let a = c.args in act_in (frame_in a.m.now) a.r.now _ c.in_ok-act.ensures c.requires.places c.requires.moves
@@ -17,8 +16,7 @@ own_net-requires c = let a = c.args in act_in (frame_in a.m.now) a.r.now _ c.in_
 pub returns-in_err-sync : goal.returns-in_err-sync
 returns-in_err-sync c =
     let a = c.args in
-    let p = err_from_is_err_and c.from_residual-in_err-sync.result c.from_residual-in_err-sync.ensures.1 in
-    rw (p.1, p.2) (counts_refused (frame_in a.m.now) a.r.now _ c.in_ok-act.ensures _ c.own_net.ensures _ c.in_err-sync.ensures)
+    rw (handed_on _ c.from_residual-in_err-sync.ensures.1) (counts_refused (frame_in a.m.now) a.r.now _ c.in_ok-act.ensures _ c.own_net.ensures _ c.in_err-sync.ensures)
 
 pub new-requires : goal.new-requires
 new-requires c =

@@ -1,7 +1,7 @@
 use Prim.Native.Nat.{ℕ}
 use mathlib.Core.Path.{refl, ap, subst}
 use Rattle.std.specs.declared.result.Result.TheVariants.{Ok, Err}
-use Rattle.std.proofs.lemmas.Result.{err_from_is_err_and}
+use Rattle.text.proofs.Basics.{handed_on}
 use Rattle.text.specs.Bytes.{Text}
 use Rattle.text.specs.Lines.{Outcome}
 use Rattle.text.specs.Answers.{kept}
@@ -33,8 +33,7 @@ pub returns-in_err-m : goal.returns-in_err-m
 returns-in_err-m c =
     let a = c.args in
     let l = c.loop-i in
-    let p = err_from_is_err_and c.from_residual.result c.from_residual.ensures.1 in
-    rw (p.1, p.2)
+    rw (handed_on _ c.from_residual.ensures.1)
     (events_bad a.m.now (one a.m.now a.r.now.src.now 0) a.n a.r.now.at _ _ _
     (of_many (filling hold_event lay_event a.m.now) (one a.m.now a.r.now.src.now 0) a.n a.r.now.at
     (stops hold_event lay_event (one a.m.now) a.n a.r.now a.m.now l.i l.m l.r l.invariant.1 c.loop-i-test.true _ _

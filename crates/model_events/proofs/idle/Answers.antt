@@ -1,14 +1,13 @@
 -- `idle` reads the line of an idling event: it is refused, its place is one of black tokens, or it is held.
 use native.Mathlib.Omega.{arith}
-use Rattle.std.proofs.lemmas.Result.{err_from_is_err_and}
+use Rattle.text.proofs.Basics.{handed_on}
 use Rattle.model.specs.Test.{frame_in}
 use Rattle.model_text.proofs.ActLaws.{idle_refused, idle_in, idle_black, idle_read}
 use Rattle.model_events.proofs.idle.Goals as goal
 
 pub returns-in_err-number : goal.returns-in_err-number
 returns-in_err-number c =
-    let p = err_from_is_err_and c.from_residual.result c.from_residual.ensures.1 in
-    rw (p.1, p.2) (idle_refused (frame_in c.args.m.now) c.args.r.now _ c.in_err-number.ensures)
+    rw (handed_on _ c.from_residual.ensures.1) (idle_refused (frame_in c.args.m.now) c.args.r.now _ c.in_err-number.ensures)
 
 pub overflow_sub-place : goal.overflow_sub-place
 overflow_sub-place c = rw c.from-place.ensures (idle_in (frame_in c.args.m.now) c.args.r.now _ c.in_ok-number.ensures).0

@@ -6,7 +6,7 @@ use native.Mathlib.Omega.{arith}
 use lib.Dec.{lit≤}
 use lib.ListN.{length, get_or}
 use Rattle.std.proofs.lemmas.List.{get_or_default}
-use Rattle.std.proofs.lemmas.Result.{err_from_is_err_and}
+use Rattle.text.proofs.Basics.{handed_on}
 use Rattle.text.specs.Bytes.{bytes}
 use Rattle.text_reader.proofs.ReadsLaws.{list_read}
 use Rattle.model.specs.Held.{no_net}
@@ -26,8 +26,7 @@ returns-in_err-counts c =
     let a = c.args in
     let sized = told-sized a.m.now c.type_inv.m in
     let e = there a.m.now.objects a.n (omega (arith, sized.objects, c.requires.n_lt_nets, c.requires.fitting.nets)) in
-    let p = err_from_is_err_and c.from_residual.result c.from_residual.ensures.1 in
-    rw (p.1, p.2)
+    rw (handed_on _ c.from_residual.ensures.1)
     (sync_refused (frame_in a.m.now) a.own a.n (c.requires.fitting.steps a.n) a.r.now _ (rw e at (list_read 255 255 (bytes "sync=") _ _ _ (lit≤ tt) c.in_err-counts.ensures)))
 
 pub returns-then-not-takes_part : goal.returns-then-not-takes_part

@@ -2,7 +2,7 @@ use Prim.Native.Nat.{ℕ}
 use mathlib.Core.List.{List}
 use mathlib.Core.Path.{refl}
 use lib.ListN.{set, replicate}
-use Rattle.std.proofs.lemmas.Result.{err_from_is_err_and}
+use Rattle.text.proofs.Basics.{handed_on}
 use Rattle.text.specs.Bytes.{Text}
 use Rattle.text.specs.Lines.{Outcome}
 use Rattle.text.specs.Answers.{padded}
@@ -31,8 +31,7 @@ unfolding tabled
 returns-in_err-table c =
     let a = c.args in
     let l = c.loop-n in
-    let p = err_from_is_err_and c.from_residual.result c.from_residual.ensures.1 in
-    rw (p.1, p.2)
+    rw (handed_on _ c.from_residual.ensures.1)
     (as_held (filling padded lay none) (tabled row 8) _ (λ l. refl)
     (stops padded lay (one a.m.now a.own) a.m.now.nets a.r.now none l.n l.table l.r l.invariant c.loop-n-test.true _ _ c.in_err-table.ensures))
 

@@ -1,17 +1,15 @@
 -- `net` reads the lines of an object net: one of them is refused, or it is held.
-use Rattle.std.proofs.lemmas.Result.{err_from_is_err_and}
+use Rattle.text.proofs.Basics.{handed_on}
 use Rattle.model_text.proofs.NetLaws.{inner_refused, inner_few, steps_refused, steps_few, rows_refused, net_read}
 use Rattle.model_nets.proofs.net.Goals as goal
 
 pub returns-in_err-number : goal.returns-in_err-number
 returns-in_err-number c =
-    let p = err_from_is_err_and c.from_residual.result c.from_residual.ensures.1 in
-    rw (p.1, p.2) (inner_refused c.args.r.now _ c.in_err-number.ensures)
+    rw (handed_on _ c.from_residual.ensures.1) (inner_refused c.args.r.now _ c.in_err-number.ensures)
 
 pub returns-in_err-number-2 : goal.returns-in_err-number-2
 returns-in_err-number-2 c =
-    let p = err_from_is_err_and c.from_residual-in_err-number-2.result c.from_residual-in_err-number-2.ensures.1 in
-    rw (p.1, p.2) (steps_refused c.args.r.now _ c.in_ok-number.ensures _ c.in_err-number-2.ensures)
+    rw (handed_on _ c.from_residual-in_err-number-2.ensures.1) (steps_refused c.args.r.now _ c.in_ok-number.ensures _ c.in_err-number-2.ensures)
 
 pub tables-requires : goal.tables-requires
 tables-requires c =
@@ -20,8 +18,7 @@ tables-requires c =
 
 pub returns-in_err-pre : goal.returns-in_err-pre
 returns-in_err-pre c =
-    let p = err_from_is_err_and c.from_residual-in_err-pre.result c.from_residual-in_err-pre.ensures.1 in
-    rw (p.1, p.2) (rows_refused c.args.r.now _ c.in_ok-number.ensures _ c.in_ok-number-2.ensures _ _ (rw (c.from-places.ensures, c.from-transitions.ensures) at c.in_err-pre.ensures))
+    rw (handed_on _ c.from_residual-in_err-pre.ensures.1) (rows_refused c.args.r.now _ c.in_ok-number.ensures _ c.in_ok-number-2.ensures _ _ (rw (c.from-places.ensures, c.from-transitions.ensures) at c.in_err-pre.ensures))
 
 pub returns : goal.returns
 returns c =

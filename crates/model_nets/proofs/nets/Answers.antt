@@ -2,7 +2,7 @@ use Prim.Native.Nat.{ℕ}
 use mathlib.Core.List.{List}
 use mathlib.Core.Path.{refl}
 use lib.ListN.{replicate, set}
-use Rattle.std.proofs.lemmas.Result.{err_from_is_err_and}
+use Rattle.text.proofs.Basics.{handed_on}
 use Rattle.text.specs.Bytes.{Text}
 use Rattle.text.specs.Lines.{Outcome}
 use Rattle.text_reader.proofs.LoopLaws.{filling, begins, ends, stops, turns, as_held, of_many}
@@ -30,8 +30,7 @@ unfolding hold_nets
 returns-in_err-objects c =
     let a = c.args in
     let l = c.loop-i in
-    let p = err_from_is_err_and c.from_residual.result c.from_residual.ensures.1 in
-    rw (p.1, p.2)
+    rw (handed_on _ c.from_residual.ensures.1)
     (of_many hold_nets (one a.r.now.src.now 0) a.n a.r.now.at
     (as_held (filling hold_net lay none) hold_nets _ (λ l. refl)
     (stops hold_net lay one a.n a.r.now none l.i l.objects l.r l.invariant c.loop-i-test.true _ _ c.in_err-objects.ensures)))

@@ -1,7 +1,7 @@
 -- `sides` reads the two lines of a transition: one of them is refused, its types are lost, or it is held.
 use mathlib.Core.Path.{sym, ◌∙◌}
 use lib.Dec.{lit≤}
-use Rattle.std.proofs.lemmas.Result.{err_from_is_err_and}
+use Rattle.text.proofs.Basics.{handed_on}
 use Rattle.text.specs.Bytes.{bytes}
 use Rattle.text_reader.proofs.ReadsLaws.{list_read}
 use Rattle.model.specs.Rules.{nth}
@@ -11,14 +11,12 @@ use Rattle.model_nets.proofs.sides.Goals as goal
 pub returns-in_err-pre : goal.returns-in_err-pre
 returns-in_err-pre c =
     let a = c.args in
-    let p = err_from_is_err_and c.from_residual.result c.from_residual.ensures.1 in
-    rw (p.1, p.2) (pre_refused a.nets a.size (nth a.types.now) c.requires a.r.now _ (list_read 255 255 (bytes "pre=") a.size _ _ (lit≤ tt) c.in_err-pre.ensures))
+    rw (handed_on _ c.from_residual.ensures.1) (pre_refused a.nets a.size (nth a.types.now) c.requires a.r.now _ (list_read 255 255 (bytes "pre=") a.size _ _ (lit≤ tt) c.in_err-pre.ensures))
 
 pub returns-in_err-post : goal.returns-in_err-post
 returns-in_err-post c =
     let a = c.args in
-    let p = err_from_is_err_and c.from_residual-in_err-post.result c.from_residual-in_err-post.ensures.1 in
-    rw (p.1, p.2)
+    rw (handed_on _ c.from_residual-in_err-post.ensures.1)
     (post_refused a.nets a.size (nth a.types.now) c.requires a.r.now _ (list_read 255 255 (bytes "pre=") a.size _ _ (lit≤ tt) c.in_ok-pre.ensures) _
     (list_read 255 255 (bytes "post=") a.size _ _ (lit≤ tt) c.in_err-post.ensures))
 

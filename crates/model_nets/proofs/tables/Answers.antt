@@ -1,7 +1,7 @@
 use Prim.Native.Nat.{ℕ}
 use mathlib.Core.List.{List}
 use mathlib.Core.Path.{refl}
-use Rattle.std.proofs.lemmas.Result.{err_from_is_err_and}
+use Rattle.text.proofs.Basics.{handed_on}
 use Rattle.text.specs.Bytes.{Text}
 use Rattle.text.specs.Lines.{Outcome}
 use Rattle.text_reader.proofs.LoopLaws.{filling, begins, ends, stops, turns, as_held, of_many}
@@ -24,8 +24,7 @@ returns-in_err-pre c =
     let a = c.args in
     let l = c.loop-i in
     let f = one a.size a.nets a.types.now in
-    let p = err_from_is_err_and c.from_residual.result c.from_residual.ensures.1 in
-    rw (p.1, p.2)
+    rw (handed_on _ c.from_residual.ensures.1)
     (of_many hold_tables (f a.r.now.src.now 0) a.n a.r.now.at
     (as_held (filling hold_sides lay_sides no_tables) hold_tables _ tables_held
     (stops hold_sides lay_sides f a.n a.r.now no_tables l.i l.table l.r l.invariant c.loop-i-test.true _ _ c.in_err-pre.ensures)))

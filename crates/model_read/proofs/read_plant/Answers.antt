@@ -1,14 +1,13 @@
 -- `read_plant` reads the lines of a model: one of them is refused, or all are held.
 use mathlib.Core.Path.{ap}
-use Rattle.std.proofs.lemmas.Result.{err_from_is_err_and}
+use Rattle.text.proofs.Basics.{handed_on}
 use Rattle.model.specs.declared.Model.{Model}
 use Rattle.model_text.proofs.PlantLaws.{outline_refused, outline_fits, system_refused, fits, eventless_yet, listed_refused, listed_few, events_read}
 use Rattle.model_read.proofs.read_plant.Goals as goal
 
 pub returns-in_err-outline : goal.returns-in_err-outline
 returns-in_err-outline c =
-    let p = err_from_is_err_and c.from_residual.result c.from_residual.ensures.1 in
-    rw (p.1, p.2) (outline_refused c.args.r.now _ c.in_err-outline.ensures)
+    rw (handed_on _ c.from_residual.ensures.1) (outline_refused c.args.r.now _ c.in_err-outline.ensures)
 
 pub system-requires : goal.system-requires
 system-requires c =
@@ -17,13 +16,11 @@ system-requires c =
 
 pub returns-in_err-system : goal.returns-in_err-system
 returns-in_err-system c =
-    let p = err_from_is_err_and c.from_residual-in_err-system.result c.from_residual-in_err-system.ensures.1 in
-    rw (p.1, p.2) (system_refused c.args.r.now _ c.in_ok-outline.ensures _ (rw c.empty.ensures at c.in_err-system.ensures))
+    rw (handed_on _ c.from_residual-in_err-system.ensures.1) (system_refused c.args.r.now _ c.in_ok-outline.ensures _ (rw c.empty.ensures at c.in_err-system.ensures))
 
 pub returns-in_err-number : goal.returns-in_err-number
 returns-in_err-number c =
-    let p = err_from_is_err_and c.from_residual-in_err-number.result c.from_residual-in_err-number.ensures.1 in
-    rw (p.1, p.2) (listed_refused c.args.r.now _ c.in_ok-outline.ensures _ (rw c.empty.ensures at c.in_ok-system.ensures) _ c.in_err-number.ensures)
+    rw (handed_on _ c.from_residual-in_err-number.ensures.1) (listed_refused c.args.r.now _ c.in_ok-outline.ensures _ (rw c.empty.ensures at c.in_ok-system.ensures) _ c.in_err-number.ensures)
 
 pub events-requires-clause-fitting : goal.events-requires-clause-fitting
 events-requires-clause-fitting c = fits c.args.r.now _ c.in_ok-outline.ensures _ (rw c.empty.ensures at c.in_ok-system.ensures)
@@ -36,8 +33,7 @@ events-requires-clause-none c = (
 
 pub returns-in_err-events : goal.returns-in_err-events
 returns-in_err-events c =
-    let p = err_from_is_err_and c.from_residual-in_err-events.result c.from_residual-in_err-events.ensures.1 in
-    rw (p.1, p.2)
+    rw (handed_on _ c.from_residual-in_err-events.ensures.1)
     (events_read c.args.r.now _ c.in_ok-outline.ensures _ (rw c.empty.ensures at c.in_ok-system.ensures) _ c.in_ok-number.ensures _ (rw c.from-listed.ensures at c.in_err-events.ensures))
 
 pub returns : goal.returns

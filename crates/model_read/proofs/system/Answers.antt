@@ -1,6 +1,6 @@
 -- `system` reads the lines from `moves` to the last object net: one of them is refused, or it is held.
 use mathlib.Core.Bool.{Bool}
-use Rattle.std.proofs.lemmas.Result.{err_from_is_err_and}
+use Rattle.text.proofs.Basics.{handed_on}
 use Rattle.eos.specs.Model.{Transition}
 use Rattle.model.specs.Rules.{nth, monotonous}
 use Rattle.model.specs.declared.Model.{Model}
@@ -14,8 +14,7 @@ fine m t = monotonous m.nets m.places (nth m.types) (nth t.pre) (nth t.post)
 pub returns-in_err-number : goal.returns-in_err-number
 returns-in_err-number c =
     let m = c.args.m.now in
-    let p = err_from_is_err_and c.from_residual.result c.from_residual.ensures.1 in
-    rw (p.1, p.2) (moves_refused m (fine m) c.args.r.now _ c.in_err-number.ensures)
+    rw (handed_on _ c.from_residual.ensures.1) (moves_refused m (fine m) c.args.r.now _ c.in_err-number.ensures)
 
 pub tables-requires : goal.tables-requires
 tables-requires c =
@@ -25,14 +24,12 @@ tables-requires c =
 pub returns-in_err-pre : goal.returns-in_err-pre
 returns-in_err-pre c =
     let m = c.args.m.now in
-    let p = err_from_is_err_and c.from_residual-in_err-pre.result c.from_residual-in_err-pre.ensures.1 in
-    rw (p.1, p.2) (rows_refused m (fine m) c.args.r.now _ c.in_ok-number.ensures _ (rw c.from-moves.ensures at c.in_err-pre.ensures))
+    rw (handed_on _ c.from_residual-in_err-pre.ensures.1) (rows_refused m (fine m) c.args.r.now _ c.in_ok-number.ensures _ (rw c.from-moves.ensures at c.in_err-pre.ensures))
 
 pub returns-in_err-nets : goal.returns-in_err-nets
 returns-in_err-nets c =
     let m = c.args.m.now in
-    let p = err_from_is_err_and c.from_residual-in_err-nets.result c.from_residual-in_err-nets.ensures.1 in
-    rw (p.1, p.2) (objects_refused m (fine m) c.args.r.now _ c.in_ok-number.ensures _ (rw c.from-moves.ensures at c.in_ok-pre.ensures) _ c.in_err-nets.ensures)
+    rw (handed_on _ c.from_residual-in_err-nets.ensures.1) (objects_refused m (fine m) c.args.r.now _ c.in_ok-number.ensures _ (rw c.from-moves.ensures at c.in_ok-pre.ensures) _ c.in_err-nets.ensures)
 
 pub returns : goal.returns
 returns c =

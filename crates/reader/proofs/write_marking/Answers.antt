@@ -1,6 +1,6 @@
 -- `write_marking` meets its contract: not held, or what the writer of a marking answers.
 use mathlib.Core.Path.{◌≡◌, refl, sym, ◌∙◌}
-use Rattle.std.proofs.lemmas.Result.{err_from_is_err_and}
+use Rattle.text.proofs.Basics.{handed_on}
 use mathlib.Core.Bool.{true}
 use native.Mathlib.Omega.{arith}
 use Rattle.marking.specs.Printed.{marking_text}
@@ -28,8 +28,7 @@ write-requires c =
 pub returns-in_err-write : goal.returns-in_err-write
 unfolding marking_text
 returns-in_err-write c =
-    let p = err_from_is_err_and c.from_residual.result c.from_residual.ensures.1 in
-    rw (p.1, p.2) (write_laid _ _ _ (passed (goal.at.returns-in_err-write c).Else-not-test_marking) _ c.place_sizes.ensures _ _ _ refl c.in_err-write.ensures)
+    rw (handed_on _ c.from_residual.ensures.1) (write_laid _ _ _ (passed (goal.at.returns-in_err-write c).Else-not-test_marking) _ c.place_sizes.ensures _ _ _ refl c.in_err-write.ensures)
 
 pub returns : goal.returns
 unfolding marking_text

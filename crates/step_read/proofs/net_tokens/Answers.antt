@@ -2,7 +2,7 @@ use Prim.Native.Nat.{ℕ}
 use mathlib.Core.Path.{refl}
 use mathlib.Core.List.{map}
 use native.Mathlib.Omega.{arith}
-use Rattle.std.proofs.lemmas.Result.{err_from_is_err_and}
+use Rattle.text.proofs.Basics.{handed_on}
 use Rattle.text.specs.Bytes.{Text}
 use Rattle.text.specs.Lines.{Outcome}
 use Rattle.text_reader.proofs.LoopLaws.{filling, begins, ends, stops, turns, of_many}
@@ -24,8 +24,7 @@ returns-in_err-room c =
     let a = c.args in
     let l = c.loop-i in
     let f = one (as_sizes a.z.now) in
-    let p = err_from_is_err_and c.from_residual.result c.from_residual.ensures.1 in
-    rw (p.1, p.2)
+    rw (handed_on _ c.from_residual.ensures.1)
     (still_refused (filling hold_token lay a.room.now) (map hold_token) _ _
     (of_many (filling hold_token lay a.room.now) (f a.r.now.src.now 0) a.n a.r.now.at
     (stops hold_token lay f a.n a.r.now a.room.now l.i l.room l.r l.invariant c.loop-i-test.true _ _ c.in_err-room.ensures)))

@@ -1,5 +1,5 @@
 -- `read_step` reads the taken, and where they ended the given.
-use Rattle.std.proofs.lemmas.Result.{err_from_is_err_and}
+use Rattle.text.proofs.Basics.{handed_on}
 use Rattle.marking.specs.Held.{as_sizes}
 use Rattle.marking.specs.Reading.{limits}
 use Rattle.step.proofs.StepReading.{untaken}
@@ -9,14 +9,12 @@ use Rattle.step_read.proofs.read_step.Goals as goal
 pub returns-in_err-event : goal.returns-in_err-event
 returns-in_err-event c =
     let a = c.args in
-    let p = err_from_is_err_and c.from_residual.result c.from_residual.ensures.1 in
-    rw (p.1, p.2) (untaken (limits 256 65535) (as_sizes c.args.z.now) a.events a.r.now _ c.in_err-event.ensures)
+    rw (handed_on _ c.from_residual.ensures.1) (untaken (limits 256 65535) (as_sizes c.args.z.now) a.events a.r.now _ c.in_err-event.ensures)
 
 pub returns-in_err-give : goal.returns-in_err-give
 returns-in_err-give c =
     let a = c.args in
-    let p = err_from_is_err_and c.from_residual-in_err-give.result c.from_residual-in_err-give.ensures.1 in
-    rw (p.1, p.2) (step-joined (limits 256 65535) (as_sizes c.args.z.now) a.events a.r.now _ _ _ _ c.in_ok-event.ensures c.in_err-give.ensures)
+    rw (handed_on _ c.from_residual-in_err-give.ensures.1) (step-joined (limits 256 65535) (as_sizes c.args.z.now) a.events a.r.now _ _ _ _ c.in_ok-event.ensures c.in_err-give.ensures)
 
 pub returns : goal.returns
 returns c = let a = c.args in step-joined (limits 256 65535) (as_sizes c.args.z.now) a.events a.r.now _ _ _ _ c.in_ok-event.ensures c.in_ok-give.ensures

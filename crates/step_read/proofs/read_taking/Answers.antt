@@ -1,5 +1,5 @@
 -- `read_taking` reads the event and the taken, each of which may be refused.
-use Rattle.std.proofs.lemmas.Result.{err_from_is_err_and}
+use Rattle.text.proofs.Basics.{handed_on}
 use Rattle.marking.specs.Held.{as_sizes}
 use Rattle.marking.specs.Reading.{limits}
 use Rattle.step.proofs.StepReading.{fire_refused, event_from-one, take_refused, taking_read}
@@ -8,8 +8,7 @@ use Rattle.step_read.proofs.read_taking.Goals as goal
 pub returns-in_err-number : goal.returns-in_err-number
 returns-in_err-number c =
     let a = c.args in
-    let p = err_from_is_err_and c.from_residual.result c.from_residual.ensures.1 in
-    rw (p.1, p.2) (fire_refused (limits 256 65535) (as_sizes c.args.z.now) a.events a.r.now _ c.in_err-number.ensures)
+    rw (handed_on _ c.from_residual.ensures.1) (fire_refused (limits 256 65535) (as_sizes c.args.z.now) a.events a.r.now _ c.in_err-number.ensures)
 
 pub overflow_sub-event : goal.overflow_sub-event
 overflow_sub-event c = let a = c.args in rw c.from-event.ensures (event_from-one (limits 256 65535) (as_sizes c.args.z.now) a.events a.r.now _ c.in_ok-number.ensures)
@@ -17,8 +16,7 @@ overflow_sub-event c = let a = c.args in rw c.from-event.ensures (event_from-one
 pub returns-in_err-take : goal.returns-in_err-take
 returns-in_err-take c =
     let a = c.args in
-    let p = err_from_is_err_and c.from_residual-in_err-take.result c.from_residual-in_err-take.ensures.1 in
-    rw (p.1, p.2) (take_refused (limits 256 65535) (as_sizes c.args.z.now) a.events a.r.now _ c.in_ok-number.ensures _ c.in_err-take.ensures)
+    rw (handed_on _ c.from_residual-in_err-take.ensures.1) (take_refused (limits 256 65535) (as_sizes c.args.z.now) a.events a.r.now _ c.in_ok-number.ensures _ c.in_err-take.ensures)
 
 pub returns : goal.returns
 returns c =

@@ -1,13 +1,12 @@
 -- `counted` meets its contract: how the list ended says which outcome it stands for.
-use Rattle.std.proofs.lemmas.Result.{err_from_is_err_and}
+use Rattle.text.proofs.Basics.{handed_on}
 use Rattle.text_tokens.proofs.TokenLaws.{counts_answer}
 use Rattle.text_tokens.proofs.counted.Goals as goal
 
 pub returns-in_err-counts : goal.returns-in_err-counts
 returns-in_err-counts c =
-    let p = err_from_is_err_and c.from_residual.result c.from_residual.ensures.1 in
     let a = c.args in
-    rw (p.1, p.2) ((counts_answer a.n a.hi a.place a.s.now a.at a.x c.ranges.hi.fits _ c.list_end.ensures).0 _ c.in_err-counts.was)
+    rw (handed_on _ c.from_residual.ensures.1) ((counts_answer a.n a.hi a.place a.s.now a.at a.x c.ranges.hi.fits _ c.list_end.ensures).0 _ c.in_err-counts.was)
 
 pub returns : goal.returns
 returns c =

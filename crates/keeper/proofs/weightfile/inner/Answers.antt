@@ -3,7 +3,7 @@ use Prim.Native.Nat.{◌+◌}
 use mathlib.Core.Path.{refl, ◌∙◌}
 use native.Mathlib.Omega.{arith}
 use lib.ListN.{length-set, set}
-use Rattle.std.proofs.lemmas.Result.{err_from_is_err_and}
+use Rattle.text.proofs.Basics.{handed_on}
 use Rattle.text_reader.proofs.LoopLaws.{begins, ends, stops, turns}
 use Rattle.model.proofs.HeldTests.{held-is, most-nets}
 use Rattle.model.proofs.ModelSized.{told-sized}
@@ -32,8 +32,7 @@ returns-in_err-rows c =
     let a = c.args in
     let m = a.m.now in
     let l = c.loop-n in
-    let p = err_from_is_err_and c.from_residual.result c.from_residual.ensures.1 in
-    rw (p.1, p.2)
+    rw (handed_on _ c.from_residual.ensures.1)
     (nets_refused m a.outer _ _
     (stops weight_row put_next (one m) m.nets a.r.now (set no_rows 0 a.outer) l.n l.rows l.r l.invariant.1 c.loop-n-test.true _ _
     (inner_line m (told-sized m c.type_inv.m).objects l.n c.loop-n-test.true (omega (arith, c.loop-n-test.true, most-nets _ (held-is _ c.requires))) l.r _ _ c.in_err-rows.ensures)))

@@ -1,13 +1,12 @@
 -- `outer` reads the first line and the outer weights: the first is refused, or the second stands behind it.
 use borrow.Author.Rules.{rules}
-use Rattle.std.proofs.lemmas.Result.{err_from_is_err_and}
+use Rattle.text.proofs.Basics.{handed_on}
 use Rattle.keeper.proofs.BlockLaws.{outer_refused, outer_read}
 use Rattle.keeper.proofs.weightfile.outer.Goals as goal
 
 pub returns-in_err-head : goal.returns-in_err-head
 returns-in_err-head c =
-    let p = err_from_is_err_and c.from_residual.result c.from_residual.ensures.1 in
-    rw (p.1, p.2) (outer_refused c.args.m.now c.args.r.now _ _ c.in_err-head.ensures)
+    rw (handed_on _ c.from_residual.ensures.1) (outer_refused c.args.m.now c.args.r.now _ _ c.in_err-head.ensures)
 
 pub returns : goal.returns
 returns c =

@@ -1,14 +1,13 @@
 -- `model_file` meets its contract: too long, or read by the call that it is for.
 use mathlib.Core.Path.{◌∙◌}
-use Rattle.std.proofs.lemmas.Result.{err_from_is_err_and}
+use Rattle.text.proofs.Basics.{handed_on}
 use Rattle.reader.proofs.ReadingLaws.{short_ok}
 use Rattle.listing.proofs.ThreeFiles.{model-long, model-short}
 use Rattle.listing.proofs.files.model_file.Goals as goal
 
 pub returns-in_err-short : goal.returns-in_err-short
 returns-in_err-short c =
-    let p = err_from_is_err_and c.from_residual.result c.from_residual.ensures.1 in
-    rw (p.1, p.2) (model-long _ _ c.in_err-short.ensures)
+    rw (handed_on _ c.from_residual.ensures.1) (model-long _ _ c.in_err-short.ensures)
 
 pub returns : goal.returns
 returns c = c.read_model.ensures ∙ model-short _ (short_ok _ _ c.in_ok-short.ensures)

@@ -2,7 +2,7 @@
 use mathlib.Core.Path.{◌≡◌, refl, ◌∙◌}
 use Rattle.std.specs.Prelude.{Result}
 use Rattle.std.specs.declared.result.Result.TheVariants.{Ok, Err}
-use Rattle.std.proofs.lemmas.Result.{err_from_is_err_and}
+use Rattle.text.proofs.Basics.{handed_on}
 use Rattle.text.specs.declared.Fault.{Fault}
 use Rattle.text_reader.specs.Place.{lent}
 use Rattle.model.specs.declared.Model.{Model}
@@ -18,8 +18,7 @@ beside_lent m k (Err e) = refl
 
 pub returns-in_err-read_plant : goal.returns-in_err-read_plant
 returns-in_err-read_plant c =
-    let p = err_from_is_err_and c.from_residual.result c.from_residual.ensures.1 in
-    rw (p.1, p.2) (plant_refused _ _ _ c.in_err-read_plant.ensures)
+    rw (handed_on _ c.from_residual.ensures.1) (plant_refused _ _ _ c.in_err-read_plant.ensures)
 
 pub place_sizes-requires : goal.place_sizes-requires
 place_sizes-requires c = plant_held _ _ _ c.in_ok-read_plant.ensures

@@ -1,12 +1,11 @@
 -- `start_lines` reads net-tokens to the end of the text: a line is refused, bytes stand behind them, or nothing does.
-use Rattle.std.proofs.lemmas.Result.{err_from_is_err_and}
+use Rattle.text.proofs.Basics.{handed_on}
 use Rattle.reader.proofs.LineLaws.{tokens_refused, tokens-to_end}
 use Rattle.reader.proofs.lines.start_lines.Goals as goal
 
 pub returns-in_err-block : goal.returns-in_err-block
 returns-in_err-block c =
-    let p = err_from_is_err_and c.from_residual.result c.from_residual.ensures.1 in
-    rw (p.1, p.2) (tokens_refused _ c.args.r.now _ _ c.in_err-block.ensures)
+    rw (handed_on _ c.from_residual.ensures.1) (tokens_refused _ c.args.r.now _ _ c.in_err-block.ensures)
 
 pub returns : goal.returns
 returns c = tokens-to_end _ c.args.r.now _ _ c.in_ok-block.ensures _ c.close.ensures

@@ -4,7 +4,7 @@ use mathlib.Core.Path.{◌≡◌, sym}
 use native.Mathlib.Omega.{arith}
 use Rattle.std.specs.Prelude.{Result, Ok}
 use Rattle.step.specs.declared.Refusal.{Refusal}
-use Rattle.std.proofs.lemmas.Result.{err_from_is_err_and}
+use Rattle.text.proofs.Basics.{handed_on}
 use lib.ListN.{length}
 use Rattle.eos.specs.Causes.{first}
 use Rattle.marking.specs.Tokens.{tokens_in}
@@ -33,8 +33,7 @@ verdict-requires c =
 
 pub returns-in_err-verdict : goal.returns-in_err-verdict
 returns-in_err-verdict c =
-    let p = err_from_is_err_and c.from_residual.result c.from_residual.ensures.1 in
-    rw (p.1, p.2) (turned_tokens _ _ _ _ _ _ (sym (rw c.held.ensures.tokens at c.in_err-verdict.ensures)))
+    rw (handed_on _ c.from_residual.ensures.1) (turned_tokens _ _ _ _ _ _ (sym (rw c.held.ensures.tokens at c.in_err-verdict.ensures)))
 
 pub change-requires : goal.change-requires
 change-requires c =

@@ -1,15 +1,14 @@
 -- `step` meets its contract: 1, then 14, then the step on the marking.
 use mathlib.Core.Path.{◌∙◌}
 use native.Mathlib.Omega.{arith}
-use Rattle.std.proofs.lemmas.Result.{err_from_is_err_and}
+use Rattle.text.proofs.Basics.{handed_on}
 use Rattle.reader.proofs.ReadingLaws.{admitted_ok, both_model}
 use Rattle.runner.proofs.StepAnswers.{step-unread, step-held}
 use Rattle.runner.proofs.stepping.step.Goals as goal
 
 pub returns-in_err-admitted : goal.returns-in_err-admitted
 returns-in_err-admitted c =
-    let p = err_from_is_err_and c.from_residual.result c.from_residual.ensures.1 in
-    rw (p.1, p.2) (step-unread _ _ _ _ c.in_err-admitted.ensures)
+    rw (handed_on _ c.from_residual.ensures.1) (step-unread _ _ _ _ c.in_err-admitted.ensures)
 
 pub place_sizes-requires : goal.place_sizes-requires
 place_sizes-requires c = both_model _ _ (admitted_ok _ _ _ c.in_ok-admitted.ensures).1
