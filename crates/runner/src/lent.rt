@@ -5,6 +5,7 @@ ghost use Rattle.model.specs.Limits.{room_limit, longest};
 ghost use Rattle.marking.specs.Tokens.{tokens_in, Kept};
 ghost use Rattle.step.specs.Verdict.{causes_in, verdict_of};
 ghost use Rattle.step.specs.VerdictParts.{Sound, Placed};
+ghost use Rattle.model.specs.Test.{held_model};
 ghost use Rattle.marking.specs.Sizes.{place_sizes};
 ghost use Rattle.reader.specs.Answers.{held_both};
 ghost use Rattle.runner.specs.Parts.{ruled};
@@ -12,8 +13,9 @@ ghost use Rattle.runner.specs.Answers.{held_step};
 
 use super::StepRefusal;
 use marking::{Marking, NetToken, PlaceSizes};
+use marking_test::place_sizes;
 use model::Model;
-use reader::faulty;
+use reader::named;
 use step::Rule;
 use step_change::change;
 use step_read::read_step;
@@ -39,34 +41,61 @@ fn fire(
     Ok(next)
 }
 
-// A step on a lent held marking, with its room, of a held model: for a run over many steps, the held test stands once in front of the run.
-// `taken` and `given` are room for the step's net-tokens.
-pub fn step_on(
-    room: usize,
-    m: &Model,
-    z: &PlaceSizes,
-    k: &mut Marking,
-    s: &[u8],
-    taken: &mut [NetToken; Marking::ROOM],
-    given: &mut [NetToken; Marking::ROOM],
-) -> Result<usize, StepRefusal>
-    requires { (room ≤ room_limit) × (held_both m.now k.old ≡ true) × (z.now ≡ place_sizes m.now) × (length s.now ≤ longest) × (length k.old.tokens ≡ room_limit) }
-    ensures { record { answer = result; marking = k.new } ≡ held_step room m.now k.old s.now }
-{
-    let mut r = Reader { src: s, at: 0 };
-    // A held model lists at most 64 events, so their number fits.
-    let lines = match read_step(&mut r, m.listed as u16, z, taken, given) {
-        Ok(lines) => lines,
-        Err(fault) => return Err(StepRefusal::Unread(faulty(s, fault))),
-    };
-    let mut rule = Rule::empty();
-    rule_of(m, lines.event, &mut rule);
-    fire(
-        room,
-        &rule,
-        k,
-        &taken[..lines.take],
-        &given[..lines.give],
-        r.at,
-    )
+// What the steps of a run share: a held model, how many counts the net-tokens of its places have, how many net-tokens a marking has room
+// for, and room for those that a step takes and gives.
+#[derive(Drop)]
+pub struct Stepper<'a> {
+    pub model: &'a Model,
+    pub sizes: PlaceSizes,
+    pub room: usize,
+    pub taken: [NetToken; Marking::ROOM],
+    pub given: [NetToken; Marking::ROOM],
+    ghost held: { held_model model.now ≡ true },
+    ghost sized: { sizes ≡ place_sizes model.now },
+    ghost bounded: { room ≤ room_limit },
+}
+
+impl<'a> Stepper<'a> {
+    pub fn new(model: &'a Model, room: usize) -> Stepper<'a>
+        requires { (held_model model.now ≡ true) × (room ≤ room_limit) }
+        ensures { (result.model.now ≡ model.now) × (result.room ≡ room) }
+    {
+        let unused = [NetToken::empty(); Marking::ROOM];
+        Stepper {
+            model,
+            sizes: place_sizes(model),
+            room,
+            taken: unused,
+            given: unused,
+        }
+    }
+
+    // A step on a lent held marking: for a run over many steps, the held test stands once in front of the run.
+    pub fn step_on(&mut self, k: &mut Marking, s: &[u8]) -> Result<usize, StepRefusal>
+        requires { (held_both self.old.model.now k.old ≡ true) × (length s.now ≤ longest) × (length k.old.tokens ≡ room_limit) }
+        ensures stepped { record { answer = result; marking = k.new } ≡ held_step self.old.room self.old.model.now k.old s.now }
+        ensures same { (self.new.model.now ≡ self.old.model.now) × (self.new.room ≡ self.old.room) }
+    {
+        let mut r = Reader { src: s, at: 0 };
+        // A held model lists at most 64 events, so their number fits.
+        let events = self.model.listed as u16;
+        let read = read_step(
+            &mut r,
+            events,
+            &self.sizes,
+            &mut self.taken,
+            &mut self.given,
+        );
+        let lines = named(s, read)?;
+        let mut rule = Rule::empty();
+        rule_of(self.model, lines.event, &mut rule);
+        fire(
+            self.room,
+            &rule,
+            k,
+            &self.taken[..lines.take],
+            &self.given[..lines.give],
+            r.at,
+        )
+    }
 }

@@ -3,9 +3,8 @@ ghost use Rattle.std.specs.Prelude.{◌≡◌};
 ghost use Rattle.runner.specs.Answers.{stepping};
 
 use super::StepRefusal;
-use super::lent::step_on;
-use marking::{Marking, NetToken};
-use marking_test::place_sizes;
+use super::lent::Stepper;
+use marking::Marking;
 use model::Model;
 use reader::admitted;
 
@@ -14,7 +13,6 @@ pub fn step(m: &Model, k: &mut Marking, s: &[u8]) -> Result<usize, StepRefusal>
     ensures { record { answer = result; marking = k.new } ≡ stepping m.now k.old s.now }
 {
     admitted(m, k, s)?;
-    let mut taken = [NetToken::empty(); Marking::ROOM];
-    let mut given = [NetToken::empty(); Marking::ROOM];
-    step_on(k.room(), m, &place_sizes(m), k, s, &mut taken, &mut given)
+    let mut stepper = Stepper::new(m, k.room());
+    stepper.step_on(k, s)
 }

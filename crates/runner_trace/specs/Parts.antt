@@ -4,8 +4,6 @@ use Rattle.text.specs.Bytes.{Text}
 use Rattle.model.specs.Limits.{room_limit, longest}
 use Rattle.model.specs.declared.Model.{Model}
 use Rattle.marking.specs.declared.Marking.{Marking}
-use Rattle.marking.specs.declared.PlaceSizes.{PlaceSizes}
-use Rattle.marking.specs.Sizes.{place_sizes}
 use Rattle.reader.specs.Answers.{held_both}
 use Rattle.runner.specs.declared.StepRefusal.{StepRefusal}
 use Rattle.runner.specs.Answers.{Stepped, held_step}
@@ -23,10 +21,9 @@ unfoldable pub turn_at : Model → Text → ℕ → Marking → Turned
 turn_at m s at k =
     elim (leb (length s) at) [ true ↦ record { turn = None; marking = k } | false ↦ step_turned (held_step room_limit m k (drop at s)) ]
 
--- what a turn asks: a held marking with its room, of a held model, and the model's sizes
-pub record Ready (room : ℕ) (m : Model) (z : PlaceSizes) (s : Text) (k : Marking) : Type 0 where
+-- what a turn asks: a held marking with its room, of a held model
+pub record Ready (room : ℕ) (m : Model) (s : Text) (k : Marking) : Type 0 where
   pub held : held_both m k ≡ true
-  pub sizes-are : z ≡ place_sizes m
   pub within : length s ≤ longest
   pub long : length k.tokens ≡ room_limit
   pub room_is : room ≡ room_limit

@@ -3,17 +3,15 @@
 
 ghost use Rattle.std.specs.Prelude.{◌≡◌, true, ◌≤◌, length, drop};
 ghost use Rattle.model.specs.Limits.{longest};
-ghost use Rattle.marking.specs.Sizes.{place_sizes};
 ghost use Rattle.reader.specs.Answers.{held_both};
 ghost use Rattle.runner_trace.specs.Parts.{Ready, turn_at};
 ghost use Rattle.runner_trace.specs.Running.{ran, ran_to, run_refused, run_from, running};
 
-use marking::{Marking, NetToken, PlaceSizes};
-use marking_test::place_sizes;
+use marking::Marking;
 use model::Model;
-use reader::{ReadRefusal, admitted, faulty};
+use reader::{ReadRefusal, admitted, named};
 use runner::StepRefusal;
-use runner::lent::step_on;
+use runner::lent::Stepper;
 use text_reader::Reader;
 
 // How far a run came: how many steps fired, the byte of the trace where it stopped, and the step that stopped it, if it was not the end.
@@ -25,40 +23,25 @@ pub struct RunEnd {
 }
 
 // One turn of a run at the place of a reader: the next step is tried on what is left of the text; at the end there is none.
-fn turn(
-    room: usize,
-    m: &Model,
-    z: &PlaceSizes,
-    k: &mut Marking,
-    taken: &mut [NetToken; Marking::ROOM],
-    given: &mut [NetToken; Marking::ROOM],
-    r: &Reader,
-) -> Option<Result<usize, StepRefusal>>
-    requires { Ready room m.now z.now r.now.src.now k.old }
-    ensures { record { turn = result; marking = k.new } ≡ turn_at m.now r.now.src.now r.now.at k.old }
+fn turn(p: &mut Stepper, k: &mut Marking, r: &Reader) -> Option<Result<usize, StepRefusal>>
+    requires { Ready p.old.room p.old.model.now r.now.src.now k.old }
+    ensures tried { record { turn = result; marking = k.new } ≡ turn_at p.old.model.now r.now.src.now r.now.at k.old }
+    ensures same { (p.new.model.now ≡ p.old.model.now) × (p.new.room ≡ p.old.room) }
 {
     if r.src.len() <= r.at {
         return None;
     }
-    Some(step_on(room, m, z, k, &r.src[r.at..], taken, given))
+    Some(p.step_on(k, &r.src[r.at..]))
 }
 
 // The turns of a run up to its stop: how many steps fired, and what stopped it. The reader is moved from step to step by the bytes used.
-fn steps(
-    room: usize,
-    m: &Model,
-    z: &PlaceSizes,
-    k: &mut Marking,
-    taken: &mut [NetToken; Marking::ROOM],
-    given: &mut [NetToken; Marking::ROOM],
-    r: &mut Reader,
-) -> (usize, Result<(), StepRefusal>)
-    requires { Ready room m.now z.now r.old.src.now k.old × (r.old.at ≤ length r.old.src.now) }
-    ensures { ran result.0 r.new.at result.1 k.new ≡ run_from (length r.old.src.now) m.now k.old (drop r.old.at r.old.src.now) 0 r.old.at }
+fn steps(p: &mut Stepper, k: &mut Marking, r: &mut Reader) -> (usize, Result<(), StepRefusal>)
+    requires { Ready p.old.room p.old.model.now r.old.src.now k.old × (r.old.at ≤ length r.old.src.now) }
+    ensures { ran result.0 r.new.at result.1 k.new ≡ run_from (length r.old.src.now) p.old.model.now k.old (drop r.old.at r.old.src.now) 0 r.old.at }
 {
     let mut fired = 0;
     // No index is counted: where the next step begins is what the step before it used.
-    while let Some(answer) = turn(room, m, z, k, taken, given, r) {
+    while let Some(answer) = turn(p, k, r) {
         match answer {
             Ok(bytes) => {
                 r.at += bytes;
@@ -71,13 +54,12 @@ fn steps(
 }
 
 // The steps from the place of a reader to the end of the text or the first stop, on a held marking of a held model.
-fn run_steps(m: &Model, z: &PlaceSizes, k: &mut Marking, r: &mut Reader) -> RunEnd
-    requires { (held_both m.now k.old ≡ true) × (z.now ≡ place_sizes m.now) × (length r.old.src.now ≤ longest) × (r.old.at ≤ length r.old.src.now) }
+fn run_steps(m: &Model, k: &mut Marking, r: &mut Reader) -> RunEnd
+    requires { (held_both m.now k.old ≡ true) × (length r.old.src.now ≤ longest) × (r.old.at ≤ length r.old.src.now) }
     ensures { ran_to result k.new ≡ run_from (length r.old.src.now) m.now k.old (drop r.old.at r.old.src.now) 0 r.old.at }
 {
-    let mut taken = [NetToken::empty(); Marking::ROOM];
-    let mut given = [NetToken::empty(); Marking::ROOM];
-    let (fired, stop) = steps(k.room(), m, z, k, &mut taken, &mut given, r);
+    let mut stepper = Stepper::new(m, k.room());
+    let (fired, stop) = steps(&mut stepper, k, r);
     RunEnd {
         fired,
         at: r.at,
@@ -104,8 +86,8 @@ pub fn run(m: &Model, k: &mut Marking, s: &[u8]) -> RunEnd
         return run_refused(refusal);
     }
     let mut r = Reader { src: s, at: 0 };
-    if let Err(fault) = r.head(b"run=1\n") {
-        return run_refused(faulty(s, fault));
+    if let Err(refusal) = named(s, r.head(b"run=1\n")) {
+        return run_refused(refusal);
     }
-    run_steps(m, &place_sizes(m), k, &mut r)
+    run_steps(m, k, &mut r)
 }

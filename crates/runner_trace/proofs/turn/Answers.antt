@@ -5,11 +5,11 @@ use Rattle.runner.specs.Answers.{held_step}
 use Rattle.runner_trace.proofs.TurnLaws.{rest-left, turn_ends, turn_steps}
 use Rattle.runner_trace.proofs.turn.Goals as goal
 
-pub returns-then-r : goal.returns-then-r
-returns-then-r c = turn_ends _ _ _ _ c.if-r.true
+pub returns-then-r-clause-tried : goal.returns-then-r-clause-tried
+returns-then-r-clause-tried c = turn_ends _ _ _ _ c.if-r.true
 
-pub returns : goal.returns
-returns c =
+pub returns-clause-tried : goal.returns-clause-tried
+returns-clause-tried c =
     let a = c.args in
     turn_steps _ _ _ _ c.if-r.false (record { answer = c.step_on.result; marking = c.step_on.new.k })
-    ((rw c.requires.room_is at c.step_on.ensures) ∙ ap (held_step room_limit a.m.now a.k.now) (rest-left a.r.now.src.now a.r.now.at))
+    ((rw c.requires.room_is at c.step_on.ensures.stepped) ∙ ap (held_step room_limit a.p.now.model.now a.k.now) (rest-left a.r.now.src.now a.r.now.at))

@@ -10,15 +10,15 @@ pub returns-in_err-admitted : goal.returns-in_err-admitted
 returns-in_err-admitted c =
     rw (handed_on _ c.from_residual.ensures.1) (step-unread _ _ _ _ c.in_err-admitted.ensures)
 
-pub place_sizes-requires : goal.place_sizes-requires
-place_sizes-requires c = both_model _ _ (admitted_ok _ _ _ c.in_ok-admitted.ensures).1
+pub new-stepper-requires : goal.new-stepper-requires
+new-stepper-requires c = (both_model _ _ (admitted_ok _ _ _ c.in_ok-admitted.ensures).1, omega (arith, c.room.ensures.value))
 
 pub step_on-requires : goal.step_on-requires
 step_on-requires c =
     let a = admitted_ok _ _ _ c.in_ok-admitted.ensures in
-    (omega (arith, c.room.ensures.value), a.1, c.place_sizes.ensures, a.0, c.room.ensures.tokens)
+    rw c.new-stepper.ensures.0 (a.1, a.0, c.room.ensures.tokens)
 
 pub returns : goal.returns
 returns c =
     let a = admitted_ok _ _ _ c.in_ok-admitted.ensures in
-    c.step_on.ensures ∙ rw c.room.ensures.value (step-held _ _ _ a.0 a.1)
+    c.step_on.ensures.stepped ∙ rw (c.new-stepper.ensures.0, c.new-stepper.ensures.1, c.room.ensures.value) (step-held _ _ _ a.0 a.1)
