@@ -1,6 +1,7 @@
 // What is printed of the answer of each call.
+use super::hand::Hand;
 use super::line::{find, number_at};
-use engine::{Marking, Model, WeightCheck};
+use engine::WeightCheck;
 use pairs::Pair;
 use std::io;
 
@@ -12,14 +13,14 @@ pub fn model(rt: &impl Print, text: &[u8]) -> io::Result<()> {
     put_pair(rt, Pair::from(engine::read_model(text)))
 }
 
-pub fn marking(rt: &impl Print, m: Model, text: &[u8]) -> io::Result<()> {
-    put_pair(rt, Pair::from(engine::read_marking(&m, text)))
+pub fn marking(rt: &impl Print, hand: &Hand, text: &[u8]) -> io::Result<()> {
+    put_pair(rt, Pair::from(engine::read_marking(&hand.model, text)))
 }
 
-// Answers the marking after the step. A step that fired says the bytes that it used.
-pub fn step(rt: &impl Print, m: Model, k: Marking, text: &[u8]) -> io::Result<Marking> {
-    let mut after = k;
-    match engine::step(&m, &mut after, text) {
+// Answers the hand after the step. A step that fired says the bytes that it used.
+pub fn step(rt: &impl Print, hand: &Hand, text: &[u8]) -> io::Result<Hand> {
+    let mut after = *hand;
+    match engine::step(&hand.model, &mut after.marking, text) {
         Ok(bytes) => println!(rt; "fired, bytes {bytes}")?,
         Err(refusal) => put_pair(rt, Pair::from(refusal))?,
     }
@@ -27,33 +28,33 @@ pub fn step(rt: &impl Print, m: Model, k: Marking, text: &[u8]) -> io::Result<Ma
 }
 
 // What writing a marking answers, and the lent bytes after it.
-pub fn written(rt: &impl Print, m: Model, k: Marking, out: &mut [u8]) -> io::Result<()> {
-    let answer = engine::write_marking(&m, &k, out);
+pub fn written(rt: &impl Print, hand: &Hand, out: &mut [u8]) -> io::Result<()> {
+    let answer = engine::write_marking(&hand.model, &hand.marking, out);
     put_pair(rt, Pair::from(answer))?;
     rt.write_all(out)?;
     rt.write_all(b"\n")
 }
 
 // The marking in a buffer of as many bytes as the text says; this program has room for 256.
-pub fn write(rt: &impl Print, m: Model, k: Marking, text: &[u8]) -> io::Result<()> {
+pub fn write(rt: &impl Print, hand: &Hand, text: &[u8]) -> io::Result<()> {
     let mut out = [46u8; 256];
     let n = number_at(text, 0).min(out.len());
-    written(rt, m, k, &mut out[..n])
+    written(rt, hand, &mut out[..n])
 }
 
-pub fn run(rt: &impl Print, m: Model, k: Marking, text: &[u8]) -> io::Result<()> {
-    let mut after = k;
-    let ran = engine::run(&m, &mut after, text);
+pub fn run(rt: &impl Print, hand: &Hand, text: &[u8]) -> io::Result<()> {
+    let mut after = *hand;
+    let ran = engine::run(&hand.model, &mut after.marking, text);
     print!(rt; "fired {}, at {}, stop ", ran.fired, ran.at)?;
     put_pair(rt, Pair::from(ran.stop))?;
     let mut out = [46u8; 40];
     print!(rt; "held: ")?;
-    written(rt, m, after, &mut out)
+    written(rt, &after, &mut out)
 }
 
 // The pair, the sum, and 1 or 0 for the cover.
-pub fn weigh(rt: &impl Print, m: Model, k: Marking, text: &[u8]) -> io::Result<()> {
-    let check = engine::check_weights(m, k, text);
+pub fn weigh(rt: &impl Print, hand: &Hand, text: &[u8]) -> io::Result<()> {
+    let check = engine::check_weights(hand.model, hand.marking, text);
     put_pair(rt, Pair::from(check))?;
     let WeightCheck { sum, cover } = check.unwrap_or(WeightCheck::nothing());
     let cover = usize::from(cover);
@@ -64,8 +65,8 @@ pub fn weigh(rt: &impl Print, m: Model, k: Marking, text: &[u8]) -> io::Result<(
     }
 }
 
-pub fn count(rt: &impl Print, k: Marking) -> io::Result<()> {
-    println!(rt; "{}", k.len)
+pub fn count(rt: &impl Print, hand: &Hand) -> io::Result<()> {
+    println!(rt; "{}", hand.marking.len)
 }
 
 // The text has the tokens and the racks, with a comma between them.

@@ -1,65 +1,69 @@
 // Cases on held models and markings that no reading gives, and on texts that are too long for a line.
 use super::answers::{marking, model, step, written};
+use super::hand::Hand;
 use engine::{Marking, Model};
 use std::io;
 
-fn models(rt: &impl Print, m: Model) -> io::Result<()> {
-    let mut held = m;
-    held.pre[31][31] = 1;
+fn models(rt: &impl Print, hand: &Hand) -> io::Result<()> {
+    let mut held = *hand;
+    held.model.pre[31][31] = 1;
     print!(rt; "unused room not 0: ")?;
-    marking(rt, held, b"start=0\n")?;
-    held.pre[31][31] = 0;
-    held.types[1] = 0;
+    marking(rt, &held, b"start=0\n")?;
+    held.model.pre[31][31] = 0;
+    held.model.types[1] = 0;
     print!(rt; "held move that loses a type: ")?;
-    marking(rt, held, b"start=0\n")?;
-    held.types[1] = 1;
-    held.places = 33;
+    marking(rt, &held, b"start=0\n")?;
+    held.model.types[1] = 1;
+    held.model.places = 33;
     print!(rt; "33 held places: ")?;
-    marking(rt, held, b"start=0\n")
+    marking(rt, &held, b"start=0\n")
 }
 
-fn markings(rt: &impl Print, m: Model, k: Marking) -> io::Result<()> {
-    let mut held = k;
+fn markings(rt: &impl Print, hand: &Hand) -> io::Result<()> {
+    let mut held = *hand;
     let mut out = [46u8; 40];
-    held.tokens[2].place = 1;
+    held.marking.tokens[2].place = 1;
     print!(rt; "unused room not 0: ")?;
-    written(rt, m, held, &mut out)?;
-    held.tokens[2].place = 0;
-    held.tokens[0].counts[0] = 2;
+    written(rt, &held, &mut out)?;
+    held.marking.tokens[2].place = 0;
+    held.marking.tokens[0].counts[0] = 2;
     print!(rt; "not in order: ")?;
-    written(rt, m, held, &mut out)?;
+    written(rt, &held, &mut out)?;
     print!(rt; "a marking out of order: ")?;
-    step(rt, m, held, b"fire=1\n")?;
-    held.tokens[0].counts[0] = 0;
-    held.len = 257;
+    step(rt, &held, b"fire=1\n")?;
+    held.marking.tokens[0].counts[0] = 0;
+    held.marking.len = 257;
     print!(rt; "257 held tokens: ")?;
-    written(rt, m, held, &mut out)
+    written(rt, &held, &mut out)
 }
 
 // One byte more than the longest text that is read: 1 comes before 14.
-fn over_long(rt: &impl Print, m: Model, text: &[u8; 1048577]) -> io::Result<()> {
+fn over_long(rt: &impl Print, hand: &Hand, text: &[u8; 1048577]) -> io::Result<()> {
     print!(rt; "1048577 bytes: ")?;
     model(rt, text)?;
     print!(rt; "33 held places and 1048577 bytes: ")?;
-    marking(rt, m, text)?;
+    marking(rt, hand, text)?;
     print!(rt; "1048577 bytes: ")?;
-    step(rt, m, Marking::empty(), text)?;
+    step(rt, hand, text)?;
     Ok(())
 }
 
 // The longest text that is read.
-fn longest(rt: &impl Print, m: Model, text: &[u8; 1048576]) -> io::Result<()> {
+fn longest(rt: &impl Print, hand: &Hand, text: &[u8; 1048576]) -> io::Result<()> {
     print!(rt; "1048576 bytes: ")?;
     model(rt, text)?;
     print!(rt; "33 held places and 1048576 bytes: ")?;
-    marking(rt, m, text)
+    marking(rt, hand, text)
 }
 
-pub fn run(rt: &impl Print, m: Model, k: Marking) -> io::Result<()> {
-    models(rt, m)?;
-    markings(rt, m, k)?;
-    let mut none = Model::empty();
-    none.places = 33;
-    over_long(rt, none, &[10u8; 1048577])?;
-    longest(rt, none, &[10u8; 1048576])
+pub fn run(rt: &impl Print, hand: &Hand) -> io::Result<()> {
+    models(rt, hand)?;
+    markings(rt, hand)?;
+    let mut none = Hand {
+        model: Model::empty(),
+        marking: Marking::empty(),
+    };
+    none.model.places = 33;
+    over_long(rt, &none, &[10u8; 1048577])?;
+    longest(rt, &none, &[10u8; 1048576])
 }

@@ -2,71 +2,35 @@
 // beside it. The cases are the lines of the file `cases`; those on held things that no reading gives are in `held`.
 #![tactic(auto)]
 
-use engine::{Marking, Model, ModelReading};
 use files::load;
+use hand::Hand;
 use line::{decoded, find};
+use std::io;
 use std::rt::Files;
-use std::{io, str};
 use text_scan::starts;
 
 mod answers;
+mod hand;
 mod held;
 mod line;
 
-// The model and the marking in hand.
-#[derive(Clone, Copy)]
-struct Hand {
-    model: Model,
-    marking: Marking,
-}
-
-// The model of a text and its start; of a text that is refused, the empty model and no net-token.
-fn hand_of(text: &[u8]) -> Hand {
-    match engine::read_model(text) {
-        Ok(ModelReading { model, start }) => Hand {
-            model,
-            marking: start,
-        },
-        Err(_) => Hand {
-            model: Model::empty(),
-            marking: Marking::empty(),
-        },
-    }
-}
-
-fn loaded(rt: &impl Files, path: &str) -> Hand {
-    let mut buf = [0u8; 65536];
-    let n = load(rt, path, &mut buf);
-    hand_of(&buf[..n])
-}
-
-// The hand of the file that a case names; a name that is not UTF-8 is no file's.
-fn loaded_by_name(rt: &impl Files, name: &[u8]) -> Hand {
-    let Ok(path) = str::from_utf8(name) else {
-        return hand_of(b"");
-    };
-    loaded(rt, path)
-}
-
 // What a case that leaves the hand as it is prints after its name.
-fn print(rt: &impl Print, hand: Hand, kind: &[u8], text: &[u8]) -> io::Result<()> {
-    let m = hand.model;
-    let k = hand.marking;
+fn print(rt: &impl Print, hand: &Hand, kind: &[u8], text: &[u8]) -> io::Result<()> {
     if starts(kind, 0, b"model ") {
         answers::model(rt, text)
     } else if starts(kind, 0, b"marking ") {
-        answers::marking(rt, m, text)
+        answers::marking(rt, hand, text)
     } else if starts(kind, 0, b"step ") {
-        answers::step(rt, m, k, text)?;
+        answers::step(rt, hand, text)?;
         Ok(())
     } else if starts(kind, 0, b"run ") {
-        answers::run(rt, m, k, text)
+        answers::run(rt, hand, text)
     } else if starts(kind, 0, b"weigh ") {
-        answers::weigh(rt, m, k, text)
+        answers::weigh(rt, hand, text)
     } else if starts(kind, 0, b"write ") {
-        answers::write(rt, m, k, text)
+        answers::write(rt, hand, text)
     } else if starts(kind, 0, b"count ") {
-        answers::count(rt, k)
+        answers::count(rt, hand)
     } else if starts(kind, 0, b"ways ") {
         answers::ways(rt, text)
     } else {
@@ -83,20 +47,17 @@ fn case(
     text: &[u8],
 ) -> io::Result<Hand> {
     if starts(kind, 0, b"use ") {
-        return Ok(hand_of(text));
+        return Ok(Hand::of(text));
     }
     if starts(kind, 0, b"load ") {
-        return Ok(loaded_by_name(rt, text));
+        return Ok(Hand::loaded_by_name(rt, text));
     }
     rt.write_all(name)?;
     rt.write_all(b": ")?;
     if starts(kind, 0, b"go ") {
-        let model = hand.model;
-        let k = hand.marking;
-        let marking = answers::step(rt, model, k, text)?;
-        return Ok(Hand { model, marking });
+        return answers::step(rt, &hand, text);
     }
-    print(rt, hand, kind, text)?;
+    print(rt, &hand, kind, text)?;
     Ok(hand)
 }
 
@@ -116,7 +77,7 @@ fn case_of(rt: &(impl Files + Print), hand: Hand, line: &[u8]) -> io::Result<Han
 }
 
 fn all_cases(rt: &(impl Files + Print), text: &[u8]) -> io::Result<()> {
-    let mut hand = hand_of(b"");
+    let mut hand = Hand::of(b"");
     for line in text.split(|b| *b == b'\n') {
         hand = case_of(rt, hand, line)?;
     }
@@ -127,8 +88,5 @@ fn main(rt: HostRuntime) -> io::Result<()> {
     let mut text = [0u8; 65536];
     let n = load(&rt, "cases", &mut text);
     all_cases(&rt, &text[..n])?;
-    let listing = loaded(&rt, "listing");
-    let m = listing.model;
-    let k = listing.marking;
-    held::run(&rt, m, k)
+    held::run(&rt, &Hand::loaded(&rt, "listing"))
 }
