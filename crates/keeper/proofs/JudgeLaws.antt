@@ -24,10 +24,9 @@ use Rattle.marking.specs.declared.Marking.{Marking}
 use Rattle.reader.specs.Answers.{held_both, held_in}
 use Rattle.marking.specs.Sizes.{sizes_for}
 use Rattle.keeper.specs.Held.{hold_weights}
-use Rattle.keeper.specs.Answers.{sum_of, passed_weights, turned_or, judged_weights}
+use Rattle.keeper.specs.Answers.{passed_weights, turned_or, judged_weights}
 use Rattle.weigh.specs.Sums.{marking_weight, covered, found}
 use Rattle.keeper.specs.declared.HeldWeights.{HeldWeights}
-use Rattle.keeper.specs.declared.Sum.{Sum}
 use Rattle.keeper.specs.declared.WeightCheck.{WeightCheck}
 use Rattle.model.proofs.ShapeLaws.{nets-long, events-long}
 use Rattle.keeper.proofs.HeldRows.{Kept}
@@ -60,7 +59,7 @@ module _ (m : Model) (w : Weights) (kept : Kept m w) (k : Marking) (held : held_
   abbrev sum : ℤ
   sum = weigh (model_of m) w (tokens_of (sizes_for m) k)
 
-  pub passed_is : (z : ℤ) → z ≡ marking_weight h.rows m.types (tokens_in k) → (s : Sum) → s ≡ sum_of z → (most : ℕ) (cover : Bool)
+  pub passed_is : (z : ℤ) → z ≡ marking_weight h.rows m.types (tokens_in k) → (s : ℤ) → s ≡ z → (most : ℕ) (cover : Bool)
       → cover ≡ covered most m.places m.nets m.objects h.rows (nat_abs z)
       → record { sum = s; cover = cover } ≡ passed_weights most w sum
   unfolding tokens_of
@@ -70,7 +69,7 @@ module _ (m : Model) (w : Weights) (kept : Kept m w) (k : Marking) (held : held_
       ∙ sym (weigh-is m w kept (tokens_in k) (tokens-held (sizes_for m) k held)) in
       let c-is : cover ≡ covers most count_limit w (nat_abs sum) =
       c ∙ ap₂ (covered most m.places m.nets m.objects) rows-is (ap nat_abs z-is) ∙ sym (covers-is m w kept (nat_abs sum) most) in
-      ap₂ {C = WeightCheck} (λ (x : Sum) (y : Bool). record { sum = x; cover = y }) (e ∙ ap sum_of z-is) c-is
+      ap₂ {C = WeightCheck} (λ (x : ℤ) (y : Bool). record { sum = x; cover = y }) (e ∙ z-is) c-is
 
 -- ---- the causes
 
