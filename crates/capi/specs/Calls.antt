@@ -8,6 +8,7 @@ use Rattle.reader.specs.declared.ModelReading.{ModelReading}
 use Rattle.runner.specs.Answers.{Stepped, step_pair, used_by}
 use Rattle.runner_trace.specs.Running.{Ran}
 use Rattle.keeper.specs.Answers.{weight_pair, check_given}
+use Rattle.keeper.specs.Split.{above, below}
 use Rattle.keeper.specs.declared.WeightRefusal.{WeightRefusal}
 use Rattle.keeper.specs.declared.WeightCheck.{WeightCheck}
 use Rattle.spread.specs.Call.{spread_pair, spread_value}
@@ -47,13 +48,13 @@ pub record AnsweredToC : Type 0 where
 abbrev pub written_to_c : Answered → AnsweredToC
 written_to_c l = record { answer = text_written l.answer; bytes = l.bytes }
 
--- refused, sum 0 and cover 0
+-- the sum by its part above 0 and its part below 0; refused, sum 0 and cover 0
 abbrev pub weights_checked : Result WeightCheck WeightRefusal → Weighed
 weights_checked c = record {
   number = (weight_pair c).number;
   beside = (weight_pair c).beside;
-  above = (check_given c).sum.above;
-  below = (check_given c).sum.below;
+  above = above (check_given c).sum;
+  below = below (check_given c).sum;
   cover = cond (check_given c).cover 1 0;
 }
 

@@ -8,6 +8,7 @@ ghost use Rattle.reader.specs.Answers.{model_reading, marking_reading, held_both
 ghost use Rattle.runner.specs.Answers.{stepping};
 ghost use Rattle.runner_trace.specs.Running.{running};
 ghost use Rattle.keeper.specs.Answers.{weight_checking};
+ghost use Rattle.keeper.specs.Split.{above, below};
 ghost use Rattle.spread.specs.Call.{spread_call};
 ghost use Rattle.listing.specs.Listing.{listing_text};
 ghost use Rattle.capi.specs.Calls.{model_read, marking_read, text_written, written_to_c, weights_checked, step_done, run_done, shared, version};
@@ -154,17 +155,25 @@ pub fn fp_write_marking(model: Model, marking: Marking, out: &mut [u8]) -> TextW
     text_written(engine::write_marking(&model, &marking, out))
 }
 
+// The part of a sum above 0 and its part below 0, of which one is 0.
+fn parts(sum: i64) -> (u64, u64)
+    ensures { (result.0 ≡ above sum) × (result.1 ≡ below sum) }
+{
+    (sum.max(0).unsigned_abs(), sum.min(0).unsigned_abs())
+}
+
 pub fn fp_check_weights(model: Model, marking: Marking, text: &[u8]) -> Weighed
     ensures { result ≡ weights_checked (weight_checking model marking text.now) }
 {
     let check = engine::check_weights(model, marking, text);
     let pair = Pair::from(check);
     let WeightCheck { sum, cover } = check.unwrap_or(WeightCheck::nothing());
+    let (above, below) = parts(sum);
     Weighed {
         number: usize::from(pair.number),
         beside: pair.beside,
-        above: sum.above,
-        below: sum.below,
+        above,
+        below,
         cover: usize::from(cover),
     }
 }

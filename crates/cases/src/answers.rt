@@ -58,11 +58,7 @@ pub fn weigh(rt: &impl Print, hand: &Hand, text: &[u8]) -> io::Result<()> {
     put_pair(rt, Pair::from(check))?;
     let WeightCheck { sum, cover } = check.unwrap_or(WeightCheck::nothing());
     let cover = usize::from(cover);
-    if sum.below > 0 {
-        println!(rt; "  sum -{}, cover {cover}", sum.below)
-    } else {
-        println!(rt; "  sum {}, cover {cover}", sum.above)
-    }
+    println!(rt; "  sum {sum}, cover {cover}")
 }
 
 pub fn count(rt: &impl Print, hand: &Hand) -> io::Result<()> {

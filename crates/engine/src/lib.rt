@@ -22,7 +22,7 @@ pub use runner::stepping::step;
 pub use runner_trace::{RunEnd, run};
 
 // Keeper. `weight_checking` (keeper/specs/Answers.antt).
-pub use keeper::{Sum, WeightCheck, WeightRefusal, check_weights};
+pub use keeper::{WeightCheck, WeightRefusal, check_weights};
 
 // The spread. `spread_call` (spread/specs/Call.antt).
 pub use spread::{Beyond, ways};

@@ -19,14 +19,14 @@ use Rattle.eos.proofs.FirstLaws.{failing-least}
 use Rattle.eos.specs.Weights.{Weights, dot, dots, value, is_zero, effect}
 use Rattle.model.specs.Rules.{nth, right_act}
 use Rattle.model.specs.Acts.{act_of, move_of}
-use Rattle.model.specs.Held.{no_net, no_event, row_at, event_of, model_of}
+use Rattle.model.specs.Held.{no_net, no_event, row_at, event_of, model_of, told}
 use Rattle.model.specs.Test.{frame_in, held_model}
 use Rattle.model.specs.declared.Event.{Event}
 use Rattle.model.specs.declared.Model.{Model}
 use Rattle.model.proofs.HeldTests.{held-is, most-moves, most-places}
 use Rattle.model.proofs.HeldActs.{act-is, act_range}
 use Rattle.keeper.specs.Held.{hold_weights}
-use Rattle.weigh.specs.Sums.{total, row_of, gain_of, Gains, move_gain, event_gain, balanced_at, ActIn, found}
+use Rattle.weigh.specs.Sums.{total, gain_of, Gains, move_gain, event_gain, balanced_at, ActIn}
 use Rattle.weigh.proofs.TotalLaws.{total_same, total_minus}
 use Rattle.keeper.proofs.DotLaws.{dot_total, minus_times}
 use Rattle.model.proofs.UsedLaws.{event_used}
@@ -51,7 +51,7 @@ module _ (m : Model) (w : Weights) (kept : Kept m w) (k : ℕ) (listed : k < m.l
   outside side = dot w.outward (outer_of side (model_of m) event)
 
   abbrev counted : (ℕ → List (List ℕ)) → ℕ → ℕ → ℤ
-  counted nets n t = dot (row_of rows (suc n)) (row_at (nets n) t) *ℤ pos (nth (row_at held.sync n) t)
+  counted nets n t = dot (row_at rows (suc n)) (row_at (nets n) t) *ℤ pos (nth (row_at held.sync n) t)
 
   abbrev pres : ℕ → List (List ℕ)
   pres n = (get_or m.objects n no_net).pre
@@ -76,24 +76,24 @@ module _ (m : Model) (w : Weights) (kept : Kept m w) (k : ℕ) (listed : k < m.l
   act_right = (act-is (frame_in m) held.kind held.index (event_used m (held-is m kept.held) k listed).act).right
 
   module _ (gains : List (List ℤ)) (is : Gains m rows gains) where
-    net_gain : (n : ℕ) → n < m.nets → dot (row_of gains (suc n)) (row_at held.sync n) ≡ total 32 (counted posts n) -ℤ total 32 (counted pres n)
+    net_gain : (n : ℕ) → n < m.nets → dot (row_at gains (suc n)) (row_at held.sync n) ≡ total 32 (counted posts n) -ℤ total 32 (counted pres n)
     unfolding gain_of
     net_gain n p =
-        dot_total (row_of gains (suc n)) (row_at held.sync n) 32 (omega (arith, (is.nets n p).long))
+        dot_total (row_at gains (suc n)) (row_at held.sync n) 32 (omega (arith, (is.nets n p).long))
         ∙ total_same 32 _ (λ t. counted posts n t -ℤ counted pres n t)
         (λ t q.
         let c = nth (row_at held.sync n) t in
         ap (λ (z : ℤ). z *ℤ pos c) ((is.nets n p).is t q)
-        ∙ minus_times (dot (row_of rows (suc n)) (row_at (posts n) t)) (dot (row_of rows (suc n)) (row_at (pres n) t)) c)
+        ∙ minus_times (dot (row_at rows (suc n)) (row_at (posts n) t)) (dot (row_at rows (suc n)) (row_at (pres n) t)) c)
         ∙ total_minus 32 (counted posts n) (counted pres n)
 
-    inside_gain : total m.nets (λ n. dot (row_of gains (suc n)) (row_at held.sync n)) ≡ inside post -ℤ inside pre
+    inside_gain : total m.nets (λ n. dot (row_at gains (suc n)) (row_at held.sync n)) ≡ inside post -ℤ inside pre
     inside_gain =
         total_same m.nets _ (λ n. total 32 (counted posts n) -ℤ total 32 (counted pres n)) net_gain
         ∙ total_minus m.nets (λ n. total 32 (counted posts n)) (λ n. total 32 (counted pres n))
         ∙ ap₂ ◌-ℤ◌ (sym inside-post) (sym inside-pre)
 
-    outside_gain : (a : eos.Act) → event.act ≡ a → right_act (frame_in m) a ≡ true → move_gain (row_of gains 0) (move_of a) ≡ outside post -ℤ outside pre
+    outside_gain : (a : eos.Act) → event.act ≡ a → right_act (frame_in m) a ≡ true → move_gain (row_at gains 0) (move_of a) ≡ outside post -ℤ outside pre
     unfolding right_act move_gain gain_of
     outside_gain (eos.move j) e h =
         let p = ltb-true j m.moves h in
@@ -125,20 +125,20 @@ event_listed m k h = get_or-take m.listed m.events k no_event h
 -- the first event that is not balanced, by the gains of the held weights
 pub first-unbalanced : (m : Model) (w : Weights) → Kept m w → (gains : List (List ℤ)) → Gains m (hold_weights w).rows gains
     → m.listed ≤ length m.events
-    → found (failing (length (take m.listed m.events)) 0 (balanced_at m.nets (take m.listed m.events) gains))
-    ≡ found (failing m.listed 0 (λ k. is_zero (effect (model_of m) w (eos.event (model_of m) k))))
+    → told (failing (length (take m.listed m.events)) 0 (balanced_at m.nets (take m.listed m.events) gains))
+    ≡ told (failing m.listed 0 (λ k. is_zero (effect (model_of m) w (eos.event (model_of m) k))))
 first-unbalanced m w kept gains is room =
-    ap (λ (n : ℕ). found (failing n 0 (balanced_at m.nets (take m.listed m.events) gains))) (length-take-le m.listed m.events room)
-    ∙ ap found
+    ap (λ (n : ℕ). told (failing n 0 (balanced_at m.nets (take m.listed m.events) gains))) (length-take-le m.listed m.events room)
+    ∙ ap told
     (failing_same m.listed 0 (balanced_at m.nets (take m.listed m.events) gains) (λ k. is_zero (effect (model_of m) w (eos.event (model_of m) k)))
     (λ k l.
     ap (λ (e : Event). is_zero (event_gain m.nets e gains)) (event_listed m k (omega arith))
     ∙ ap is_zero (sym (effect_gain m w kept k (omega arith) gains is))))
 
 -- an index that is found is one of those tested
-pub found_within : (f : ℕ → Bool) (d n : ℕ) → d ≤ n → answer.IfSome (found (failing d 0 f)) (λ k. k < n)
+pub found_within : (f : ℕ → Bool) (d n : ℕ) → d ≤ n → answer.IfSome (told (failing d 0 f)) (λ k. k < n)
 found_within f d n h = go (failing d 0 f) refl
   where
-    go : (o : Option ℕ) → failing d 0 f ≡ o → answer.IfSome (found o) (λ k. k < n)
+    go : (o : Option ℕ) → failing d 0 f ≡ o → answer.IfSome (told o) (λ k. k < n)
     go none e = tt
     go (some k) e = omega (arith, (failing-least d f k e).within)

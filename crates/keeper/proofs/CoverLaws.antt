@@ -19,10 +19,10 @@ use Rattle.eos.specs.Firing.{all_below}
 use Rattle.eos.specs.Multiset.{every}
 use Rattle.eos.specs.Weights.{Weights, positive, least, covers}
 use Rattle.model.specs.Limits.{count_limit}
-use Rattle.model.specs.Held.{no_net}
+use Rattle.model.specs.Held.{no_net, row_at}
 use Rattle.model.specs.declared.Model.{Model}
 use Rattle.keeper.specs.Held.{weight_row, hold_weights}
-use Rattle.weigh.specs.Sums.{row_of, enough, net_covered, covered}
+use Rattle.weigh.specs.Sums.{enough, net_covered, covered}
 use Rattle.keeper.proofs.EveryLaws.{below_same, every-below, every_and, each_and}
 use Rattle.keeper.proofs.HeldRows.{Kept, few-places, outer-long, inner-long, net-long, net-small, outer-row, inner-row, number_held, length_row}
 
@@ -97,7 +97,7 @@ module _ (m : Model) (w : Weights) (kept : Kept m w) (sum : ℕ) where
   abbrev rows : List (List ℤ)
   rows = (hold_weights w).rows
 
-  outer_is : (most : ℕ) → every (enough most sum) (take m.places (row_of rows 0)) ≡ every (enough most sum) w.outward
+  outer_is : (most : ℕ) → every (enough most sum) (take m.places (row_at rows 0)) ≡ every (enough most sum) w.outward
   outer_is most =
       ap (λ (l : List ℤ). every (enough most sum) (take m.places l)) (outer-row m w kept)
       ∙ ap (every (enough most sum)) (row-taken w.outward m.places (outer-long m w kept) (few-places m w kept))
@@ -123,7 +123,7 @@ module _ (m : Model) (w : Weights) (kept : Kept m w) (sum : ℕ) where
       let size = λ (v : ℤ). leb (sum / nat_abs v) most in
       let small = λ (v : ℤ). leb (sum / nat_abs v) count_limit in
       let inner = every (every positive) w.inward in
-      let outer : every (enough most sum) (take m.places (row_of rows 0)) ≡ (every positive w.outward && every size w.outward) =
+      let outer : every (enough most sum) (take m.places (row_at rows 0)) ≡ (every positive w.outward && every size w.outward) =
       outer_is most ∙ every_and positive size w.outward in
       let nets : all_below m.nets (net_covered m.objects rows sum) ≡ (inner && every (every small) w.inward) = sym nets_enough ∙ each_and positive small w.inward in
       by_test (every positive w.outward)

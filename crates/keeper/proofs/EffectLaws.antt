@@ -23,7 +23,7 @@ use Rattle.model.proofs.TableLaws.{nth-row}
 use Rattle.model.proofs.HeldTests.{held-is}
 use Rattle.model.proofs.UsedLaws.{net_used, event_used}
 use Rattle.keeper.specs.Held.{hold_weights}
-use Rattle.weigh.specs.Sums.{total, row_of, number_of}
+use Rattle.weigh.specs.Sums.{total, number_of}
 use Rattle.weigh.proofs.TotalLaws.{total_same}
 use Rattle.keeper.proofs.DotLaws.{dot_zeros, dot_unit, dots_total, dot_inner, dot_row, row-nth}
 use Rattle.model.proofs.ShapeLaws.{net-is, event-is}
@@ -72,7 +72,7 @@ module _ (m : Model) (w : Weights) (kept : Kept m w) (k : ℕ) (listed : k < m.l
         ∙ ap side (listed_at (sides_in (net n).places (net n).pre (net n).post) (net n).transitions t eos.no_transition q) ∙ net-side n t
 
     abbrev counted : ℕ → ℕ → ℤ
-    counted n t = dot (row_of rows (suc n)) (row_at (nets n) t) *ℤ pos (nth (row_at held.sync n) t)
+    counted n t = dot (row_at rows (suc n)) (row_at (nets n) t) *ℤ pos (nth (row_at held.sync n) t)
 
     one_part : (n : ℕ) → n < m.nets → (t : ℕ) → t < 32
         → dot (get_or w.inward n []) (side (get_or (eos.net (model_of m) n).transitions t eos.no_transition)) *ℤ pos (nth (get_or event.sync n []) t) ≡ counted n t
@@ -82,7 +82,7 @@ module _ (m : Model) (w : Weights) (kept : Kept m w) (k : ℕ) (listed : k < m.l
         let long = net-long m w kept n p in
         ap₂ (λ (v : ℤ) (c : ℕ). v *ℤ pos c)
         (ap (dot (get_or w.inward n [])) (transition_is n t p r)
-        ∙ dot_row (get_or w.inward n []) (row_of rows (suc n)) (row_in (net n).places (nets n) t) (row_at (nets n) t)
+        ∙ dot_row (get_or w.inward n []) (row_at rows (suc n)) (row_in (net n).places (nets n) t) (row_at (nets n) t)
         (omega (arith, long, net-small m w kept n)) (inner-few m w kept n p) (inner-at m w kept n p)
         (λ i h. row-nth (net n).places (nets n) t i (omega (arith, long))))
         (counts-at n p t q))
@@ -90,7 +90,7 @@ module _ (m : Model) (w : Weights) (kept : Kept m w) (k : ℕ) (listed : k < m.l
         let z : nth (get_or event.sync n []) t ≡ 0 = get_or-eq_default (get_or event.sync n []) 0 (omega (arith, counts-few n p)) in
         let y : nth (row_at held.sync n) t ≡ 0 = sym (counts-at n p t q) ∙ z in
         let a = dot (get_or w.inward n []) (side (get_or (eos.net (model_of m) n).transitions t eos.no_transition)) in
-        let b = dot (row_of rows (suc n)) (row_at (nets n) t) in
+        let b = dot (row_at rows (suc n)) (row_at (nets n) t) in
         ap (λ (c : ℕ). a *ℤ pos c) z ∙ *ℤ-zero a ∙ sym (ap (λ (c : ℕ). b *ℤ pos c) y ∙ *ℤ-zero b))
 
     net_part : (n : ℕ) → n < m.nets → dot (get_or w.inward n []) (inner_of side (model_of m) event n) ≡ total 32 (counted n)
@@ -107,12 +107,12 @@ module _ (m : Model) (w : Weights) (kept : Kept m w) (k : ℕ) (listed : k < m.l
 
     -- what its move weighs
     pub outside_move : (j : ℕ) → j < m.moves → event.act ≡ eos.move j
-        → dot w.outward (outer_of side (model_of m) event) ≡ dot (row_of rows 0) (row_at moves j)
+        → dot w.outward (outer_of side (model_of m) event) ≡ dot (row_at rows 0) (row_at moves j)
     unfolding outer_of model_of
     outside_move j p e =
         let long = outer-long m w kept in
         ap (dot w.outward) (rw e (ap side (listed_at (sides_in m.places m.pre m.post) m.moves j eos.no_transition p) ∙ move-side j))
-        ∙ dot_row w.outward (row_of rows 0) (row_in m.places moves j) (row_at moves j) (omega (arith, long, few-places m w kept)) (outer-few m w kept) (outer-at m w kept)
+        ∙ dot_row w.outward (row_at rows 0) (row_in m.places moves j) (row_at moves j) (omega (arith, long, few-places m w kept)) (outer-few m w kept) (outer-at m w kept)
         (λ i h. row-nth m.places moves j i (omega (arith, long)))
 
     -- and idling

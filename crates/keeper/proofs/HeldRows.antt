@@ -10,7 +10,7 @@ use lib.Seq.{sets}
 use Rattle.text.specs.Repeat.{fill}
 use Rattle.eos.specs.Model as eos
 use Rattle.eos.specs.Weights.{Weights, Shaped}
-use Rattle.model.specs.Held.{no_net, put_at, net_of, model_of}
+use Rattle.model.specs.Held.{no_net, put_at, net_of, model_of, row_at}
 use Rattle.model.specs.Test.{held_model}
 use Rattle.model.specs.declared.Model.{Model}
 use Rattle.model.proofs.SlotLaws as slots
@@ -18,7 +18,7 @@ use Rattle.model.proofs.SlotLaws.{by_index, cond_below}
 use Rattle.model.proofs.HeldTestLoops.{at_any}
 use Rattle.model.proofs.HeldTests.{held-is, most-nets, most-places}
 use Rattle.marking.proofs.SizeLaws.{nets-small}
-use Rattle.weigh.specs.Sums.{row_of, number_of}
+use Rattle.weigh.specs.Sums.{number_of}
 use Rattle.keeper.specs.Held.{weight_lists, no_row, weight_row, hold_weights}
 use Rattle.model.proofs.ShapeLaws.{nets-long, places-long, net-is}
 
@@ -49,7 +49,7 @@ pub length_rows : (l : List (List ℤ)) → length (rows l) ≡ 9
 length_rows l = slots.length-held weight_row no_row l 9
 
 -- a row, where it is held
-pub row_held : (l : List (List ℤ)) → length l ≤ 9 → (r : ℕ) → r < 9 → row_of (rows l) r ≡ weight_row (get_or l r [])
+pub row_held : (l : List (List ℤ)) → length l ≤ 9 → (r : ℕ) → r < 9 → row_at (rows l) r ≡ weight_row (get_or l r [])
 unfolding weight_row
 row_held l few r h =
     at_any (rows l) r [] no_row (omega (arith, length_rows l))
@@ -87,23 +87,23 @@ module _ (m : Model) (w : Weights) (k : Kept m w) where
   net-small n = nets-small m k.held k.objects n
 
   -- the outer row, and the row of net n
-  pub outer-row : row_of (hold_weights w).rows 0 ≡ weight_row w.outward
+  pub outer-row : row_at (hold_weights w).rows 0 ≡ weight_row w.outward
   unfolding hold_weights
   outer-row = row_held (weight_lists w) (omega (arith, inner-long, few-nets)) 0 (omega arith)
 
-  pub inner-row : (n : ℕ) → n < m.nets → row_of (hold_weights w).rows (suc n) ≡ weight_row (get_or w.inward n [])
+  pub inner-row : (n : ℕ) → n < m.nets → row_at (hold_weights w).rows (suc n) ≡ weight_row (get_or w.inward n [])
   unfolding hold_weights
   inner-row n h = row_held (weight_lists w) (omega (arith, inner-long, few-nets)) (suc n) (omega (arith, few-nets))
 
   -- an outer weight, and a weight of net n
-  pub outer-at : (i : ℕ) → number_of (row_of (hold_weights w).rows 0) i ≡ number_of w.outward i
+  pub outer-at : (i : ℕ) → number_of (row_at (hold_weights w).rows 0) i ≡ number_of w.outward i
   outer-at i = rw outer-row (number_held w.outward (omega (arith, outer-long, few-places)) i)
 
-  pub inner-at : (n : ℕ) → n < m.nets → (i : ℕ) → number_of (row_of (hold_weights w).rows (suc n)) i ≡ number_of (get_or w.inward n []) i
+  pub inner-at : (n : ℕ) → n < m.nets → (i : ℕ) → number_of (row_at (hold_weights w).rows (suc n)) i ≡ number_of (get_or w.inward n []) i
   inner-at n p i = rw (inner-row n p) (number_held (get_or w.inward n []) (omega (arith, net-long n p, net-small n)) i)
 
-  pub outer-few : length (row_of (hold_weights w).rows 0) ≤ 32
+  pub outer-few : length (row_at (hold_weights w).rows 0) ≤ 32
   outer-few = rw outer-row (omega (arith, length_row w.outward))
 
-  pub inner-few : (n : ℕ) → n < m.nets → length (row_of (hold_weights w).rows (suc n)) ≤ 32
+  pub inner-few : (n : ℕ) → n < m.nets → length (row_at (hold_weights w).rows (suc n)) ≤ 32
   inner-few n p = rw (inner-row n p) (omega (arith, length_row (get_or w.inward n [])))

@@ -14,7 +14,7 @@ use Rattle.std.specs.Prelude as answer
 use Rattle.eos.specs.Causes.{first, unless, at, failing}
 use Rattle.eos.specs.Weights.{Weights, is_zero, effect, all_zero, weigh, unbalanced, weight_refusal, covers}
 use Rattle.model.specs.Limits.{room_limit, count_limit}
-use Rattle.model.specs.Held.{model_of}
+use Rattle.model.specs.Held.{model_of, told}
 use Rattle.model.specs.Test.{held_model}
 use Rattle.model.specs.declared.Model.{Model}
 use Rattle.model.proofs.HeldTests.{held-is, most-places}
@@ -24,10 +24,9 @@ use Rattle.marking.specs.declared.Marking.{Marking}
 use Rattle.reader.specs.Answers.{held_both, held_in}
 use Rattle.marking.specs.Sizes.{sizes_for}
 use Rattle.keeper.specs.Held.{hold_weights}
-use Rattle.keeper.specs.Answers.{sum_of, passed_weights, turned_or, judged_weights}
-use Rattle.weigh.specs.Sums.{marking_weight, covered, found}
+use Rattle.keeper.specs.Answers.{passed_weights, turned_or, judged_weights}
+use Rattle.weigh.specs.Sums.{marking_weight, covered}
 use Rattle.keeper.specs.declared.HeldWeights.{HeldWeights}
-use Rattle.keeper.specs.declared.Sum.{Sum}
 use Rattle.keeper.specs.declared.WeightCheck.{WeightCheck}
 use Rattle.model.proofs.ShapeLaws.{nets-long, events-long}
 use Rattle.keeper.proofs.HeldRows.{Kept}
@@ -60,7 +59,7 @@ module _ (m : Model) (w : Weights) (kept : Kept m w) (k : Marking) (held : held_
   abbrev sum : ℤ
   sum = weigh (model_of m) w (tokens_of (sizes_for m) k)
 
-  pub passed_is : (z : ℤ) → z ≡ marking_weight h.rows m.types (tokens_in k) → (s : Sum) → s ≡ sum_of z → (most : ℕ) (cover : Bool)
+  pub passed_is : (z : ℤ) → z ≡ marking_weight h.rows m.types (tokens_in k) → (s : ℤ) → s ≡ z → (most : ℕ) (cover : Bool)
       → cover ≡ covered most m.places m.nets m.objects h.rows (nat_abs z)
       → record { sum = s; cover = cover } ≡ passed_weights most w sum
   unfolding tokens_of
@@ -70,7 +69,7 @@ module _ (m : Model) (w : Weights) (kept : Kept m w) (k : Marking) (held : held_
       ∙ sym (weigh-is m w kept (tokens_in k) (tokens-held (sizes_for m) k held)) in
       let c-is : cover ≡ covers most count_limit w (nat_abs sum) =
       c ∙ ap₂ (covered most m.places m.nets m.objects) rows-is (ap nat_abs z-is) ∙ sym (covers-is m w kept (nat_abs sum) most) in
-      ap₂ {C = WeightCheck} (λ (x : Sum) (y : Bool). record { sum = x; cover = y }) (e ∙ ap sum_of z-is) c-is
+      ap₂ {C = WeightCheck} (λ (x : ℤ) (y : Bool). record { sum = x; cover = y }) (e ∙ z-is) c-is
 
 -- ---- the causes
 
@@ -89,19 +88,19 @@ module _ (most : ℕ) (m : Model) (w : Weights) (μ : eos.Marking) where
       rw (h, nets-long m, e)
 
   module _ (some_weight : all_zero w ≡ false) where
-    pub turned-event : (r : answer.Option ℕ) → r ≡ found first-unbalanced → (k : ℕ) → r ≡ answer.Some k
+    pub turned-event : (r : answer.Option ℕ) → r ≡ told first-unbalanced → (k : ℕ) → r ≡ answer.Some k
         → Err (Unbalanced (k + 1)) ≡ judged_weights most (model_of m) μ w
     unfolding judged_weights turned_or weight_refusal first unless at
     turned-event r e k d = rw (some_weight, events-long m) (go first-unbalanced (sym d ∙ e))
       where
-        go : (o : Option ℕ) → answer.Some k ≡ found o → Err (Unbalanced (k + 1)) ≡ turned_or last (first (at unbalanced o ∷ [])) (passed_weights most w (weigh (model_of m) w μ))
+        go : (o : Option ℕ) → answer.Some k ≡ told o → Err (Unbalanced (k + 1)) ≡ turned_or last (first (at unbalanced o ∷ [])) (passed_weights most w (weigh (model_of m) w μ))
         go none p = let z : ◌≡◌ {A = ℕ} 0 1 = cc in absurd (omega arith)
         go (some i) p = let q : k ≡ i = cc in rw (q, add-one i)
 
-    pub none_turned : (r : answer.Option ℕ) → r ≡ found first-unbalanced → r ≡ answer.None → Ok (passed_weights most w (weigh (model_of m) w μ)) ≡ judged_weights most (model_of m) μ w
+    pub none_turned : (r : answer.Option ℕ) → r ≡ told first-unbalanced → r ≡ answer.None → Ok (passed_weights most w (weigh (model_of m) w μ)) ≡ judged_weights most (model_of m) μ w
     unfolding judged_weights turned_or weight_refusal first unless at
     none_turned r e d = rw (some_weight, events-long m) (go first-unbalanced (sym d ∙ e))
       where
-        go : (o : Option ℕ) → answer.None ≡ found o → Ok (passed_weights most w (weigh (model_of m) w μ)) ≡ turned_or last (first (at unbalanced o ∷ [])) (passed_weights most w (weigh (model_of m) w μ))
+        go : (o : Option ℕ) → answer.None ≡ told o → Ok (passed_weights most w (weigh (model_of m) w μ)) ≡ turned_or last (first (at unbalanced o ∷ [])) (passed_weights most w (weigh (model_of m) w μ))
         go none p = refl
         go (some i) p = let z : ◌≡◌ {A = ℕ} 0 1 = cc in absurd (omega arith)

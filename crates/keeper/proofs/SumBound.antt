@@ -35,8 +35,7 @@ use Rattle.reader.specs.Reading.{bounds}
 use Rattle.reader.specs.Answers.{held_both, held_in}
 use Rattle.reader.proofs.GivenLaws.{Given, given-model, given_marking}
 use Rattle.keeper.specs.Reading.{read_weight_file, right_inner, right_weights}
-use Rattle.keeper.specs.Answers.{sum_of, passed_weights, turned_or, judged_weights, weighed, weights_or, weight_checking, check_given}
-use Rattle.keeper.specs.declared.Sum.{Sum}
+use Rattle.keeper.specs.Answers.{passed_weights, turned_or, judged_weights, weighed, weights_or, weight_checking, check_given}
 use Rattle.keeper.proofs.SplitLaws.{dot_n, dots_n, dot_n_none, value_split, sub_above, sub_below, weight_of, weight_by, weight_none, weight_more}
 use Rattle.keeper.proofs.HeldRows.{Kept, inner-long, net-long, net-small}
 use Rattle.keeper.proofs.WeightsReadBack.{weights_are_right, right_shaped}
@@ -135,8 +134,13 @@ counts_of_lem m (t ∷ μ) h =
     and_both (Counts t) _ (hold.right_is bounds (sizes_for m) t p.0).counts (counts_of_lem m μ p.1)
 
 -- 01's number, either side of 0
-abbrev pub Within : Sum → Type 0
-Within s = (s.above ≤ 536862976000) × (s.below ≤ 536862976000)
+abbrev pub Within : ℤ → Type 0
+Within z = nat_abs z ≤ 536862976000
+
+-- a number by its parts
+parts_within : (z : ℤ) → above z ≤ 536862976000 → below z ≤ 536862976000 → Within z
+parts_within (pos n) p q = p
+parts_within (negsuc n) p q = q
 
 module _ (m : Model) (k : Marking) (sized : SizedModel m) (small : SizedMarking k) where
   abbrev μ : eos.Marking
@@ -191,34 +195,34 @@ module _ (m : Model) (k : Marking) (sized : SizedModel m) (small : SizedMarking 
             leb-true (length μ) 256 p.0,
           )
 
-    weigh-within : Within (sum_of (weigh (model_of m) w μ))
+    weigh-within : Within (weigh (model_of m) w μ)
     unfolding weigh
     weigh-within =
         let e = value_split w (outer (model_of m) μ) (λ n. inner (model_of m) n μ) in
         let a = weight_by (model_of m) w above μ in
-        let b = weight_by (model_of m) w below μ in (
-          omega (arith, ap above e ∙ sub_above a b, part_most above above_part),
-          omega (arith, ap below e ∙ sub_below a b, part_most below below_part),
-        )
+        let b = weight_by (model_of m) w below μ in
+        parts_within (weigh (model_of m) w μ)
+        (omega (arith, ap above e ∙ sub_above a b, part_most above above_part))
+        (omega (arith, ap below e ∙ sub_below a b, part_most below below_part))
 
   -- ---- the weight check
 
-  turned-within : (most last : ℕ) (o : Option WeightCause) (w : Weights) (z : ℤ) → Within (sum_of z) → Within (check_given (turned_or last o (passed_weights most w z))).sum
+  turned-within : (most last : ℕ) (o : Option WeightCause) (w : Weights) (z : ℤ) → Within z → Within (check_given (turned_or last o (passed_weights most w z))).sum
   unfolding turned_or
   turned-within most last none w z h = h
-  turned-within most last (some why) w z h = (omega arith, omega arith)
+  turned-within most last (some why) w z h = omega arith
 
   file_within : held_both m k ≡ true → (s : Text) (o : Outcome Weights) → read_weight_file (model_of m) s ≡ o → Within (check_given (weighed cover_limit (model_of m) μ s o)).sum
   unfolding weighed judged_weights
   file_within held s (got w x) e =
       turned-within cover_limit (2 + length (model_of m).nets) (weight_refusal (model_of m) w) w (weigh (model_of m) w μ)
       (weigh-within held w (weights_are_right (model_of m) s 0 w x e))
-  file_within held s (bad d) e = (omega arith, omega arith)
+  file_within held s (bad d) e = omega arith
 
   tested_within : (b : Bool) → held_both m k ≡ b → (s : Text) → Within (check_given (weights_or b m k s)).sum
   unfolding weights_or
   tested_within true h s = file_within h s (read_weight_file (model_of m) s) refl
-  tested_within false h s = (omega arith, omega arith)
+  tested_within false h s = omega arith
 
   -- whatever the check answers
   pub sum-within : (s : Text) → Within (check_given (weight_checking m k s)).sum
@@ -226,7 +230,7 @@ module _ (m : Model) (k : Marking) (sized : SizedModel m) (small : SizedMarking 
   sum-within s =
       by_test (leb (length s) longest)
       (λ t. rw (t, weight_checking) (tested_within (held_both m k) refl s))
-      (λ t. rw (t, weight_checking) (omega arith, omega arith))
+      (λ t. rw (t, weight_checking) (omega arith))
 
 -- of a model and a marking that some accepted reading gives
 pub given_sum_within : (m : Model) (k : Marking) → Given m k → (s : Text) → Within (check_given (weight_checking m k s)).sum

@@ -16,7 +16,7 @@ use Rattle.eos.specs.Firing.{inside_of}
 use Rattle.eos.specs.Weights.{Weights, dot, dots, value, weigh}
 use Rattle.eos.proofs.WeightLaws.{dot_zero, weight_of, weigh-sum}
 use Rattle.model.specs.Rules.{nth}
-use Rattle.model.specs.Held.{no_net, model_of}
+use Rattle.model.specs.Held.{no_net, model_of, row_at}
 use Rattle.model.specs.declared.Model.{Model}
 use Rattle.model.proofs.SlotLaws.{listed_at}
 use Rattle.model.proofs.HeldTests.{held-is}
@@ -24,7 +24,7 @@ use Rattle.marking.specs.Held.{token_of, held_token}
 use Rattle.marking.specs.declared.NetToken.{NetToken}
 use Rattle.marking.specs.Sizes.{size_of_type, sizes_in, sizes_for}
 use Rattle.keeper.specs.Held.{hold_weights}
-use Rattle.weigh.specs.Sums.{total, row_of, token_weight, marking_weight}
+use Rattle.weigh.specs.Sums.{total, token_weight, marking_weight}
 use Rattle.weigh.proofs.TotalLaws.{total_same, total_zero, total_one}
 use Rattle.keeper.proofs.DotLaws.{dot_none, dot_unit, dots_total, dot_row}
 use Rattle.model.proofs.UsedLaws.{type-below}
@@ -74,23 +74,23 @@ module _ (m : Model) (w : Weights) (kept : Kept m w) where
     size_is = let p = place-few in listed_at (λ p. size_of_type m.objects (nth m.types p)) 32 (t.place - 1) 0 (omega (arith, few-places m w kept))
 
     -- what is inside a black token, and inside one of net n
-    inside_black : type ≡ 0 → total m.nets (λ n. dot (get_or w.inward n []) (inside_of (model_of m) n token)) ≡ dot (row_of rows 0) t.counts
+    inside_black : type ≡ 0 → total m.nets (λ n. dot (get_or w.inward n []) (inside_of (model_of m) n token)) ≡ dot (row_at rows 0) t.counts
     inside_black e =
         let s : (sizes_for m).size t.place ≡ 0 = size_is ∙ rw e in
         total_zero m.nets _ (λ n p. other_net token n (λ d. omega (arith, type-is)))
-        ∙ sym (dot_zero (row_of rows 0) t.counts (λ c. omega (arith, counts-none (sizes_for m) t held s c)))
+        ∙ sym (dot_zero (row_at rows 0) t.counts (λ c. omega (arith, counts-none (sizes_for m) t held s c)))
 
     inside-net : (n : ℕ) → type ≡ suc n
-        → total m.nets (λ n. dot (get_or w.inward n []) (inside_of (model_of m) n token)) ≡ dot (row_of rows (suc n)) t.counts
+        → total m.nets (λ n. dot (get_or w.inward n []) (inside_of (model_of m) n token)) ≡ dot (row_at rows (suc n)) t.counts
     inside-net n e =
         let p : n < m.nets = omega (arith, type-few) in
         let long = net-long m w kept n p in
         let s : (sizes_for m).size t.place ≡ (get_or m.objects n no_net).places = size_is ∙ ap (size_of_type m.objects) e in
         total_one m.nets n _ p (λ j d. other_net token j (λ q. d (omega (arith, type-is)))) ∙ own_net_lem token n (type-is ∙ e)
-        ∙ dot_row (get_or w.inward n []) (row_of rows (suc n)) token.inside t.counts (omega (arith, long, net-small m w kept n)) (inner-few m w kept n p) (inner-at m w kept n p)
+        ∙ dot_row (get_or w.inward n []) (row_at rows (suc n)) token.inside t.counts (omega (arith, long, net-small m w kept n)) (inner-few m w kept n p) (inner-at m w kept n p)
         (λ c q. get_or-take ((sizes_for m).size t.place) t.counts c 0 (omega (arith, s, long)))
 
-    inside_is : (d : ℕ) → type ≡ d → total m.nets (λ n. dot (get_or w.inward n []) (inside_of (model_of m) n token)) ≡ dot (row_of rows d) t.counts
+    inside_is : (d : ℕ) → type ≡ d → total m.nets (λ n. dot (get_or w.inward n []) (inside_of (model_of m) n token)) ≡ dot (row_at rows d) t.counts
     inside_is zero e = inside_black e
     inside_is (suc n) e = inside-net n e
 

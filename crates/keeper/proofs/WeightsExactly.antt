@@ -27,7 +27,7 @@ use Rattle.marking.specs.declared.Marking.{Marking}
 use Rattle.reader.specs.Answers.{held_both}
 use Rattle.marking.specs.Sizes.{sizes_for}
 use Rattle.keeper.specs.Reading.{read_weight_file}
-use Rattle.keeper.specs.Answers.{sum_of, passed_weights, turned_or, judged_weights, weight_checking, check_given}
+use Rattle.keeper.specs.Answers.{passed_weights, turned_or, judged_weights, weight_checking, check_given}
 use Rattle.keeper.specs.Covering.{Covering}
 use Rattle.keeper.specs.declared.WeightCheck.{WeightCheck}
 use Rattle.keeper.proofs.CoverLaws.{positive-above}
@@ -77,7 +77,7 @@ covers_parts most w sum =
 
 -- sum 0 and cover 0
 abbrev pub Nothing : WeightCheck → Type 0
-Nothing c = (c.sum ≡ record { above = 0; below = 0 }) × (c.cover ≡ false)
+Nothing c = (c.sum ≡ pos 0) × (c.cover ≡ false)
 
 -- weights that do not pass have sum 0 and cover 0, whatever is lent
 pub refused-nothing : (m : Model) (k : Marking) (s : Text) → ((c : WeightCheck) → weight_checking m k s ≡ Ok c → ⊥) → Nothing (check_given (weight_checking m k s))
@@ -127,7 +127,7 @@ module _ (m : Model) (k : Marking) (s : Text) (held : held_both m k ≡ true) (f
     given_is = ap check_given (passes w x e p)
 
     -- then the sum is the marking's weighted sum
-    pub sum_exactly : (check_given (weight_checking m k s)).sum ≡ sum_of (sum w)
+    pub sum_exactly : (check_given (weight_checking m k s)).sum ≡ sum w
     sum_exactly = ap (λ (c : WeightCheck). c.sum) given_is
 
     cover_is : (check_given (weight_checking m k s)).cover ≡ covers cover_limit count_limit w (nat_abs (sum w))

@@ -1,9 +1,8 @@
 -- What the weight check answers, for every input; and the numbers of 01's table for each answer.
-use Rattle.std.specs.Prelude.{ℕ, suc, ◌+◌, Bool, true, false, leb, ℤ, nat_abs, length, Result, Ok, Err}
+use Rattle.std.specs.Prelude.{ℕ, suc, ◌+◌, Bool, true, false, leb, ℤ, pos, nat_abs, length, Result, Ok, Err}
 use Rattle.std.proofs.Math.Option.{Option, none, some}
 use Rattle.text.specs.Bytes.{Text}
 use Rattle.text.specs.Lines.{Outcome, got, bad}
-use Rattle.keeper.specs.Split.{above, below}
 use Rattle.eos.specs.Model as eos
 use Rattle.eos.specs.Causes.{Refusal}
 use Rattle.eos.specs.Weights.{Weights, weigh, WeightCause, weightless, unbalanced, weight_refusal, covers}
@@ -18,7 +17,6 @@ use Rattle.keeper.specs.declared.WeightRefusal.{WeightRefusal}
 use Rattle.keeper.specs.declared.WeightRefusal.TheVariants.{Unread, Weightless, Unbalanced}
 use Rattle.marking.specs.Sizes.{sizes_for}
 use Rattle.keeper.specs.Reading.{read_weight_file}
-use Rattle.keeper.specs.declared.Sum.{Sum}
 use Rattle.keeper.specs.declared.WeightCheck.{WeightCheck}
 
 -- 01's table: the number, and what stands beside it
@@ -30,13 +28,9 @@ unpassed_pair (Unbalanced event) = pair 7 event
 abbrev pub weight_pair : {A : Type 0} → Result A WeightRefusal → Refusal
 weight_pair a = pair_of unpassed_pair a
 
--- a sum as its part above 0 and its part below 0
-abbrev pub sum_of : ℤ → Sum
-sum_of z = record { above = above z; below = below z }
-
 -- 01: "refused weights sum 0 and cover 0"
 abbrev pub nothing : WeightCheck
-nothing = record { sum = record { above = 0; below = 0 }; cover = false }
+nothing = record { sum = pos 0; cover = false }
 
 -- what a check gives
 abbrev pub check_given : Result WeightCheck WeightRefusal → WeightCheck
@@ -45,7 +39,7 @@ check_given (Err e) = nothing
 
 -- weights that pass: their weighted sum, and whether they cover for so many net-tokens
 abbrev pub passed_weights : ℕ → Weights → ℤ → WeightCheck
-passed_weights most w z = record { sum = sum_of z; cover = covers most count_limit w (nat_abs z) }
+passed_weights most w z = record { sum = z; cover = covers most count_limit w (nat_abs z) }
 
 -- weights are turned down by a cause; events are numbered from 1, `last` is the file's last line
 abbrev pub turned_by : ℕ → WeightCause → WeightRefusal

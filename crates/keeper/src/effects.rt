@@ -3,9 +3,8 @@ ghost use Rattle.std.specs.Prelude.{◌≡◌, ◌<◌, true, length, IfSome};
 ghost use Rattle.eos.specs.Model.{event};
 ghost use Rattle.eos.specs.Causes.{failing};
 ghost use Rattle.eos.specs.Weights.{Weights, is_zero, effect};
-ghost use Rattle.model.specs.Held.{model_of};
+ghost use Rattle.model.specs.Held.{model_of, told};
 ghost use Rattle.model.specs.Test.{held_model};
-ghost use Rattle.weigh.specs.Sums.{found};
 ghost use Rattle.keeper.specs.Parts.{Holds};
 
 use super::HeldWeights;
@@ -17,7 +16,7 @@ pub fn unbalanced(m: &Model, held: &HeldWeights) -> Option<usize>
     requires tested { held_model m.now ≡ true }
     requires room { (length m.now.objects ≡ 8) × (length m.now.events ≡ 64) }
     ensures first { (w : Weights) → Holds m.now w held.now
-        → result ≡ found (failing m.now.listed 0 (λ k. is_zero (effect (model_of m.now) w (event (model_of m.now) k)))) }
+        → result ≡ told (failing m.now.listed 0 (λ k. is_zero (effect (model_of m.now) w (event (model_of m.now) k)))) }
     ensures within { IfSome result (λ k. k < 64) }
 {
     let listed = &m.events[..m.listed];

@@ -8,14 +8,14 @@ ghost use Rattle.model.specs.Held.{model_of};
 ghost use Rattle.marking.specs.Held.{tokens_of};
 ghost use Rattle.reader.specs.Answers.{held_both};
 ghost use Rattle.marking.specs.Sizes.{sizes_for};
-ghost use Rattle.keeper.specs.Answers.{sum_of, nothing, judged_weights, weight_checking};
+ghost use Rattle.keeper.specs.Answers.{nothing, judged_weights, weight_checking};
 ghost use Rattle.keeper.specs.declared.WeightRefusal.TheVariants.{Unread};
 ghost use Rattle.keeper.specs.Parts.{Holds};
 
 use effects::unbalanced;
 use marking::Marking;
 use model::Model;
-use reader::{ReadRefusal, admitted, faulty};
+use reader::{ReadRefusal, admitted, named};
 use weigh_cover::covers;
 use weigh_marking::marking_weight;
 use weightfile::weight_lines;
@@ -46,29 +46,10 @@ impl From<ReadRefusal> for WeightRefusal {
     }
 }
 
-// The part of a sum above 0 and its part below 0, of which one is 0.
-#[derive(Clone, Copy)]
-pub struct Sum {
-    pub above: u64,
-    pub below: u64,
-}
-
-// The part of a number above 0 and its part below 0.
-impl From<i64> for Sum {
-    ghost from_gives = { λ value sum. sum ≡ sum_of value };
-
-    fn from(value: i64) -> Sum {
-        Sum {
-            above: value.max(0).unsigned_abs(),
-            below: value.min(0).unsigned_abs(),
-        }
-    }
-}
-
 // Of weights that pass: the marking's weighted sum, and whether the weights cover.
-#[derive(Clone, Copy)]
+#[derive(Clone, Copy, PartialEq, Eq, Debug)]
 pub struct WeightCheck {
-    pub sum: Sum,
+    pub sum: i64,
     pub cover: bool,
 }
 
@@ -78,7 +59,7 @@ impl WeightCheck {
         ensures { result ≡ nothing }
     {
         WeightCheck {
-            sum: Sum { above: 0, below: 0 },
+            sum: 0,
             cover: false,
         }
     }
@@ -124,10 +105,7 @@ fn judged(
     }
     let sum = marking_weight(&held.rows, &m.types, k.held());
     let cover = covers(most, m, &held.rows, sum.unsigned_abs());
-    Ok(WeightCheck {
-        sum: Sum::from(sum),
-        cover,
-    })
+    Ok(WeightCheck { sum, cover })
 }
 
 // Reads the weight file of a held model, judges the weights, and weighs a held marking. By value: of a model that is lent the type does not tell
@@ -136,8 +114,6 @@ pub fn check_weights(m: Model, k: Marking, s: &[u8]) -> Result<WeightCheck, Weig
     ensures { result ≡ weight_checking m k s.now }
 {
     admitted(&m, &k, s)?;
-    match weight_lines(&m, s) {
-        Ok(weights) => judged(u64::from(Model::COVER), &m, &k, &weights),
-        Err(fault) => Err(WeightRefusal::Unread(faulty(s, fault))),
-    }
+    let weights = named(s, weight_lines(&m, s))?;
+    judged(u64::from(Model::COVER), &m, &k, &weights)
 }

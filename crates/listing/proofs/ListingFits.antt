@@ -1,16 +1,18 @@
 -- A listing has at most 65,536 bytes, whatever the three files are; so a buffer of that size, as the program `rackrun` has, is never too
 -- small for it.
-use Prim.Native.Nat.{ℕ, ◌+◌, ◌-◌, ◌≤◌}
+use Prim.Native.Nat.{ℕ, suc, ◌+◌, ◌≤◌}
 use mathlib.Core.Path.{refl, ◌≡◌, ap, sym}
 use mathlib.Core.Bool.{Bool, true, false}
 use mathlib.Core.List.{List, ◌++◌}
 use native.Mathlib.Omega.{arith}
 use lib.Dec.{leb}
+use lib.IntN.{ℤ, pos, negsuc}
 use lib.ListN.{length, length-append}
+use Rattle.std.proofs.lemmas.Int.{ints}
 use lib.Seq.{sets}
 use Rattle.text.specs.Bytes.{Text, bytes}
 use Rattle.text.specs.Printed.{number_text, texts}
-use Rattle.text.proofs.Basics.{by_test, by_le, and_true}
+use Rattle.text.proofs.Basics.{by_test, and_true}
 use Rattle.text.proofs.LaidLaws.{number_line_length}
 use Rattle.eos.specs.Causes.{Refusal}
 use Rattle.eos.specs.Model as eos
@@ -30,7 +32,6 @@ use Rattle.reader.proofs.WriteAnswers.{whole-fits}
 use Rattle.reader.proofs.GivenLaws.{Given, given-held, given_marking}
 use Rattle.runner_trace.proofs.TraceSteps.{run-given}
 use Rattle.keeper.specs.Answers.{weight_pair, check_given, unpassed_pair}
-use Rattle.keeper.specs.declared.Sum.{Sum}
 use Rattle.keeper.proofs.SumBound.{Within, given_sum_within}
 use Rattle.listing.specs.Listing.{file_longest, model_file, weights_file, trace_file, pair_text, sum_text, cover_text, run_text, after_model, listing_text, with_model, with_weights}
 use Rattle.listing.proofs.ListingLines.{long-line, pair-length, sum_below, sum-above, cover_length}
@@ -53,11 +54,9 @@ pair_fits key r rest n s h = omega (arith, pair-length key r s.0 s.1, length-app
 good-small : Small (pair 0 0)
 good-small = (omega arith, omega arith)
 
-sum_fits : (s : Sum) → Within s → length (sum_text s) ≤ 26
-sum_fits s w =
-    by_le s.below s.above
-    (λ h. omega (arith, ap length (sum-above s h), long-line (bytes "sum=") (s.above - s.below) (omega (arith, w.0))))
-    (λ h. omega (arith, ap length (sum_below s h), long-line (bytes "sum=-") (s.below - s.above) (omega (arith, w.1))))
+sum_fits : (z : ℤ) → Within z → length (sum_text z) ≤ 26
+sum_fits (pos n) w = omega (arith, ap length (sum-above (pos n) n refl (omega (arith, ints))), long-line (bytes "sum=") n (omega (arith, w)))
+sum_fits (negsuc n) w = omega (arith, ap length (sum_below (negsuc n) (suc n) refl (omega (arith, ints))), long-line (bytes "sum=-") (suc n) (omega (arith, w)))
 
 cover_fits : (b : Bool) → length (cover_text b) ≤ 8
 unfolding cover_text
@@ -98,7 +97,7 @@ module _ (m : Model) (k : Marking) (given : Given m k) where
   weights-within s =
       by_test (leb (length s) file_longest)
       (λ t. rw (t, weights_file) (given_sum_within m k given s))
-      (λ t. rw (t, weights_file) (omega arith, omega arith))
+      (λ t. rw (t, weights_file) (omega arith))
 
   tokens_fit : (j : Marking) → Given m j → length (block_text (bytes "held=") (tokens_of (sizes_for m) j)) ≤ 51466
   unfolding held_in

@@ -1,12 +1,14 @@
 -- The lines of a listing before its net-tokens: of which parts they are made, and how long they are at most.
-use Prim.Native.Nat.{ℕ, suc, ◌+◌, ◌-◌, ◌^◌, ◌≤◌, ◌<◌}
+use Prim.Native.Nat.{ℕ, ◌+◌, ◌^◌, ◌≤◌, ◌<◌}
 use mathlib.Core.Path.{◌≡◌, refl, ap}
 use mathlib.Core.Bool.{Bool, cond}
 use mathlib.Core.List.{List, ◌++◌}
 use native.Mathlib.Omega.{arith}
 use lib.ListN.{length, length-append}
 use lib.Seq.{sets}
-use borrow.Author.Tests.{lt-ltb, le-ltb}
+use lib.IntN.{ℤ, pos, negsuc, nat_abs}
+use lib.Signed.{◌≤ℤ◌, ◌<ℤ◌}
+use Rattle.std.proofs.lemmas.Int.{ints}
 use Rattle.text.specs.Bytes.{Text, bytes}
 use Rattle.text.specs.Lists.{stop_of}
 use Rattle.text.specs.Printed.{decimal, signed_text, items_text, end_text, number_text, list_text, weights_text}
@@ -14,7 +16,6 @@ use Rattle.text.proofs.DecimalLaws.{length-below}
 use Rattle.text.proofs.TextLengths.{number-length}
 use Rattle.text.proofs.LaidLaws.{Laid, laid_then}
 use Rattle.eos.specs.Causes.{Refusal}
-use Rattle.keeper.specs.declared.Sum.{Sum}
 use Rattle.listing.specs.Listing.{pair_text, sum_text, cover_text}
 
 -- the line of a number of 64 bits
@@ -51,15 +52,15 @@ module _ (key : Text) (r : Refusal) where
 
 -- ---- the sum
 
-pub sum_below : (s : Sum) → s.above < s.below → sum_text s ≡ number_text (bytes "sum=-") (s.below - s.above)
+pub sum_below : (z : ℤ) (n : ℕ) → n ≡ nat_abs z → z <ℤ pos 0 → sum_text z ≡ number_text (bytes "sum=-") n
 unfolding sum_text weights_text end_text items_text signed_text stop_of number_text
-sum_below s h =
-    let e : suc (s.below - suc s.above) ≡ s.below - s.above = omega arith in
-    rw (lt-ltb s.above s.below h, e)
+sum_below (pos k) n e h = absurd (omega (arith, ints, h))
+sum_below (negsuc k) n e h = rw e
 
-pub sum-above : (s : Sum) → s.below ≤ s.above → sum_text s ≡ number_text (bytes "sum=") (s.above - s.below)
+pub sum-above : (z : ℤ) (n : ℕ) → n ≡ nat_abs z → pos 0 ≤ℤ z → sum_text z ≡ number_text (bytes "sum=") n
 unfolding sum_text weights_text end_text items_text signed_text stop_of number_text
-sum-above s h = rw (le-ltb s.above s.below h)
+sum-above (pos k) n e h = rw e
+sum-above (negsuc k) n e h = absurd (omega (arith, ints, h))
 
 -- ---- the cover
 

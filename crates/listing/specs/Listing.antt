@@ -1,6 +1,5 @@
 -- What the program `rackrun` prints (01, "One listing, whole").
-use Rattle.std.specs.Prelude.{ℕ, Bool, true, false, cond, [], ◌∷◌, ◌++◌, leb, length, Result, Ok, Err}
-use Rattle.std.proofs.Math.IntN.{sub_ℕ}
+use Rattle.std.specs.Prelude.{ℕ, ℤ, Bool, true, false, cond, [], ◌∷◌, ◌++◌, leb, length, Result, Ok, Err}
 use Rattle.text.specs.Bytes.{Text, bytes}
 use Rattle.text.specs.Printed.{number_text, list_text, weights_text}
 use Rattle.eos.specs.Causes.{Refusal}
@@ -18,7 +17,6 @@ use Rattle.runner_trace.specs.Running.{Ran, unrun, running}
 use Rattle.keeper.specs.Answers.{unpassed_pair, weight_checking}
 use Rattle.keeper.specs.declared.WeightRefusal.{WeightRefusal}
 use Rattle.keeper.specs.declared.WeightRefusal.TheVariants.{Unread}
-use Rattle.keeper.specs.declared.Sum.{Sum}
 use Rattle.keeper.specs.declared.WeightCheck.{WeightCheck}
 
 -- ---- the three files: "in the program: file over 65,536" is 1
@@ -41,9 +39,9 @@ trace_file m k s = elim (leb (length s) file_longest) [ true ↦ running m k s |
 unfoldable pub pair_text : Text → Refusal → Text
 pair_text key r = list_text key (r.number ∷ r.beside ∷ [])
 
--- the part above 0 less the part below 0, with a minus sign if that is below 0
-unfoldable pub sum_text : Sum → Text
-sum_text s = weights_text (bytes "sum=") (sub_ℕ s.above s.below ∷ [])
+-- the weighted sum, with a minus sign if it is below 0
+unfoldable pub sum_text : ℤ → Text
+sum_text z = weights_text (bytes "sum=") (z ∷ [])
 
 -- "cover is 1 or 0"
 unfoldable pub cover_text : Bool → Text

@@ -4,7 +4,6 @@ ghost use Rattle.std.proofs.lemmas.List.Edits.{sets};
 ghost use Rattle.listing.specs.Listing.{pair_text, sum_text, cover_text};
 ghost use Rattle.pairs.specs.Pairs.{refusal_of};
 
-use keeper::Sum;
 use pairs::Pair;
 use text_write::{put_number, put_number_line, put_text};
 
@@ -22,14 +21,14 @@ pub fn put_pair(out: &mut [u8], at: usize, key: &[u8], p: Pair) -> usize
 }
 
 // The same for the sum, which may be below 0.
-pub fn put_sum(out: &mut [u8], at: usize, sum: Sum) -> usize
+pub fn put_sum(out: &mut [u8], at: usize, sum: i64) -> usize
     requires { at + 26 ≤ length out.old }
     ensures { (result ≡ at + length (sum_text sum)) × (out.new ≡ sets out.old at (sum_text sum)) × (result ≤ at + 26) }
 {
-    if sum.above < sum.below {
-        return put_number_line(out, at, b"sum=-", sum.below - sum.above);
+    if sum < 0 {
+        return put_number_line(out, at, b"sum=-", sum.unsigned_abs());
     }
-    put_number_line(out, at, b"sum=", sum.above - sum.below)
+    put_number_line(out, at, b"sum=", sum.unsigned_abs())
 }
 
 // The same for the cover.

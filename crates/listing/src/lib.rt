@@ -84,8 +84,7 @@ fn after_model(
     let Ok(check) = check else {
         return lay_head(&head[..next], out);
     };
-    let sum = check.sum;
-    let cover = put_sum(head, next, sum);
+    let cover = put_sum(head, next, check.sum);
     let end = put_cover(head, cover, check.cover);
     after_weights(m, k, trace, head, end, out)
 }

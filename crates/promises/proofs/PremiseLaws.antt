@@ -10,7 +10,6 @@ use borrow.Author.Tests.{leb-true, leb-false}
 use Rattle.text.specs.Bytes.{Text}
 use Rattle.text.proofs.Basics.{by_test, and_true}
 use Rattle.text.specs.Lines.{got}
-use Rattle.keeper.specs.Split.{above, below}
 use Rattle.eos.specs.Multiset as M
 use Rattle.eos.specs.Model as eos
 use Rattle.eos.specs.Weights.{Weights, Shaped, weigh, Passing, covers}
@@ -34,8 +33,7 @@ use Rattle.marking.proofs.SizeLaws.{held_roomy, sizes_same}
 use Rattle.reader.proofs.HeldExactly.{canonical-held, right_parts}
 use Rattle.step.proofs.SoundLaws.{proper_read}
 use Rattle.keeper.specs.Reading.{read_weight_file}
-use Rattle.keeper.specs.Answers.{sum_of, weight_checking, check_given}
-use Rattle.keeper.specs.declared.Sum.{Sum}
+use Rattle.keeper.specs.Answers.{weight_checking, check_given}
 use Rattle.keeper.specs.declared.WeightCheck.{WeightCheck}
 use Rattle.keeper.proofs.WeightsReadBack.{weights_were_printed, weights_read_what_they_say, right_shaped}
 use Rattle.keeper.proofs.CheckLaws.{check_long, check_unheld}
@@ -44,29 +42,22 @@ use Rattle.std.specs.Prelude.{Ok, Result}
 use Rattle.keeper.specs.declared.WeightRefusal.{WeightRefusal}
 
 -- weights of a model that balance, and cover with the sum of a marking, which is the sum reported
-pub record Balances (d : eos.Model) (μ : eos.Marking) (file : Text) (sum : Sum) : Type 0 where
+pub record Balances (d : eos.Model) (μ : eos.Marking) (file : Text) (sum : ℤ) : Type 0 where
   pub weights : Weights
   pub weighs : read_weight_file d file ≡ got weights (length file)
   pub shaped : Shaped d weights
   pub passing : Passing d weights
-  pub covering : covers cover_limit count_limit weights sum.above ≡ true
-  pub sum_is : weigh d weights μ ≡ pos sum.above
-  pub whole : sum.below ≡ 0
+  pub covering : covers cover_limit count_limit weights (nat_abs sum) ≡ true
+  pub sum_is : weigh d weights μ ≡ sum
+  pub whole : sum ≡ pos (nat_abs sum)
 
 -- the same weights of an equal model and an equal marking
-balances_as : (d e : eos.Model) (μ ν : eos.Marking) (file : Text) (sum : Sum) → d ≡ e → μ ≡ ν → Balances d μ file sum → Balances e ν file sum
+balances_as : (d e : eos.Model) (μ ν : eos.Marking) (file : Text) (sum : ℤ) → d ≡ e → μ ≡ ν → Balances d μ file sum → Balances e ν file sum
 balances_as d e μ ν file sum p q b = rw (p, q) at b
-
--- a sum that is a number, as it is reported
-sum_parts : (z : ℤ) (sum : Sum) → z ≡ pos (nat_abs z) → sum ≡ sum_of z → (nat_abs z ≡ sum.above) × (sum.below ≡ 0)
-sum_parts z sum p e = (
-  sym (ap (λ (s : Sum). s.above) e ∙ ap above p),
-  ap (λ (s : Sum). s.below) e ∙ ap below p,
-)
 
 -- ---- weights that passed for a held model and a held marking
 
-module _ (m : Model) (k : Marking) (file : Text) (sum : Sum) (passed : weight_checking m k file ≡ Ok (record { sum = sum; cover = true })) where
+module _ (m : Model) (k : Marking) (file : Text) (sum : ℤ) (passed : weight_checking m k file ≡ Ok (record { sum = sum; cover = true })) where
   short : length file ≤ longest
   short =
       by_test (leb (length file) longest) (leb-true (length file) longest)
@@ -87,15 +78,15 @@ module _ (m : Model) (k : Marking) (file : Text) (sum : Sum) (passed : weight_ch
       let cov = (covers_parts cover_limit w (nat_abs z)).1 ((cover_exactly m k file passed-held short w x e p).0 (ap (λ (o : Result WeightCheck WeightRefusal). (check_given o).cover) passed)) in
       let n : z ≡ pos (nat_abs z) =
       weigh-positive d w (tokens_of (sizes_for m) k) (cover_out d w sh cover_limit count_limit (nat_abs z) (true_is cov)) (cover_in d w sh cover_limit count_limit (nat_abs z) (true_is cov)) in
-      let s = sum_parts z sum n (sym (ap (λ (o : Result WeightCheck WeightRefusal). (check_given o).sum) passed) ∙ sum_exactly m k file passed-held short w x e p) in
+      let s : z ≡ sum = sym (sum_exactly m k file passed-held short w x e p) ∙ ap (λ (o : Result WeightCheck WeightRefusal). (check_given o).sum) passed in
       record {
         weights = w;
         weighs = (weights_read_what_they_say d file w).1 printed;
         shaped = sh;
         passing = p;
-        covering = rw s.0 at cov;
-        sum_is = n ∙ ap pos s.0;
-        whole = s.1;
+        covering = rw s at cov;
+        sum_is = s;
+        whole = rw s at n;
       }
 
 -- ---- the held model and the held start of a model text
@@ -127,7 +118,7 @@ module _ (l : Loaded) (right : right_loaded l ≡ true) where
       (hold.all_right bounds z roomy (eos.canonical l.start) (and_true (leb (length (eos.canonical l.start)) line_limit) _ h.right).1)
 
   -- weights that passed for them balance, and cover with the sum of the start
-  pub start_balances : (file : Text) (sum : Sum) → weight_checking m k file ≡ Ok (record { sum = sum; cover = true })
+  pub start_balances : (file : Text) (sum : ℤ) → weight_checking m k file ≡ Ok (record { sum = sum; cover = true })
       → Balances l.model l.start file sum
   start_balances file sum passed =
       let b = balances_as (model_of m) l.model _ _ file sum (model_of_hold l.model model_right) start-tokens (passed_balances m k file sum passed) in

@@ -6,7 +6,7 @@ use mathlib.Core.Bool.{Bool, true, false, cond, false≢true}
 use mathlib.Core.List.{List, [], ◌∷◌, map}
 use native.Mathlib.Omega.{arith}
 use lib.Dec.{eqb}
-use lib.IntN.{nat_abs}
+use lib.IntN.{ℤ, pos, negsuc, nat_abs}
 use lib.ListN.{length}
 use borrow.Author.Tests.{ne_eqb, le-leb}
 use Rattle.text.specs.Bytes.{Text, bytes}
@@ -41,7 +41,6 @@ use Rattle.runner_trace.specs.Running.{running}
 use Rattle.keeper.specs.Reading.{read_weight_file}
 use Rattle.keeper.specs.Answers.{weight_pair, weight_checking, check_given}
 use Rattle.keeper.specs.Covering.{Covering}
-use Rattle.keeper.specs.declared.Sum.{Sum}
 use Rattle.keeper.proofs.WeightsExactly.{weights_exactly, sum_exactly, cover_exactly}
 use Rattle.spread.specs.Call.{spread_call}
 use Rattle.listing.specs.Listing.{listing_text}
@@ -185,7 +184,7 @@ passed_to_c m k s u w x e p =
     let sum = sum_exactly m k s u.is_held u.short w x e p in
     let cover = cover_exactly m k s u.is_held u.short w x e p in
     let one = cover_one (check_given (weight_checking m k s)).cover in
-    (ap (λ (c : Sum). c.above) sum, ap (λ (c : Sum). c.below) sum, (λ h. cover.0 (one.0 h), λ c. one.1 (cover.1 c)))
+    (ap above sum, ap below sum, (λ h. cover.0 (one.0 h), λ c. one.1 (cover.1 c)))
 
 -- ---- demand 3
 
@@ -207,19 +206,27 @@ module _ (m : Model) where
   zeros_to_c [] k = refl
   zeros_to_c (s ∷ texts) k = ap₂ ◌∷◌ (said_zero m k s) (zeros_to_c texts (stepping m k s).marking)
 
-covered : (text file : Text) (m : Model) (k : Marking) (sum : Sum) → CoveredToC text file m k sum → Covered text file m k sum
+-- a number is said by its part above 0 and its part below 0
+by_parts : (a b : ℤ) → above a ≡ above b → below a ≡ below b → a ≡ b
+by_parts (pos m) (pos n) p q = ap pos p
+by_parts (pos m) (negsuc n) p q = absurd (omega (arith, q))
+by_parts (negsuc m) (pos n) p q = absurd (omega (arith, q))
+by_parts (negsuc m) (negsuc n) p q = ap negsuc {x = m} {y = n} (omega (arith, q))
+
+covered : (text file : Text) (m : Model) (k : Marking) (sum : ℤ) → CoveredToC text file m k sum → Covered text file m k sum
 covered text file m k sum c =
     let a = accepted_zero text (ap (λ (r : ModelRead). r.number) c.accepted) in
     let p = weight_passed m k file (ap (λ (r : Weighed). r.number) c.passed) in
     let f : weights_checked (Ok p.0) ≡ _ = ap weights_checked (sym p.1) ∙ c.passed in
+    let z : p.0.sum ≡ sum = by_parts p.0.sum sum (ap (λ (r : Weighed). r.above) f) (ap (λ (r : Weighed). r.below) f) in
     let q : p.0.cover ≡ true = (cover_one p.0.cover).0 (ap (λ (r : Weighed). r.cover) f) in
     record {
       accepted = accepted_to_c (model_reading text) a.0 m k a.1 c.accepted;
-      passed = p.1 ∙ (λ i. Ok (record { sum = record { above = (f i).above; below = (f i).below }; cover = q i }));
+      passed = p.1 ∙ ap₂ {C = Result WeightCheck WeightRefusal} (λ (x : ℤ) (y : Bool). Ok (record { sum = x; cover = y })) z q;
     }
 
 -- demand 3 at the numbers
-pub whole_run_to_c : (text file : Text) (m : Model) (k : Marking) (sum : Sum) → CoveredToC text file m k sum → (texts : List Text)
+pub whole_run_to_c : (text file : Text) (m : Model) (k : Marking) (sum : ℤ) → CoveredToC text file m k sum → (texts : List Text)
     → WholeRunToC text file m k sum texts
 whole_run_to_c text file m k sum c texts =
     let run = whole_run text file m k sum (covered text file m k sum c) texts in

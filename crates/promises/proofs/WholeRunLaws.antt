@@ -4,7 +4,7 @@ use mathlib.Core.Path.{◌≡◌, refl, ap, ap₂, sym, ◌∙◌}
 use mathlib.Core.Bool.{Bool, true, false, false≢true}
 use mathlib.Core.List.{List, [], ◌∷◌, map}
 use native.Mathlib.Omega.{arith}
-use lib.IntN.{pos, nat_abs}
+use lib.IntN.{ℤ, pos, nat_abs}
 use lib.ListN.{length, get_or, get_or-map}
 use Rattle.text.specs.Bytes.{Text}
 use Rattle.text.specs.Lines.{got}
@@ -25,7 +25,6 @@ use Rattle.reader.proofs.ReadsWhatItSays.{reads_what_it_says}
 use Rattle.reader.proofs.HeldExactly.{accepted_is_printed}
 use Rattle.runner.specs.Answers.{step_pair, stepping}
 use Rattle.keeper.specs.Answers.{weight_checking}
-use Rattle.keeper.specs.declared.Sum.{Sum}
 use Rattle.keeper.proofs.WeightsExactly.{covers_parts}
 use Rattle.promises.specs.WholeRun.{brings, own_run, own_fired, left_by, answers_of, says_fired, racks, Covered, WholeRun}
 use Rattle.promises.proofs.BringLaws.{brings-known}
@@ -69,7 +68,7 @@ number_at l fs e i h =
 
 -- ---- the run from a right model and its start
 
-module _ (l : Loaded) (right : right_loaded l ≡ true) (file : Text) (sum : Sum) (b : Balances l.model l.start file sum) (texts : List Text) where
+module _ (l : Loaded) (right : right_loaded l ≡ true) (file : Text) (sum : ℤ) (b : Balances l.model l.start file sum) (texts : List Text) where
   abbrev d : eos.Model
   d = l.model
 
@@ -79,10 +78,10 @@ module _ (l : Loaded) (right : right_loaded l ≡ true) (file : Text) (sum : Sum
   abbrev k : Marking
   k = hold_marking (eos.canonical l.start)
 
-  faithful : Faithful room_limit count_limit d b.weights sum.above (brings d) hold_marking (call m) l.start texts
+  faithful : Faithful room_limit count_limit d b.weights (nat_abs sum) (brings d) hold_marking (call m) l.start texts
   faithful =
-      demand_3 room_limit count_limit d b.weights sum.above (brings d) hold_marking (call m) b.shaped b.passing.balanced (true_is b.covering)
-      (brings-known d) (agrees d (model_right l right)) l.start (start-made l right) b.sum_is texts
+      demand_3 room_limit count_limit d b.weights (nat_abs sum) (brings d) hold_marking (call m) b.shaped b.passing.balanced (true_is b.covering)
+      (brings-known d) (agrees d (model_right l right)) l.start (start-made l right) (b.sum_is ∙ b.whole) texts
 
   held-run : left_by m k texts ≡ hold_marking (eos.canonical (own_run l texts))
   held-run = left-held m texts k ∙ faithful.held
@@ -97,16 +96,16 @@ module _ (l : Loaded) (right : right_loaded l ≡ true) (file : Text) (sum : Sum
   back : model_of m ≡ d
   back = model_of_hold d (model_right l right)
 
-  sum-run : weigh (model_of m) b.weights (racks m (left_by m k texts)) ≡ pos sum.above
-  sum-run = rw (back, racks-run) faithful.kept
+  sum-run : weigh (model_of m) b.weights (racks m (left_by m k texts)) ≡ sum
+  sum-run = rw (back, racks-run) faithful.kept ∙ sym b.whole
 
   outer-run : (p : ℕ) → p < m.places
-      → get_or (outer (model_of m) (racks m (left_by m k texts))) p 0 ≤ sum.above / nat_abs (get_or b.weights.outward p (pos 0))
+      → get_or (outer (model_of m) (racks m (left_by m k texts))) p 0 ≤ nat_abs sum / nat_abs (get_or b.weights.outward p (pos 0))
   unfolding hold_model
   outer-run p h = rw (back, racks-run) (faithful.outer-most p h)
 
   inner-run : (n i : ℕ) → n < m.nets → i < (eos.net (model_of m) n).size
-      → get_or (inner (model_of m) n (racks m (left_by m k texts))) i 0 ≤ sum.above / nat_abs (get_or (get_or b.weights.inward n []) i (pos 0))
+      → get_or (inner (model_of m) n (racks m (left_by m k texts))) i 0 ≤ nat_abs sum / nat_abs (get_or (get_or b.weights.inward n []) i (pos 0))
   unfolding hold_model
   inner-run n i h j = rw (back, racks-run) (faithful.inner-most n i h (rw back at j))
 
@@ -118,7 +117,7 @@ module _ (l : Loaded) (right : right_loaded l ≡ true) (file : Text) (sum : Sum
         weights = b.weights;
         says = says;
         weighs = b.weighs;
-        covering = (covers_parts cover_limit b.weights sum.above).0 b.covering;
+        covering = (covers_parts cover_limit b.weights (nat_abs sum)).0 b.covering;
         held = held-run;
         fired = fired-run;
         room = λ i h. (λ e. omega (arith, zero i h), λ e. omega (arith, zero i h));
@@ -131,16 +130,16 @@ module _ (l : Loaded) (right : right_loaded l ≡ true) (file : Text) (sum : Sum
 -- ---- demand 3
 
 -- the same of an equal model and an equal marking
-run_as : (text file : Text) (m n : Model) (k j : Marking) (sum : Sum) (texts : List Text) → m ≡ n → k ≡ j → WholeRun text file n j sum texts
+run_as : (text file : Text) (m n : Model) (k j : Marking) (sum : ℤ) (texts : List Text) → m ≡ n → k ≡ j → WholeRun text file n j sum texts
     → WholeRun text file m k sum texts
 run_as text file m n k j sum texts p q h = rw (p, q) h
 
-passed_as : (file : Text) (m n : Model) (k j : Marking) (sum : Sum) → m ≡ n → k ≡ j
+passed_as : (file : Text) (m n : Model) (k j : Marking) (sum : ℤ) → m ≡ n → k ≡ j
     → weight_checking m k file ≡ Ok (record { sum = sum; cover = true }) → weight_checking n j file ≡ Ok (record { sum = sum; cover = true })
 passed_as file m n k j sum p q h = rw (p, q) at h
 
 -- the model text was accepted and the weight file passed with cover 1; then every list of step calls is a whole run
-pub whole_run : (text file : Text) (m : Model) (k : Marking) (sum : Sum) → Covered text file m k sum → (texts : List Text) → WholeRun text file m k sum texts
+pub whole_run : (text file : Text) (m : Model) (k : Marking) (sum : ℤ) → Covered text file m k sum → (texts : List Text) → WholeRun text file m k sum texts
 whole_run text file m k sum c texts =
     let (l, printed, right, short, model_is, start_is) = (accepted_is_printed text m k).0 c.accepted in
     let n = hold_model l.model in

@@ -1,6 +1,6 @@
 -- Demand 3 (00), as 01 says it in "The promises and the table": one statement over the whole list of step calls, at the definitions that
 -- the contracts of the calls cite.
-use Rattle.std.specs.Prelude.{◌≡◌, Bool, true, false, ◌≢◌, List, [], ◌∷◌, map, ℕ, ◌/◌, ◌≤◌, ◌<◌, leb, pos, nat_abs, length, get_or, Result, Ok, Err}
+use Rattle.std.specs.Prelude.{◌≡◌, Bool, true, false, ◌≢◌, List, [], ◌∷◌, map, ℕ, ◌/◌, ◌≤◌, ◌<◌, leb, ℤ, pos, nat_abs, length, get_or, Result, Ok, Err}
 use Rattle.std.proofs.Math.Option.{Option, none, some}
 use Rattle.text.specs.Bytes.{Text}
 use Rattle.text.specs.Lines.{Outcome, got, bad}
@@ -22,7 +22,6 @@ use Rattle.runner.specs.Answers.{step_pair, stepping}
 use Rattle.keeper.specs.Reading.{read_weight_file}
 use Rattle.keeper.specs.Answers.{weight_checking}
 use Rattle.keeper.specs.Covering.{Covering}
-use Rattle.keeper.specs.declared.Sum.{Sum}
 use Rattle.reader.specs.declared.ReadRefusal.TheVariants.{NotHeld}
 use Rattle.runner.specs.declared.StepRefusal.{StepRefusal}
 use Rattle.runner.specs.declared.StepRefusal.TheVariants.{Unread}
@@ -70,18 +69,18 @@ racks m k = tokens_of (sizes_for m) k
 -- ---- demand 3
 
 -- a model text was accepted with this held model and this held marking, and a weight file passed for them with this sum and cover 1
-pub record Covered (text file : Text) (m : Model) (k : Marking) (sum : Sum) : Type 0 where
+pub record Covered (text file : Text) (m : Model) (k : Marking) (sum : ℤ) : Type 0 where
   pub accepted : model_reading text ≡ Ok (record { model = m; start = k })
   pub passed : weight_checking m k file ≡ Ok (record { sum = sum; cover = true })
 
 -- after the step calls with any list of texts, lent the held model and at first that held marking
-pub record WholeRun (text file : Text) (m : Model) (k : Marking) (sum : Sum) (texts : List Text) : Type 0 where
+pub record WholeRun (text file : Text) (m : Model) (k : Marking) (sum : ℤ) (texts : List Text) : Type 0 where
   -- what the two files say: the model and its start, and the weights, which cover
   pub plant : Loaded
   pub weights : Weights
   pub says : read_model text ≡ got plant (length text)
   pub weighs : read_weight_file plant.model file ≡ got weights (length file)
-  pub covering : Covering cover_limit weights sum.above
+  pub covering : Covering cover_limit weights (nat_abs sum)
   -- the held marking is the marking of the rule's own run, in the order of held markings and with unused room 0
   pub held : left_by m k texts ≡ hold_marking (eos.canonical (own_run plant texts))
   -- each call said fired exactly when its text brought the run a step that fired
@@ -90,10 +89,10 @@ pub record WholeRun (text file : Text) (m : Model) (k : Marking) (sum : Sum) (te
   pub room : (i : ℕ) → get_or (own_fired plant texts) i false ≡ true
       → ((step_pair (get_or (answers_of m k texts) i (Err (Unread NotHeld)))).number ≢ 3) × ((step_pair (get_or (answers_of m k texts) i (Err (Unread NotHeld)))).number ≢ 12)
   -- the weighted sum of the held marking equals the sum reported, which is not below 0
-  pub kept : weigh (model_of m) weights (racks m (left_by m k texts)) ≡ pos sum.above
-  pub whole : sum.below ≡ 0
+  pub kept : weigh (model_of m) weights (racks m (left_by m k texts)) ≡ sum
+  pub whole : sum ≡ pos (nat_abs sum)
   -- a hall holds at most that sum divided by its weight, and so does an inner place, all racks together
   pub outer-most : (p : ℕ) → p < m.places
-      → get_or (outer (model_of m) (racks m (left_by m k texts))) p 0 ≤ sum.above / nat_abs (get_or weights.outward p (pos 0))
+      → get_or (outer (model_of m) (racks m (left_by m k texts))) p 0 ≤ nat_abs sum / nat_abs (get_or weights.outward p (pos 0))
   pub inner-most : (n i : ℕ) → n < m.nets → i < (eos.net (model_of m) n).size
-      → get_or (inner (model_of m) n (racks m (left_by m k texts))) i 0 ≤ sum.above / nat_abs (get_or (get_or weights.inward n []) i (pos 0))
+      → get_or (inner (model_of m) n (racks m (left_by m k texts))) i 0 ≤ nat_abs sum / nat_abs (get_or (get_or weights.inward n []) i (pos 0))

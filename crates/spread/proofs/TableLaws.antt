@@ -14,17 +14,17 @@ use Rattle.spread.specs.Table.{entry_of, SpreadTable}
 -- ---- the binomial rule: the table against itself, since the binomial of the last entry would take 5 · 10¹¹ sums
 
 -- one way to share no token, none among no racks, else the entry before and the entry above added up
-abbrev pub rule_at : List ℕ → ℕ → ℕ → Bool
+abbrev pub rule_at : List (List ℕ) → ℕ → ℕ → Bool
 rule_at t zero k = eqb (entry_of t zero k) 1
 rule_at t (suc n) zero = eqb (entry_of t (suc n) zero) 0
 rule_at t (suc n) (suc k) = eqb (entry_of t (suc n) (suc k)) (entry_of t (suc n) k + entry_of t n (suc k))
 
-abbrev pub ruled : List ℕ → Bool
+abbrev pub ruled : List (List ℕ) → Bool
 ruled t = all_below 32 (λ n. all_below 17 (rule_at t n))
 
 -- ---- from the rule to each entry
 
-module _ (t : List ℕ) (test : T (ruled t)) where
+module _ (t : List (List ℕ)) (test : T (ruled t)) where
   rule_at_lem : (n k : ℕ) → n ≤ 31 → k ≤ 16 → T (rule_at t n k)
   rule_at_lem n k few some = all_below-at 17 (rule_at t n) (all_below-at 32 (λ n. all_below 17 (rule_at t n)) test n (omega arith)) k (omega arith)
 

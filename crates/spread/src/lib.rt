@@ -18,13 +18,13 @@ pub enum Beyond {
 }
 
 // The entry of n tokens and k racks. The table is lent: who wants many of its entries names it once.
-fn entry(spreads: &[u64; 544], n: usize, k: usize) -> u64
+fn entry(spreads: &[[u64; 17]; 32], n: usize, k: usize) -> u64
     requires n_within { n ≤ 31 }
     requires k_within { k ≤ 16 }
     requires the_table { SpreadTable spreads.now }
     ensures { result ≡ spread n k }
 {
-    spreads[n * 17 + k]
+    spreads[n][k]
 }
 
 // The spread of n tokens among k racks; too many tokens are answered before too many racks.

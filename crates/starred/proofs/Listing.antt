@@ -3,6 +3,7 @@ use Prim.Native.Nat.{ℕ}
 use mathlib.Core.Path.{◌≡◌, refl, ap, sym, ◌∙◌}
 use mathlib.Core.Bool.{Bool, true, false}
 use mathlib.Core.List.{List, [], ◌∷◌, map}
+use lib.IntN.{ℤ, pos}
 use lib.ListN.{get_or}
 use Rattle.text.specs.Bytes.{Text}
 use Rattle.eos.specs.Model as eos
@@ -12,7 +13,6 @@ use Rattle.marking.specs.Held.{hold_marking}
 use Rattle.marking.specs.declared.Marking.{Marking}
 use Rattle.reader.specs.Answers.{model_reading}
 use Rattle.keeper.specs.Answers.{weight_checking}
-use Rattle.keeper.specs.declared.Sum.{Sum}
 use Rattle.promises.specs.WholeRun.{own_fired, left_by, answers_of, says_fired, Covered, WholeRun}
 use Rattle.starred.specs.Texts.{listed_model, listed_weights, first_step, second_step}
 use Rattle.promises.proofs.WholeRunLaws.{whole_run}
@@ -40,8 +40,8 @@ model = hold_model plant
 abbrev start : Marking
 start = hold_marking (token 0 (0 ∷ 0 ∷ []) ∷ token 0 (1 ∷ 0 ∷ []) ∷ [])
 
-abbrev sum : Sum
-sum = record { above = 3; below = 0 }
+abbrev sum : ℤ
+sum = pos 3
 
 abbrev steps : List Text
 steps = first_step ∷ second_step ∷ []
@@ -74,7 +74,7 @@ pub listing_own : own_fired listing_run.plant steps ≡ true ∷ false ∷ []
 listing_own = sym listing_run.fired ∙ listing-steps.0
 
 -- so the premises of demand 3 can be met, with a step that fires
-pub covered_exists : (text : Text) × (file : Text) × (m : Model) × (k : Marking) × (sum : Sum) × (texts : List Text)
+pub covered_exists : (text : Text) × (file : Text) × (m : Model) × (k : Marking) × (sum : ℤ) × (texts : List Text)
     × Covered text file m k sum × (get_or (map says_fired (answers_of m k texts)) 0 false ≡ true)
 covered_exists =
     (listed_model, listed_weights, model, start, sum, steps, listing_covered, ap (λ (l : List Bool). get_or l 0 false) listing-steps.0)

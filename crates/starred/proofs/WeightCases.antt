@@ -52,10 +52,10 @@ read-cases = (refl, refl, refl, refl)
 
 -- 01: that model and weights have sum 3 and cover 1; outer weights 1,0 are turned down for event 1; all weights 0, for the last line
 pub judged-cases :
-    (judged_weights cover_limit listing start (weights (pos 1) (pos 1) (pos 1)) ≡ Ok (record { sum = record { above = 3; below = 0 }; cover = true }))
+    (judged_weights cover_limit listing start (weights (pos 1) (pos 1) (pos 1)) ≡ Ok (record { sum = pos 3; cover = true }))
     × (judged_weights cover_limit listing start (weights (pos 1) (pos 0) (pos 1)) ≡ Err (Unbalanced 1))
     × (judged_weights cover_limit listing start (weights (pos 0) (pos 0) (pos 0)) ≡ Err (Weightless 3))
-    × (judged_weights cover_limit listing start (weights (negsuc 0) (negsuc 0) (pos 0)) ≡ Ok (record { sum = record { above = 0; below = 2 }; cover = false }))
+    × (judged_weights cover_limit listing start (weights (negsuc 0) (negsuc 0) (pos 0)) ≡ Ok (record { sum = negsuc 1; cover = false }))
 unfolding judged_weights turned_or weight_refusal first unless at effect value weigh covers outer inner outer_of inner_of
 judged-cases = (refl, refl, refl, refl)
 

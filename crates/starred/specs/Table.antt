@@ -1,5 +1,5 @@
 -- The starred cases of 01 ("Edges") as a table: what is lent to the calls, and what comes of it.
-use Rattle.std.specs.Prelude.{ℕ, Bool, true, false, List, [], ◌∷◌, ◌++◌, replicate, Ok, Err}
+use Rattle.std.specs.Prelude.{ℕ, ℤ, pos, Bool, true, false, List, [], ◌∷◌, ◌++◌, replicate, Ok, Err}
 use Rattle.std.specs.Prelude as code
 use Rattle.text.specs.Bytes.{Text, bytes}
 use Rattle.text.specs.Printed.{texts}
@@ -16,7 +16,6 @@ use Rattle.runner.specs.Answers.{Stepped, step_pair, stepping}
 use Rattle.keeper.specs.Answers.{weight_pair, check_given, weight_checking}
 use Rattle.keeper.specs.declared.WeightRefusal.{WeightRefusal}
 use Rattle.keeper.specs.declared.WeightCheck.{WeightCheck}
-use Rattle.keeper.specs.declared.Sum.{Sum}
 use Rattle.spread.specs.Call.{spread_pair, spread_value, spread_call}
 use Rattle.starred.specs.Texts.{listed_model, listed_weights, first_step, second_step}
 
@@ -36,7 +35,7 @@ pub data Result : Type 0 where
   -- the model or the marking is refused
   unread : Refusal → Result
   -- the sum, and the cover
-  of_weights : Refusal → Sum → Bool → Result
+  of_weights : Refusal → ℤ → Bool → Result
   -- the marking after the step, as it is written
   of_step : Refusal → Text → Result
   -- the number of ways
@@ -87,10 +86,6 @@ i gives o = record { input = i; outcome = o }
 abbrev pub fine : Refusal
 fine = pair 0 0
 
--- a sum of at least 0
-abbrev pub amount : ℕ → Sum
-amount n = record { above = n; below = 0 }
-
 -- two racks are taken; the inner pre is 1,1
 abbrev pub two_racks : Text
 two_racks =
@@ -119,8 +114,8 @@ listed_after = bytes "start=2\ntoken=1:0,0\ntoken=2:0,1\n"
 -- "That model and weights: sum 3, cover 1. Outer weights 1,0: event 1 gives 7, beside it 1"
 abbrev pub listed_weighings : List Case
 listed_weighings =
-    (weights listed_model listed_weights gives of_weights fine (amount 3) true)
-    ∷ (weights listed_model (bytes "inv=1\nouter=1,0\ninner=1,1\n") gives of_weights (pair 7 1) (amount 0) false)
+    (weights listed_model listed_weights gives of_weights fine (pos 3) true)
+    ∷ (weights listed_model (bytes "inv=1\nouter=1,0\ninner=1,1\n") gives of_weights (pair 7 1) (pos 0) false)
     ∷ []
 
 -- "First step above fires. Second is 9, net 1. Giving 2:1,0 in the first is 10, net 1"
@@ -149,7 +144,7 @@ new_racks =
 
 -- "256 racks, empty but for one token in one of them": "Outer 2, inner 1 gives 513, cover 1"
 abbrev pub full_hall_weighing : List Case
-full_hall_weighing = (weights full_hall (bytes "inv=1\nouter=2\ninner=1\n") gives of_weights fine (amount 513) true) ∷ []
+full_hall_weighing = (weights full_hall (bytes "inv=1\nouter=2\ninner=1\n") gives of_weights fine (pos 513) true) ∷ []
 
 -- "Spread: (0,0) is 1, (3,0) is 0, (2,3) is 6"
 abbrev pub spread_cases : List Case

@@ -10,16 +10,17 @@ use Rattle.eos.specs.Firing.{all_below}
 use Rattle.eos.specs.Multiset.{every}
 use Rattle.model.specs.declared.ObjectNet.{ObjectNet}
 use Rattle.model.proofs.SlotLaws.{below_at, below_of}
-use Rattle.weigh.specs.Sums.{row_of, enough, net_covered, covered}
+use Rattle.model.specs.Held.{row_at}
+use Rattle.weigh.specs.Sums.{enough, net_covered, covered}
 -- a test of every element, in the words of the library
 pub use Rattle.model.proofs.RuleLoops.{every_in_list as every_all}
 
 module _ (most places nets : ℕ) (objects : List ObjectNet) (weights : List (List ℤ)) (sum : ℕ) where
-  pub outer_lacks : every (enough most sum) (take places (row_of weights 0)) ≡ false → false ≡ covered most places nets objects weights sum
+  pub outer_lacks : every (enough most sum) (take places (row_at weights 0)) ≡ false → false ≡ covered most places nets objects weights sum
   unfolding covered
   outer_lacks h = rw h
 
-  module _ (outer : every (enough most sum) (take places (row_of weights 0)) ≡ true) where
+  module _ (outer : every (enough most sum) (take places (row_at weights 0)) ≡ true) where
     pub net_lacks : (n : ℕ) → n < nets → net_covered objects weights sum n ≡ false → false ≡ covered most places nets objects weights sum
     unfolding covered
     net_lacks n p h =

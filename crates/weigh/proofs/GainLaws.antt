@@ -14,10 +14,10 @@ use lib.Seq.{get_or-set_same, get_or-set_other, set_out}
 use Rattle.eos.specs.Causes.{failing}
 use Rattle.eos.proofs.FailingLaws.{failing_first, failing_none}
 use Rattle.eos.specs.Weights.{is_zero}
-use Rattle.model.specs.Held.{no_net}
+use Rattle.model.specs.Held.{no_net, row_at, told}
 use Rattle.model.specs.declared.Model.{Model}
 use Rattle.model.proofs.SlotLaws.{by_index}
-use Rattle.weigh.specs.Sums.{row_of, number_of, gain_of, Small, GainRow, Gains, move_gain, found}
+use Rattle.weigh.specs.Sums.{number_of, gain_of, Small, GainRow, Gains, move_gain}
 
 by_same : {G : Type 0} (i j : ℕ) → (i ≡ j → G) → ((i ≡ j → ⊥) → G) → G
 by_same i j f g = by_index i j (λ p. g (λ e. omega arith)) (λ p. by_index j i (λ q. g (λ e. omega arith)) (λ q. f (omega arith)))
@@ -74,23 +74,23 @@ module _ (m : Model) (weights : List (List ℤ)) where
   -- the row of the moves, and those of the first n nets
   pub record Laid (n : ℕ) (table : List (List ℤ)) : Type 0 where
     pub long : length table ≡ 9
-    pub small : (r : ℕ) → Small (row_of table r)
-    pub moves : GainRow (row_of weights 0) m.pre m.post (row_of table 0)
+    pub small : (r : ℕ) → Small (row_at table r)
+    pub moves : GainRow (row_at weights 0) m.pre m.post (row_at table 0)
     pub nets : (k : ℕ) → k < n
-        → GainRow (row_of weights (suc k)) (get_or m.objects k no_net).pre (get_or m.objects k no_net).post (row_of table (suc k))
+        → GainRow (row_at weights (suc k)) (get_or m.objects k no_net).pre (get_or m.objects k no_net).post (row_at table (suc k))
 
-  rows_set : (table : List (List ℤ)) (i : ℕ) (row : List ℤ) → ((r : ℕ) → Small (row_of table r)) → Small row → (r : ℕ) → Small (row_of (set table i row) r)
+  rows_set : (table : List (List ℤ)) (i : ℕ) (row : List ℤ) → ((r : ℕ) → Small (row_at table r)) → Small row → (r : ℕ) → Small (row_at (set table i row) r)
   rows_set table i row h p r =
       by_same r i
       (λ e. by_index (length table) i (λ q. rw (e, get_or-set_same table i row [] q) p) (λ q. rw (set_out table i row q) (h r)))
       (λ d. rw (get_or-set_other table i r row [] d) (h r))
 
-  rows_none : (n r : ℕ) → Small (row_of (replicate n (replicate 32 (pos 0))) r)
+  rows_none : (n r : ℕ) → Small (row_at (replicate n (replicate 32 (pos 0))) r)
   rows_none zero r = λ k. omega arith
   rows_none (suc n) zero = small_none 32
   rows_none (suc n) (suc r) = rows_none n r
 
-  pub laid_none : (row : List ℤ) → GainRow (row_of weights 0) m.pre m.post row → Laid 0 (set (replicate 9 (replicate 32 (pos 0))) 0 row)
+  pub laid_none : (row : List ℤ) → GainRow (row_at weights 0) m.pre m.post row → Laid 0 (set (replicate 9 (replicate 32 (pos 0))) 0 row)
   laid_none row g = record {
     long = refl;
     small = rows_set (replicate 9 (replicate 32 (pos 0))) 0 row (rows_none 9) g.small;
@@ -99,7 +99,7 @@ module _ (m : Model) (weights : List (List ℤ)) where
   }
 
   pub laid_next : (n : ℕ) (table : List (List ℤ)) (row : List ℤ) → Laid n table → n < 8
-      → GainRow (row_of weights (suc n)) (get_or m.objects n no_net).pre (get_or m.objects n no_net).post row → Laid (n + 1) (set table (n + 1) row)
+      → GainRow (row_at weights (suc n)) (get_or m.objects n no_net).pre (get_or m.objects n no_net).post row → Laid (n + 1) (set table (n + 1) row)
   laid_next n table row l h g = record {
     long = length-set table (n + 1) row ∙ l.long;
     small = rows_set table (n + 1) row l.small g.small;
@@ -122,11 +122,11 @@ move_small row h (suc k) = h k
 
 -- ---- the first event that fails
 
-pub first_fails : (f : ℕ → Bool) (n k : ℕ) → k < n → ((j : ℕ) → j < k → f j ≡ true) → f k ≡ false → answer.Some k ≡ found (failing n 0 f)
-first_fails f n k h p q = sym (ap found (failing_first n 0 f k h (λ j r. rw (zero-add j) (p j r)) (rw (zero-add k) q) ∙ ap some (zero-add k)))
+pub first_fails : (f : ℕ → Bool) (n k : ℕ) → k < n → ((j : ℕ) → j < k → f j ≡ true) → f k ≡ false → answer.Some k ≡ told (failing n 0 f)
+first_fails f n k h p q = sym (ap told (failing_first n 0 f k h (λ j r. rw (zero-add j) (p j r)) (rw (zero-add k) q) ∙ ap some (zero-add k)))
 
-pub none_fails : (f : ℕ → Bool) (n : ℕ) → ((j : ℕ) → j < n → f j ≡ true) → answer.None ≡ found (failing n 0 f)
-none_fails f n p = sym (ap found (failing_none n 0 f (λ j r. rw (zero-add j) (p j r))))
+pub none_fails : (f : ℕ → Bool) (n : ℕ) → ((j : ℕ) → j < n → f j ≡ true) → answer.None ≡ told (failing n 0 f)
+none_fails f n p = sym (ap told (failing_none n 0 f (λ j r. rw (zero-add j) (p j r))))
 
 -- a gain that is 0, and one that is not
 pub gain_zero : (g v : ℤ) → g ≡ v → g ≡ pos 0 → is_zero v ≡ true

@@ -1,8 +1,6 @@
 -- Sums over what is held: what transitions and events gain, what net-tokens weigh, whether weights cover. Weights are held in rows of 32, the
 -- outer weights and then those of each net; so are gains, those of the moves and then those of each net's transitions.
-use Rattle.std.specs.Prelude.{ℕ, zero, suc, ◌+◌, ◌-◌, ◌*◌, ◌/◌, ◌≤◌, ◌<◌, ◌≡◌, Bool, ◌&&◌, List, [], ◌∷◌, leb, length, take, get_or, ℤ, pos, ◌+ℤ◌, ◌-ℤ◌, nat_abs}
-use Rattle.std.proofs.Math.Option.{Option, none, some}
-use Rattle.std.specs.Prelude as answer
+use Rattle.std.specs.Prelude.{ℕ, zero, suc, ◌-◌, ◌/◌, ◌≤◌, ◌<◌, ◌≡◌, Bool, ◌&&◌, List, [], ◌∷◌, leb, length, take, get_or, ℤ, pos, ◌+ℤ◌, ◌-ℤ◌, nat_abs}
 use Rattle.eos.specs.Multiset.{every}
 use Rattle.eos.specs.Firing.{all_below}
 use Rattle.eos.specs.Weights.{dot, positive, is_zero}
@@ -22,10 +20,7 @@ unfoldable pub total : ℕ → (ℕ → ℤ) → ℤ
 total zero f = pos 0
 total (suc n) f = total n f +ℤ f n
 
--- a row, and a number of it
-abbrev pub row_of : List (List ℤ) → ℕ → List ℤ
-row_of rows r = get_or rows r []
-
+-- a number of a row
 abbrev pub number_of : List ℤ → ℕ → ℤ
 number_of row i = get_or row i (pos 0)
 
@@ -47,10 +42,10 @@ pub record GainRow (w : List ℤ) (pre post : List (List ℕ)) (row : List ℤ) 
 
 -- the rows of a model: what its moves gain, and each net's transitions
 pub record Gains (m : Model) (weights gains : List (List ℤ)) : Type 0 where
-  pub small : (r : ℕ) → Small (row_of gains r)
-  pub moves : GainRow (row_of weights 0) m.pre m.post (row_of gains 0)
+  pub small : (r : ℕ) → Small (row_at gains r)
+  pub moves : GainRow (row_at weights 0) m.pre m.post (row_at gains 0)
   pub nets : (n : ℕ) → n < m.nets
-      → GainRow (row_of weights (suc n)) (get_or m.objects n no_net).pre (get_or m.objects n no_net).post (row_of gains (suc n))
+      → GainRow (row_at weights (suc n)) (get_or m.objects n no_net).pre (get_or m.objects n no_net).post (row_at gains (suc n))
 
 -- what a move gains, numbered from 1; 0 is no move
 unfoldable pub move_gain : List ℤ → ℕ → ℤ
@@ -59,7 +54,7 @@ move_gain row (suc k) = number_of row k
 
 -- what an event gains: what its move gains, and each transition's gain as often as it is counted. Idling gains nothing outside
 unfoldable pub event_gain : ℕ → Event → List (List ℤ) → ℤ
-event_gain nets e gains = move_gain (row_of gains 0) (move_in e.kind e.index) +ℤ total nets (λ n. dot (row_of gains (suc n)) (row_at e.sync n))
+event_gain nets e gains = move_gain (row_at gains 0) (move_in e.kind e.index) +ℤ total nets (λ n. dot (row_at gains (suc n)) (row_at e.sync n))
 
 -- an event's move or place is one of 32
 pub record ActIn (e : Event) : Type 0 where
@@ -70,16 +65,11 @@ pub record ActIn (e : Event) : Type 0 where
 abbrev pub balanced_at : ℕ → List Event → List (List ℤ) → ℕ → Bool
 balanced_at nets events gains k = is_zero (event_gain nets (get_or events k no_event) gains)
 
--- an index, as the code answers it
-abbrev pub found : Option ℕ → answer.Option ℕ
-found none = answer.None
-found (some i) = answer.Some i
-
 -- ---- markings
 
 -- the weight of a net-token: of its place, and of its counts. The weights of type d stand in row d
 unfoldable pub token_weight : List (List ℤ) → List ℕ → NetToken → ℤ
-token_weight weights types t = number_of (row_of weights 0) (t.place - 1) +ℤ dot (row_of weights (nth types (t.place - 1))) t.counts
+token_weight weights types t = number_of (row_at weights 0) (t.place - 1) +ℤ dot (row_at weights (nth types (t.place - 1))) t.counts
 
 unfoldable pub marking_weight : List (List ℤ) → List ℕ → List NetToken → ℤ
 marking_weight weights types [] = pos 0
@@ -97,9 +87,9 @@ enough most sum v = positive v && leb (sum / nat_abs v) most
 
 -- so it is of each weight of net n, for a count's limit
 abbrev pub net_covered : List ObjectNet → List (List ℤ) → ℕ → ℕ → Bool
-net_covered objects weights sum n = every (enough count_limit sum) (take (get_or objects n no_net).places (row_of weights (suc n)))
+net_covered objects weights sum n = every (enough count_limit sum) (take (get_or objects n no_net).places (row_at weights (suc n)))
 
 -- and of each outer weight, for so many net-tokens
 unfoldable pub covered : ℕ → ℕ → ℕ → List ObjectNet → List (List ℤ) → ℕ → Bool
 covered most places nets objects weights sum =
-    every (enough most sum) (take places (row_of weights 0)) && all_below nets (net_covered objects weights sum)
+    every (enough most sum) (take places (row_at weights 0)) && all_below nets (net_covered objects weights sum)

@@ -5,8 +5,8 @@ ghost use Rattle.std.specs.Prelude.{◌≡◌, ℕ, ◌≤◌, ◌<◌, length, 
 ghost use Rattle.eos.specs.Causes.{failing};
 ghost use Rattle.eos.specs.Weights.{dot};
 ghost use Rattle.model.specs.Acts.{as_act, index_of, move_of};
-ghost use Rattle.model.specs.Held.{no_event};
-ghost use Rattle.weigh.specs.Sums.{GainRow, Gains, Small, row_of, move_gain, event_gain, balanced_at, ActIn, found};
+ghost use Rattle.model.specs.Held.{no_event, row_at, told};
+ghost use Rattle.weigh.specs.Sums.{GainRow, Gains, Small, move_gain, event_gain, balanced_at, ActIn};
 
 use model::{Act, Event, Model};
 use weigh::dot;
@@ -83,7 +83,7 @@ fn counts_gain(gains: &[i64], counts: &[u8]) -> i64
 
 // What an event gains.
 fn event_gain(e: &Event, nets: usize, gains: &[[i64; 32]; 9]) -> i64
-    requires { (nets ≤ 8) × ActIn e.now × ((r : ℕ) → Small (row_of gains.now r)) }
+    requires { (nets ≤ 8) × ActIn e.now × ((r : ℕ) → Small (row_at gains.now r)) }
     ensures { result ≡ event_gain nets e.now gains.now }
 {
     let mut sum = act_gain(e.act(), &gains[0]);
@@ -95,9 +95,9 @@ fn event_gain(e: &Event, nets: usize, gains: &[[i64; 32]; 9]) -> i64
 
 // The first of the events that gains something, by its index.
 pub fn first_unbalanced(events: &[Event], nets: usize, gains: &[[i64; 32]; 9]) -> Option<usize>
-    requires nets_bound { (nets ≤ 8) × ((r : ℕ) → Small (row_of gains.now r)) }
+    requires nets_bound { (nets ≤ 8) × ((r : ℕ) → Small (row_at gains.now r)) }
     requires by_index { (k : ℕ) → k < length events.now → ActIn (get_or events.now k no_event) }
-    ensures { result ≡ found (failing (length events.now) 0 (balanced_at nets events.now gains.now)) }
+    ensures { result ≡ told (failing (length events.now) 0 (balanced_at nets events.now gains.now)) }
 {
     for (k, event) in events.iter().enumerate() {
         if event_gain(event, nets, gains) != 0 {

@@ -8,7 +8,6 @@ use Rattle.weigh.specs.Sums.{covered}
 use mir.Syntax.{w64}
 use mir.Val.{to_z, of_z}
 use Rattle.std.proofs.lemmas.Int.{ints}
-use Rattle.keeper.specs.Answers.{sum_of}
 use Rattle.eos.specs.Multiset.{every}
 use Rattle.eos.specs.Weights.{is_zero}
 use Rattle.model.proofs.HeldTests.{held-is, most-nets, most-places}
@@ -65,6 +64,6 @@ returns c =
     let kept : Kept m w = record { held = model-held _ _ c.requires.both; types = search rules; objects = c.requires.room.0; shaped = h.shaped } in
     let zero = zero_is m w kept ∙ sym (ap (λ (x : HeldWeights). every (every is_zero) x.rows) h.is) ∙ sym c.all_zero.ensures in
     let sum : to_z w64 (of_z w64 c.marking_weight-sum.result) ≡ c.marking_weight-sum.result = omega (arith, ints) in
-    ap Ok (passed_is m w kept c.args.k.now (marking_held _ _ c.requires.both) c.args.held.now h.is c.marking_weight-sum.result (rw c.held.ensures.tokens at c.marking_weight-sum.ensures.value) _ (c.from.ensures ∙ ap sum_of sum) _ _
+    ap Ok (passed_is m w kept c.args.k.now (marking_held _ _ c.requires.both) c.args.held.now h.is c.marking_weight-sum.result (rw c.held.ensures.tokens at c.marking_weight-sum.ensures.value) _ sum _ _
     (c.covers-cover.ensures ∙ ap (covered c.args.most m.places m.nets m.objects c.args.held.now.rows) (c.unsigned_abs.ensures.value ∙ ap nat_abs sum)))
     ∙ none_turned _ _ w _ (zero ∙ c.if-all_zero.false) _ (c.unbalanced.ensures.first w h) c.in_default.is

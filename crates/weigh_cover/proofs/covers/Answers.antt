@@ -11,10 +11,10 @@ use lib.ListN.{length, take, get_or}
 use Rattle.std.proofs.Common.{below_more}
 use Rattle.eos.specs.Multiset.{every}
 use Rattle.model.specs.Limits.{count_limit}
-use Rattle.model.specs.Held.{no_net}
+use Rattle.model.specs.Held.{no_net, row_at}
 use Rattle.model.specs.declared.ObjectNet.{ObjectNet}
 use Rattle.model.proofs.HeldTestLoops.{at_any}
-use Rattle.weigh.specs.Sums.{row_of, enough, net_covered}
+use Rattle.weigh.specs.Sums.{enough, net_covered}
 use Rattle.weigh.proofs.CoverTests.{outer_lacks, net_lacks, all_covered}
 use Rattle.weigh_cover.proofs.covers.Goals as goal
 
@@ -24,9 +24,9 @@ outside = record { places = 0; transitions = 0; pre = []; post = [] }
 
 -- a net's test, with the one default for the other and the limit of a count as the code has it
 net_at : (objects : List ObjectNet) (weights : List (List ℤ)) (most sum n : ℕ) (r : Bool) → n < length objects → most ≡ count_limit
-    → r ≡ every (enough most sum) (take (get_or objects n outside).places (row_of weights (n + 1))) → net_covered objects weights sum n ≡ r
+    → r ≡ every (enough most sum) (take (get_or objects n outside).places (row_at weights (n + 1))) → net_covered objects weights sum n ≡ r
 net_at objects weights most sum n r h limit e =
-    rw (← (add-one n), ← limit) (sym (e ∙ ap (λ (o : ObjectNet). every (enough most sum) (take o.places (row_of weights (n + 1)))) (at_any objects n outside no_net h)))
+    rw (← (add-one n), ← limit) (sym (e ∙ ap (λ (o : ObjectNet). every (enough most sum) (take o.places (row_at weights (n + 1)))) (at_any objects n outside no_net h)))
 
 pub returns-then-not-all_enough : goal.returns-then-not-all_enough
 returns-then-not-all_enough c = outer_lacks _ _ _ _ _ _ (sym c.all_enough.ensures ∙ c.if-not-all_enough.true)

@@ -9,7 +9,8 @@ use Rattle.std.proofs.lemmas.Int.{ints}
 use Rattle.eos.specs.Model.{Act}
 use Rattle.model.specs.Acts.{as_act, index_of, move_of}
 use Rattle.model.proofs.HeldActs.{index_back}
-use Rattle.weigh.specs.Sums.{row_of, move_gain, event_gain}
+use Rattle.model.specs.Held.{row_at}
+use Rattle.weigh.specs.Sums.{move_gain, event_gain}
 use Rattle.weigh.proofs.TotalLaws.{total_begins, total_further}
 use Rattle.weigh.proofs.DotLaws.{sum_step, within}
 use Rattle.weigh.proofs.GainLaws.{move_small}
@@ -23,7 +24,7 @@ act_gain-sum-requires c =
 pub loop-n-init : goal.loop-n-init
 loop-n-init c =
     let r = c.act_gain-sum.result in
-    let row = row_of c.args.gains.now 0 in
+    let row = row_at c.args.gains.now 0 in
     let held : to_z w64 (of_z w64 r) ≡ r = omega (arith, ints) in
     let p = within (move_gain row (move_of (as_act c.act.result))) 137436856320 (move_small row (c.requires.2 0) (move_of (as_act c.act.result))) in (
       rw held (c.act_gain-sum.ensures ∙ ap (λ (a : Act). move_gain row (move_of a)) c.act.ensures ∙ total_begins _ _),

@@ -8,13 +8,14 @@ use mir.Syntax.{w16, w64}
 use mir.Val.{SFits, to_z, of_z}
 use Rattle.std.proofs.lemmas.Int.{ints}
 use Rattle.std.proofs.lemmas.List.{map-id}
-use Rattle.weigh.specs.Sums.{row_of, number_of, token_weight}
+use Rattle.model.specs.Held.{row_at}
+use Rattle.weigh.specs.Sums.{number_of, token_weight}
 use Rattle.weigh_marking.proofs.token_weight.Goals as goal
 
 pub returns-clause-value : goal.returns-clause-value
 unfolding token_weight
 returns-clause-value c =
-    let outer = row_of c.args.weights.now 0 in
+    let outer = row_at c.args.weights.now 0 in
     let fits : SFits w16 (number_of outer (c.from-place.result - 1)) = search rules in
     let w : c.from-2.result ≡ number_of outer (c.from-place.result - 1) = omega (arith, ints, c.from-2.ensures) in
     let d = c.dot-counts.ensures in
