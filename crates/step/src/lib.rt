@@ -3,7 +3,6 @@
 
 ghost use Rattle.std.specs.Prelude.{◌≡◌};
 ghost use Rattle.step.specs.Rule.{no_sides, no_rule};
-ghost use Rattle.step.specs.Verdict.{number_of};
 
 // One side of an event: how many net-tokens it has on each place, and how many tokens on each place of each object net, a row for each
 // net. Unused room is 0.
@@ -48,36 +47,14 @@ impl Rule {
 }
 
 // Why a step is turned down: for the places of its net-tokens, for too few tokens of an object net, for others than the event leaves, for a
-// net-token that the marking lacks, or for want of room.
-#[derive(Clone, Copy, PartialEq, Eq)]
-pub enum Cause {
-    Places,
-    Short,
-    Unequal,
-    Missing,
-    Crowded,
-}
-
-impl Cause {
-    // Its number in 01's table.
-    pub fn number(self) -> u8
-        ensures { result ≡ number_of self }
-    {
-        match self {
-            Cause::Places => 8,
-            Cause::Short => 9,
-            Cause::Unequal => 10,
-            Cause::Missing => 11,
-            Cause::Crowded => 12,
-        }
-    }
-}
-
-// A step is turned down: its cause, and the number that stands beside it.
-#[derive(Clone, Copy)]
-pub struct Refusal {
-    pub cause: Cause,
-    pub beside: usize,
+// net-token that the marking lacks, or for want of room. Lines are counted from the step's `fire` line, nets from 1.
+#[derive(Clone, Copy, PartialEq, Eq, Debug)]
+pub enum Refusal {
+    Places { line: usize },
+    Short { net: usize },
+    Unequal { net: usize },
+    Missing { line: usize },
+    Crowded { line: usize },
 }
 
 // What the lines of a step say up to those that it takes: its event, from 0, and how many net-tokens it takes.
