@@ -59,8 +59,7 @@ pub fn step_on(
         Ok(lines) => lines,
         Err(fault) => return Err(StepRefusal::Unread(faulty(s, fault))),
     };
-    let mut rule = Rule::empty();
-    rule_of(m, lines.event, &mut rule);
+    let rule = rule_of(m, lines.event);
     fire(
         room,
         &rule,

@@ -12,12 +12,12 @@ use Rattle.std.specs.Result.{IsErrAnd}
 use Rattle.eos.specs.Vector.{le_v, eq_v}
 use Rattle.eos.specs.Causes.{Cause, taking, giving, short, unequal, missing, crowded, first, unless, at, failing}
 use Rattle.marking.specs.declared.NetToken.{NetToken}
-use Rattle.step.specs.Rule.{row_of}
+use Rattle.model.specs.Held.{row_at, told}
 use Rattle.step.specs.declared.Sides.{Sides}
 use Rattle.step.specs.declared.Rule.{Rule}
 use Rattle.step.specs.declared.Refusal.TheVariants.{Places, Short, Unequal, Missing, Crowded}
 use Rattle.step.specs.declared.Refusal.{Refusal}
-use Rattle.step.specs.Verdict.{outer_tokens, inner_taken_in, inner_given_in, lacking_tokens, outer_causes, inner_causes, marking_causes, causes_in, verdict_of, told}
+use Rattle.step.specs.Verdict.{outer_tokens, inner_taken_in, inner_given_in, lacking_tokens, outer_causes, inner_causes, marking_causes, causes_in, verdict_of}
 use Rattle.step.specs.VerdictParts.{Inner, even_in}
 use Rattle.eos.proofs.FailingLaws.{failing_same}
 use Rattle.step.proofs.LackLaws.{lacking_fewer}
@@ -140,7 +140,7 @@ module _ (t : ℕ) (q : Rule) (taken given : List NetToken) where
 
 -- over rows of the inner projections
 module _ (q : Rule) (taken : List NetToken) (held : List (List ℕ)) (few : q.nets ≤ 8) (h : Inner q.types taken held) where
-  pub taken_same : failing q.nets 0 (λ n. le_v (row_of q.pre.inner n) (row_of held n)) ≡ failing q.nets 0 (inner_taken_in q taken)
+  pub taken_same : failing q.nets 0 (λ n. le_v (row_at q.pre.inner n) (row_at held n)) ≡ failing q.nets 0 (inner_taken_in q taken)
   unfolding inner_taken_in
   taken_same = failing_same q.nets 0 _ (inner_taken_in q taken) (λ i k. rw (h.rows i (omega arith)))
 

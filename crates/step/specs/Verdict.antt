@@ -1,6 +1,5 @@
 -- Why a step is turned down, over its net-tokens as they are held: 01's causes 8 to 12, in the table's order.
-use Rattle.std.specs.Prelude.{ℕ, suc, ◌+◌, ◌-◌, Bool, cond, List, [], ◌∷◌, ◌++◌, leb, eqb, length, get_or, Result, Ok, Err, None, Some}
-use Rattle.std.specs.Prelude as code
+use Rattle.std.specs.Prelude.{ℕ, suc, ◌+◌, ◌-◌, Bool, cond, List, [], ◌∷◌, ◌++◌, leb, eqb, length, get_or, Result, Ok, Err}
 use Rattle.std.proofs.Math.Option.{Option, none, some}
 use Rattle.eos.specs.Vector.{◌⊕◌, ◌⊖◌, zeros, unit, le_v, eq_v}
 use Rattle.eos.specs.Multiset as M
@@ -8,7 +7,7 @@ use Rattle.eos.specs.Model.{Marking}
 use Rattle.eos.specs.Causes.{Refusal, Cause, taking, giving, short, unequal, missing, crowded, unless, at, failing}
 use Rattle.marking.specs.Tokens.{like}
 use Rattle.marking.specs.declared.NetToken.{NetToken}
-use Rattle.step.specs.Rule.{row_of}
+use Rattle.model.specs.Held.{row_at}
 use Rattle.step.specs.declared.Sides.{Sides}
 use Rattle.step.specs.declared.Rule.{Rule}
 use Rattle.step.specs.declared.Refusal as refusal
@@ -30,12 +29,12 @@ inner_tokens types n (t ∷ ts) = inside_in types n t ⊕ inner_tokens types n t
 
 -- the net-tokens taken have what the event asks of net n
 unfoldable pub inner_taken_in : Rule → List NetToken → ℕ → Bool
-inner_taken_in q taken n = le_v (row_of q.pre.inner n) (inner_tokens q.types n taken)
+inner_taken_in q taken n = le_v (row_at q.pre.inner n) (inner_tokens q.types n taken)
 
 -- the net-tokens given have what the event leaves and gives of net n
 unfoldable pub inner_given_in : Rule → List NetToken → List NetToken → ℕ → Bool
 inner_given_in q taken given n =
-    eq_v (inner_tokens q.types n given) (inner_tokens q.types n taken ⊖ row_of q.pre.inner n ⊕ row_of q.post.inner n)
+    eq_v (inner_tokens q.types n given) (inner_tokens q.types n taken ⊖ row_at q.pre.inner n ⊕ row_at q.post.inner n)
 
 -- the first net-token, counted from i on, whose like, counted so far, exceed the marking's; `seen` are those before
 abbrev pub lacking_tokens : List NetToken → ℕ → List NetToken → List NetToken → Option ℕ
@@ -96,8 +95,3 @@ cause_pair lines c = turned_pair (turned_by lines c)
 unfoldable pub verdict_of : ℕ → Option Cause → Result (Unit {0}) refusal.Refusal
 verdict_of lines none = Ok tt
 verdict_of lines (some c) = Err (turned_by lines c)
-
--- an index of the theory as the code answers it
-abbrev pub told : Option ℕ → code.Option ℕ
-told none = None
-told (some i) = Some i

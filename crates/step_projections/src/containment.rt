@@ -3,7 +3,8 @@ ghost use Rattle.std.specs.Prelude.{◌≡◌, [], ◌≤◌, ◌<◌, ltb, leng
 ghost use Rattle.eos.specs.Multiset as M;
 ghost use Rattle.marking.specs.Tokens.{like, before};
 ghost use Rattle.marking.proofs.TokenOrder.{outside};
-ghost use Rattle.step.specs.Verdict.{lacking_tokens, told};
+ghost use Rattle.model.specs.Held.{told};
+ghost use Rattle.step.specs.Verdict.{lacking_tokens};
 
 use marking::NetToken;
 use marking_find::count;

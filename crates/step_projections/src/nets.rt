@@ -3,8 +3,7 @@
 ghost use Rattle.std.specs.Prelude.{◌≡◌, ◌≤◌};
 ghost use Rattle.eos.specs.Vector.{le_v};
 ghost use Rattle.eos.specs.Causes.{failing};
-ghost use Rattle.step.specs.Rule.{row_of};
-ghost use Rattle.step.specs.Verdict.{told};
+ghost use Rattle.model.specs.Held.{row_at, told};
 ghost use Rattle.step.specs.VerdictParts.{Small, SmallRows, even, even_in};
 
 // Whether of a net no more is asked than is held.
@@ -21,7 +20,7 @@ fn enough(asked: &[u64; 32], held: &[u64; 32]) -> bool
 // The first net of which more is asked than is held.
 pub fn short_net(nets: usize, asked: &[[u64; 32]; 8], held: &[[u64; 32]; 8]) -> Option<usize>
     requires { nets ≤ 8 }
-    ensures { result ≡ told (failing nets 0 (λ n. le_v (row_of asked.now n) (row_of held.now n))) }
+    ensures { result ≡ told (failing nets 0 (λ n. le_v (row_at asked.now n) (row_at held.now n))) }
 {
     for net in 0..nets {
         if !enough(&asked[net], &held[net]) {

@@ -46,10 +46,10 @@ returns-in-Err c =
     ∙ step-refused a.m.now a.k.now a.s.now a.room _
     (sym (reading_is a.m.now a.k.now a.s.now a.z.now c.requires.2) ∙ (refused_of hold_step _ _ c.in-Err.ensures).is)
 
-pub rule_of-requires : goal.rule_of-requires
-rule_of-requires c =
-    let p = (goal.at.rule_of-requires c).In-Ok in
-    (both_model _ _ c.requires.1, omega (arith, (read p).event-is, (right p).known), c.empty-rule.ensures)
+pub rule_of-rule-requires : goal.rule_of-rule-requires
+rule_of-rule-requires c =
+    let p = (goal.at.rule_of-rule-requires c).In-Ok in
+    (both_model _ _ c.requires.1, omega (arith, (read p).event-is, (right p).known))
 
 pub shared_ref_as_front-fire : goal.shared_ref_as_front-fire
 shared_ref_as_front-fire c =
@@ -67,10 +67,10 @@ fire-requires c =
     let t = (read p).step in
     let r = right p in
     let m = c.args.m.now in
-    let sized = c.rule_of.ensures.sized in
+    let sized = c.rule_of-rule.ensures.sized in
     let held = both_model _ _ c.requires.1 in (
       c.requires.0,
-      rule_is_sound m sized held t r _ _ c.rule_of.ensures.made (read p).event-is,
+      rule_is_sound m sized held t r _ _ c.rule_of-rule.ensures.made (read p).event-is,
       read_placed m sized held t.taken r.taken r.take-few _ (read p).taken_are,
       read_placed m sized held t.given r.given r.give_few _ (read p).given_are,
       (both_stands _ _ c.requires.4 c.requires.1).kept,
@@ -80,5 +80,5 @@ pub returns : goal.returns
 returns c =
     let a = c.args in
     c.fire.ensures
-    ∙ step-ruled a.m.now a.k.now a.s.now a.room c.rule_of.ensures.sized (both_model _ _ c.requires.1) (both_stands _ _ c.requires.4 c.requires.1) _ _ _ _
-    (read (goal.at.returns c).In-Ok) _ c.rule_of.ensures.made
+    ∙ step-ruled a.m.now a.k.now a.s.now a.room c.rule_of-rule.ensures.sized (both_model _ _ c.requires.1) (both_stands _ _ c.requires.4 c.requires.1) _ _ _ _
+    (read (goal.at.returns c).In-Ok) _ c.rule_of-rule.ensures.made

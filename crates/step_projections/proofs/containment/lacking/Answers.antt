@@ -1,7 +1,7 @@
 use mathlib.Core.Path.{sym, ap, ◌∙◌}
 use native.Mathlib.Omega.{arith}
 use Rattle.marking.proofs.TokenOrder.{outside}
-use Rattle.step.specs.Verdict.{told}
+use Rattle.model.specs.Held.{told}
 use Rattle.step.proofs.LackLaws.{rest-start, rest_on, rest_here, rest_end}
 use Rattle.step_projections.proofs.containment.lacking.Goals as goal
 

@@ -1,7 +1,7 @@
 use mathlib.Core.Path.{sym, ap, ◌∙◌}
 use native.Mathlib.Omega.{arith}
 use native.Mathlib.Nat.{sub-zero}
-use Rattle.step.specs.Verdict.{told}
+use Rattle.model.specs.Held.{told}
 use Rattle.eos.proofs.FailingLaws.{failing_on, failing_here, failing_end}
 use Rattle.step_projections.proofs.nets.short_net.Invariants.{test}
 use Rattle.step_projections.proofs.nets.short_net.Goals as goal

@@ -5,12 +5,12 @@ use mathlib.Core.Bool.{Bool}
 use mathlib.Core.List.{List}
 use Rattle.eos.specs.Vector.{le_v}
 use Rattle.eos.specs.Causes.{failing}
-use Rattle.step.specs.Rule.{row_of}
+use Rattle.model.specs.Held.{row_at}
 use Rattle.step_projections.proofs.nets.short_net.Given as goal
 
 -- net n is asked no more than is held
 abbrev pub test : List (List ℕ) → List (List ℕ) → ℕ → Bool
-test asked held n = le_v (row_of asked n) (row_of held n)
+test asked held n = le_v (row_at asked n) (row_at held n)
 
 abbrev pub invariant-loop-net : goal.invariant-loop-net
 invariant-loop-net l = failing l.nets 0 (test l.asked l.held) ≡ failing (l.nets - l.net) l.net (test l.asked l.held)

@@ -1,7 +1,7 @@
 use mathlib.Core.Path.{sym, ap, ◌∙◌}
 use native.Mathlib.Omega.{arith}
 use native.Mathlib.Nat.{sub-zero}
-use Rattle.step.specs.Verdict.{told}
+use Rattle.model.specs.Held.{told}
 use Rattle.step.specs.VerdictParts.{even_in}
 use Rattle.eos.proofs.FailingLaws.{failing_on, failing_here, failing_end}
 use Rattle.step_projections.proofs.nets.unbalanced_net.Goals as goal
