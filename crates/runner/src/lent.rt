@@ -60,12 +60,5 @@ pub fn step_on(
         Err(fault) => return Err(StepRefusal::Unread(faulty(s, fault))),
     };
     let rule = rule_of(m, lines.event);
-    fire(
-        room,
-        &rule,
-        k,
-        &taken[..lines.take],
-        &given[..lines.give],
-        r.at,
-    )
+    fire(room, &rule, k, lines.taken, lines.given, r.at)
 }

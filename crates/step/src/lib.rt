@@ -1,6 +1,8 @@
 // A step: its lines, what its event asks and gives, why it is turned down (01's causes 8 to 12 over its net-tokens and the marking's), and the marking after it. Definitions and laws.
 #![tactic(auto)]
 
+use marking::NetToken;
+
 // One side of an event: how many net-tokens it has on each place, and how many tokens on each place of each object net, a row for each
 // net. Unused room is 0.
 #[derive(Clone, Copy)]
@@ -29,17 +31,17 @@ pub enum Refusal {
     Crowded { line: usize },
 }
 
-// What the lines of a step say up to those that it takes: its event, from 0, and how many net-tokens it takes.
+// What the lines of a step say up to those that it takes: its event, from 0, and the net-tokens that it takes, in the order of their lines.
 #[derive(Clone, Copy)]
-pub struct TakeLines {
+pub struct TakeLines<'a> {
     pub event: usize,
-    pub take: usize,
+    pub taken: &'a [NetToken],
 }
 
-// What the lines of a step say: its event, from 0, and how many net-tokens it takes and gives.
+// What the lines of a step say: its event, from 0, and the net-tokens that it takes and gives, in the order of their lines.
 #[derive(Clone, Copy)]
-pub struct StepLines {
+pub struct StepLines<'a> {
     pub event: usize,
-    pub take: usize,
-    pub give: usize,
+    pub taken: &'a [NetToken],
+    pub given: &'a [NetToken],
 }

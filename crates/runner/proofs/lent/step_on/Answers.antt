@@ -6,13 +6,12 @@ use Rattle.text_reader.specs.Place.{Reads}
 use Rattle.text_reader.proofs.ReadsLaws.{refused_of}
 use Rattle.eos.specs.Firing.{Step}
 use native.Mathlib.Omega.{arith}
-use lib.ListN.{take}
 use Rattle.model.proofs.HeldTests.{held-is, most-events}
 use Rattle.marking.specs.Sizes.{sizes_for}
 use Rattle.reader.proofs.ReadingLaws.{both_model}
 use Rattle.std.specs.declared.result.Result.TheVariants.{Ok}
 use Rattle.text_reader.specs.declared.Reader.{Reader}
-use Rattle.step.specs.Answers.{hold_step, rows_of}
+use Rattle.step.specs.Answers.{hold_step, step_lent}
 use Rattle.runner.specs.Answers.{stays}
 use Rattle.runner.proofs.ReadLaws.{ReadTokens, lines-got}
 use Rattle.runner.proofs.RuledLaws.{RightStep, read_right, rule_is_sound, read_placed}
@@ -23,15 +22,13 @@ use Rattle.reader.specs.declared.ReadRefusal.{ReadRefusal}
 use Rattle.runner.specs.declared.StepRefusal.TheVariants.{Unread}
 
 -- the step that was read
-read : (c : In-Ok) → let a = c.args in let r = c.read_step in
-    ReadTokens c.in-Ok.lines (take c.in-Ok.lines.take r.new.taken) (take c.in-Ok.lines.give r.new.given) (reading a.m.now a.k.now a.s.now) r.new.r.at
+read : (c : In-Ok) → let a = c.args in ReadTokens c.in-Ok.lines (reading a.m.now a.k.now a.s.now) c.read_step.new.r.at
 read c =
     let a = c.args in
     let r = c.read_step in
-    let l = c.in-Ok.lines in
     let begun : Reader = record { src = a.s; at = 0 } in
-    lines-got l r.new.taken r.new.given _ begun r.new.r
-    (subst (λ (o : Outcome Step). Reads (kept hold_step o) begun r.new.r (Ok (record { event = l.event; taken = rows_of l.take r.new.taken; given = rows_of l.give r.new.given }))) (reading_is a.m.now a.k.now a.s.now a.z.now c.requires.2) c.in-Ok.ensures)
+    lines-got c.in-Ok.lines _ begun r.new.r
+    (subst (λ (o : Outcome Step). Reads (kept hold_step o) begun r.new.r (step_lent (Ok c.in-Ok.lines))) (reading_is a.m.now a.k.now a.s.now a.z.now c.requires.2) c.in-Ok.ensures)
 
 right : (c : In-Ok) → RightStep (sizes_for c.args.m.now) c.args.m.now.listed (read c).step
 right c = read_right _ _ c.args.s.now _ _ (read c).is
@@ -50,16 +47,6 @@ pub rule_of-rule-requires : goal.rule_of-rule-requires
 rule_of-rule-requires c =
     let p = (goal.at.rule_of-rule-requires c).In-Ok in
     (both_model _ _ c.requires.1, omega (arith, (read p).event-is, (right p).known))
-
-pub shared_ref_as_front-fire : goal.shared_ref_as_front-fire
-shared_ref_as_front-fire c =
-    let p = (goal.at.shared_ref_as_front-fire c).In-Ok in
-    omega (arith, (read p).take-is, (right p).take-few, c.read_step.array_long)
-
-pub shared_ref_as_front-fire-2 : goal.shared_ref_as_front-fire-2
-shared_ref_as_front-fire-2 c =
-    let p = (goal.at.shared_ref_as_front-fire-2 c).In-Ok in
-    omega (arith, (read p).give_is, (right p).give_few, c.read_step.array_long2)
 
 pub fire-requires : goal.fire-requires
 fire-requires c =
@@ -80,5 +67,5 @@ pub returns : goal.returns
 returns c =
     let a = c.args in
     c.fire.ensures
-    ∙ step-ruled a.m.now a.k.now a.s.now a.room c.rule_of-rule.ensures.sized (both_model _ _ c.requires.1) (both_stands _ _ c.requires.4 c.requires.1) _ _ _ _
+    ∙ step-ruled a.m.now a.k.now a.s.now a.room c.rule_of-rule.ensures.sized (both_model _ _ c.requires.1) (both_stands _ _ c.requires.4 c.requires.1) _ _
     (read (goal.at.returns c).In-Ok) _ c.rule_of-rule.ensures.made
