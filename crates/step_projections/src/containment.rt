@@ -29,10 +29,5 @@ pub fn lacking(taken: &[NetToken], held: &[NetToken]) -> Option<usize>
     requires { M.Sorted before held.now }
     ensures { result ≡ told (lacking_tokens held.now 0 [] taken.now) }
 {
-    for i in 0..taken.len() {
-        if !has(taken, i, held) {
-            return Some(i);
-        }
-    }
-    None
+    (0..taken.len()).find(|i| !has(taken, *i, held))
 }

@@ -22,12 +22,7 @@ pub fn short_net(nets: usize, asked: &[[u64; 32]; 8], held: &[[u64; 32]; 8]) -> 
     requires { nets ≤ 8 }
     ensures { result ≡ told (failing nets 0 (λ n. le_v (row_at asked.now n) (row_at held.now n))) }
 {
-    for net in 0..nets {
-        if !enough(&asked[net], &held[net]) {
-            return Some(net);
-        }
-    }
-    None
+    (0..nets).find(|net| !enough(&asked[*net], &held[*net]))
 }
 
 // Whether what is made of a net is what is held of it, without pre and with post.
@@ -53,10 +48,5 @@ pub fn unbalanced_net(
     requires { (nets ≤ 8) × SmallRows held.now × SmallRows post.now }
     ensures { result ≡ told (failing nets 0 (even_in made.now held.now pre.now post.now)) }
 {
-    for net in 0..nets {
-        if !even(&made[net], &held[net], &pre[net], &post[net]) {
-            return Some(net);
-        }
-    }
-    None
+    (0..nets).find(|net| !even(&made[*net], &held[*net], &pre[*net], &post[*net]))
 }
