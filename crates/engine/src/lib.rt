@@ -12,8 +12,8 @@ pub use reader::{
     write_marking,
 };
 
-// A fault of a line with its cause, in the refusals of all levels, and a step that is turned down, with its cause.
-pub use step::{Cause as StepCause, Refusal};
+// A fault of a line with its cause, in the refusals of all levels, and why a step is turned down.
+pub use step::Refusal;
 pub use text::{Cause, Spot};
 
 // Runner. `stepping` (runner/specs/Answers.antt), `running` (runner_trace/specs/Running.antt).

@@ -3,6 +3,7 @@
 
 ghost use Rattle.std.specs.Prelude.{◌≡◌, MatchResult};
 ghost use Rattle.reader.specs.Answers.{pair, unread_pair, unwritten_pair};
+ghost use Rattle.step.specs.Verdict.{turned_pair};
 ghost use Rattle.runner.specs.Answers.{unfired_pair};
 ghost use Rattle.keeper.specs.Answers.{unpassed_pair};
 ghost use Rattle.spread.specs.Call.{beyond_pair};
@@ -12,6 +13,7 @@ use keeper::WeightRefusal;
 use reader::{ReadRefusal, WriteRefusal};
 use runner::StepRefusal;
 use spread::Beyond;
+use step::Refusal;
 
 // A number of the table, and what stands beside it. A number, since the calls for C hand it on, and C takes no enum.
 #[derive(Clone, Copy, PartialEq, Eq, Debug)]
@@ -61,6 +63,21 @@ impl From<WriteRefusal> for Pair {
     }
 }
 
+// Of a step that is turned down.
+impl From<Refusal> for Pair {
+    ghost from_gives = { λ refusal p. refusal_of p ≡ turned_pair refusal };
+
+    fn from(refusal: Refusal) -> Pair {
+        match refusal {
+            Refusal::Places { line } => row(8, line),
+            Refusal::Short { net } => row(9, net),
+            Refusal::Unequal { net } => row(10, net),
+            Refusal::Missing { line } => row(11, line),
+            Refusal::Crowded { line } => row(12, line),
+        }
+    }
+}
+
 // Of a step.
 impl From<StepRefusal> for Pair {
     ghost from_gives = { λ refusal p. refusal_of p ≡ unfired_pair refusal };
@@ -68,7 +85,7 @@ impl From<StepRefusal> for Pair {
     fn from(refusal: StepRefusal) -> Pair {
         match refusal {
             StepRefusal::Unread(refusal) => Pair::from(refusal),
-            StepRefusal::Turned(refusal) => row(refusal.cause.number(), refusal.beside),
+            StepRefusal::Turned(refusal) => Pair::from(refusal),
         }
     }
 }

@@ -1,8 +1,7 @@
 -- What the lines of a step say, as it is held: their step.
 use Prim.Native.Nat.{ℕ}
 use mathlib.Core.Path.{◌≡◌, ap}
-use mathlib.Core.List.{List, map}
-use lib.ListN.{length, take}
+use mathlib.Core.List.{map}
 use Rattle.std.specs.declared.result.Result.TheVariants.{Ok}
 use Rattle.text.specs.Lines.{Outcome, got}
 use Rattle.text.specs.Answers.{kept}
@@ -10,32 +9,25 @@ use Rattle.text_reader.specs.Place.{Reads}
 use Rattle.text_reader.specs.declared.Reader.{Reader}
 use Rattle.text_reader.proofs.ReadsLaws.{read_of}
 use Rattle.eos.specs.Firing.{Step}
-use Rattle.marking.specs.declared.NetToken.{NetToken}
 use Rattle.marking.specs.Held.{hold_token}
-use Rattle.step.specs.Answers.{StepRows, hold_step, rows_of}
+use Rattle.step.specs.Answers.{StepRows, hold_step, step_lent}
 use Rattle.step.specs.declared.StepLines.{StepLines}
 
 -- a step that was read: its event, and its net-tokens as they are held
-pub record ReadTokens (lines : StepLines) (taken given : List NetToken) (o : Outcome Step) (next : ℕ) : Type 0 where
+pub record ReadTokens (lines : StepLines) (o : Outcome Step) (next : ℕ) : Type 0 where
   pub step : Step
   pub is : o ≡ got step next
   pub event-is : lines.event ≡ step.event
-  pub take-is : lines.take ≡ length step.taken
-  pub give_is : lines.give ≡ length step.given
-  pub taken_are : taken ≡ map hold_token step.taken
-  pub given_are : given ≡ map hold_token step.given
+  pub taken_are : lines.taken.now ≡ map hold_token step.taken
+  pub given_are : lines.given.now ≡ map hold_token step.given
 
-pub lines-got : (lines : StepLines) (taken given : List NetToken) (o : Outcome Step) (old new : Reader)
-    → Reads (kept hold_step o) old new (Ok (record { event = lines.event; taken = rows_of lines.take taken; given = rows_of lines.give given }))
-    → ReadTokens lines (take lines.take taken) (take lines.give given) o new.at
-lines-got lines taken given o old new k =
+pub lines-got : (lines : StepLines) (o : Outcome Step) (old new : Reader) → Reads (kept hold_step o) old new (step_lent (Ok lines)) → ReadTokens lines o new.at
+lines-got lines o old new k =
     let q = read_of hold_step o _ k in
     record {
       step = q.value;
       is = q.is;
       event-is = ap (λ (r : StepRows). r.event) q.held;
-      take-is = ap (λ (r : StepRows). r.taken.number) q.held;
-      give_is = ap (λ (r : StepRows). r.given.number) q.held;
-      taken_are = ap (λ (r : StepRows). r.taken.tokens) q.held;
-      given_are = ap (λ (r : StepRows). r.given.tokens) q.held;
+      taken_are = ap (λ (r : StepRows). r.taken) q.held;
+      given_are = ap (λ (r : StepRows). r.given) q.held;
     }

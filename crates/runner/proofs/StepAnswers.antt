@@ -83,11 +83,12 @@ module _ (m : Model) (k : Marking) (s : Text) where
   step-refused room e f = sym (held_reads room ∙ rw f)
 
   -- its lines are read, and it is judged
-  pub step-ruled : (room : ℕ) → SizedModel m → held_model m ≡ true → Stands (sizes_for m) k → (next : ℕ) (lines : StepLines) (taken given : List NetToken)
-      → ReadTokens lines taken given reading next → (q : Rule) → q ≡ hold_rule (model_of m) lines.event
-      → ruled next k taken given (verdict_of (length taken) (first (causes_in room q taken given (tokens_in k)))) ≡ held_step room m k s
+  pub step-ruled : (room : ℕ) → SizedModel m → held_model m ≡ true → Stands (sizes_for m) k → (next : ℕ) (lines : StepLines)
+      → ReadTokens lines reading next → (q : Rule) → q ≡ hold_rule (model_of m) lines.event
+      → let taken = lines.taken.now in let given = lines.given.now in
+      ruled next k taken given (verdict_of (length taken) (first (causes_in room q taken given (tokens_in k)))) ≡ held_step room m k s
   unfolding read_then
-  step-ruled room sized held st next lines taken given g q e =
+  step-ruled room sized held st next lines g q e =
       let t = g.step in
       let r = read_right (sizes_for m) m.listed s t next g.is in
       rw (e, g.event-is, g.taken_are, g.given_are, length-map t.taken hold_token)

@@ -87,15 +87,7 @@ impl<'a> Stepper<'a> {
             &mut self.given,
         );
         let lines = named(s, read)?;
-        let mut rule = Rule::empty();
-        rule_of(self.model, lines.event, &mut rule);
-        fire(
-            self.room,
-            &rule,
-            k,
-            &self.taken[..lines.take],
-            &self.given[..lines.give],
-            r.at,
-        )
+        let rule = rule_of(self.model, lines.event);
+        fire(self.room, &rule, k, lines.taken, lines.given, r.at)
     }
 }

@@ -28,7 +28,7 @@ use Rattle.runner.specs.Answers.{fires, stops, step_judged, read_then, tried}
 use Rattle.runner_trace.specs.Running.{ran, onward, run_from, headed, run_where_held, running}
 use Rattle.std.specs.Prelude.{Err}
 use Rattle.runner.specs.declared.StepRefusal.TheVariants.{Turned}
-use Rattle.step.specs.declared.Cause.TheVariants.{Short}
+use Rattle.step.specs.declared.Refusal.TheVariants.{Short}
 
 abbrev along : Transition
 along = record { pre = 1 ∷ 0 ∷ []; post = 0 ∷ 1 ∷ [] }
@@ -51,7 +51,7 @@ start = canonical (token 0 (1 ∷ 0 ∷ []) ∷ token 0 (0 ∷ 0 ∷ []) ∷ [])
 pub step-cases :
     (tried room_limit listing (sizes_of listing) start (bytes "fire=1\ntake=1\ntoken=1:1,0\ngive=1\ntoken=2:0,1\n")
     ≡ fires 45 (token 0 (0 ∷ 0 ∷ []) ∷ token 1 (0 ∷ 1 ∷ []) ∷ []))
-    × (tried room_limit listing (sizes_of listing) start (bytes "fire=1\ntake=1\ntoken=1:0,0\ngive=1\ntoken=2:0,0\n") ≡ stops (Turned (record { cause = Short; beside = 1 })))
+    × (tried room_limit listing (sizes_of listing) start (bytes "fire=1\ntake=1\ntoken=1:0,0\ngive=1\ntoken=2:0,0\n") ≡ stops (Turned (Short 1)))
 unfolding tried read_then step_judged read_taking read_step read_block read_net_token read_token token_at counts_at read_number behind lines.judged many need then list_end items item prepended
     ended stop_of number number_of digits starts refusal causes first unless at outer_taken outer_given inner_taken inner_given outer inner outer_of inner_of
 step-cases = (refl, refl)
@@ -60,7 +60,7 @@ step-cases = (refl, refl)
 pub run-case :
     running (hold_model listing) (hold_marking start)
     (bytes "run=1\nfire=1\ntake=1\ntoken=1:1,0\ngive=1\ntoken=2:0,1\nfire=1\ntake=1\ntoken=1:0,0\ngive=1\ntoken=2:0,0\n")
-    ≡ ran 1 51 (Err (Turned (record { cause = Short; beside = 1 }))) (hold_marking (token 0 (0 ∷ 0 ∷ []) ∷ token 1 (0 ∷ 1 ∷ []) ∷ []))
+    ≡ ran 1 51 (Err (Turned (Short 1))) (hold_marking (token 0 (0 ∷ 0 ∷ []) ∷ token 1 (0 ∷ 1 ∷ []) ∷ []))
 unfolding running run_where_held headed run_from onward held_in held_model held_types held_moves held_nets held_net held_events held_event empty_event held_act right_act empty_past monotonous
     touches takes_part held_tokens held_token hold_model hold_net hold_nets hold_event hold_events tabled fill padded hold_marking model_of net_of event_of tokens_of sizes_in
     tried read_then step_judged read_taking read_step read_block read_net_token read_token token_at counts_at read_head read_number behind lines.judged many need then list_end items item

@@ -5,7 +5,7 @@ use mathlib.Core.List.{List, [], ◌∷◌, append-nil}
 use native.Mathlib.Omega.{arith}
 use native.Mathlib.Nat.{mul-le-mul}
 use native.Mathlib.Numerals.{add-one}
-use lib.ListN.{length, set}
+use lib.ListN.{length, set, replicate}
 use Rattle.eos.specs.Vector.{◌⊕◌, times}
 use Rattle.eos.proofs.VectorLaws.{get_d-⊕}
 use Rattle.eos.proofs.VectorSums.{length-times, nth-times}
@@ -14,8 +14,7 @@ use Rattle.text.specs.Repeat.{fill}
 use Rattle.text.specs.Answers.{padded}
 use Rattle.text.proofs.PaddedLaws.{padded-is}
 use lib.Seq.{ext_get_or}
-use Rattle.model.specs.Held.{put_at, listed}
-use Rattle.step.specs.Rule.{no_rows, net_rows}
+use Rattle.model.specs.Held.{no_row, put_at, tabled, row, listed}
 use Rattle.step.specs.RuleParts.{sum_rows}
 
 -- of two vectors of the same length
@@ -73,9 +72,9 @@ whole_row v e =
     padded-is v (omega arith) ∙ rw z (append-nil v)
 
 -- the rows of the nets from n on are laid
-pub nets_begin : (l rows : List (List ℕ)) → rows ≡ no_rows → fill (put_at padded) 0 l rows ≡ net_rows l
-unfolding net_rows
-nets_begin l rows e = ap (fill (put_at padded) 0 l) e
+pub nets_begin : (l : List (List ℕ)) → fill (put_at padded) 0 l (replicate 8 no_row) ≡ tabled row 8 l
+unfolding tabled
+nets_begin l = refl
 
 module _ (f : ℕ → List ℕ) where
   pub nets_next : (n nets : ℕ) (rows : List (List ℕ)) (row : List ℕ) → n < nets → length (f n) ≡ 32 → row ≡ f n

@@ -1,17 +1,22 @@
--- Laws of the loop that compares what is made of a net with what it has after a step.
-use Prim.Native.Nat.{ℕ, suc, ◌+◌, ◌-◌, ◌≤◌, ◌<◌}
-use mathlib.Core.Path.{◌≡◌, sym, ◌∙◌}
-use mathlib.Core.Bool.{Bool, ◌&&◌, and-true, and_assoc}
+-- Laws of the first net that fails: how what is made of it is compared with what it has after a step, and how it is found.
+use Prim.Native.Nat.{ℕ, zero, suc, ◌+◌, ◌-◌, ◌≤◌, ◌<◌}
+use mathlib.Core.Path.{◌≡◌, refl, sym, ◌∙◌}
+use mathlib.Core.Bool.{Bool, true, false, not, cond, ◌&&◌, and-true, and_assoc}
+use mathlib.Core.Option.{Option, some}
 use mathlib.Core.List.{List}
 use native.Mathlib.Omega.{arith}
 use native.Mathlib.Numerals.{add-one}
 use lib.Dec.{eqb}
 use lib.ListN.{length, drop, drop_of_length-le}
 use lib.Seq.{drop-cons}
+use Rattle.std.specs.Prelude.{Some}
+use Rattle.std.specs.List.{find, range_with_len}
+use Rattle.eos.specs.Causes.{failing}
 use Rattle.eos.specs.Vector.{◌⊕◌, ◌⊖◌, eq_v}
 use Rattle.eos.proofs.VectorLaws.{get_d-⊕}
 use Rattle.eos.proofs.VectorSums.{long-left}
 use Rattle.model.specs.Rules.{nth}
+use Rattle.model.specs.Held.{told}
 use Rattle.step.proofs.VectorArrays.{length-less, nth-less}
 
 -- ---- vectors compared number by number
@@ -42,3 +47,16 @@ module _ (made held pre post : List ℕ) (o : length made ≡ 32) (p : length he
 
   pub even_end : 32 ≤ k → t && eq_v (drop k made) (drop k moved) ≡ t
   even_end c = eq_end made moved k t (omega arith) (omega (arith, moved_long))
+
+-- ---- the first of a range at which a test fails, as it is found
+pub found : (n i : ℕ) (f : ℕ → Bool) → find (λ k. not (f k)) (range_with_len i n) ≡ told (failing n i f)
+found zero i f = refl
+found (suc n) i f = go (f i) (rw (add-one i) (found n (suc i) f))
+  where
+    rest : Option ℕ
+    rest = failing n (suc i) f
+
+    go : (b : Bool) → find (λ k. not (f k)) (range_with_len (i + 1) n) ≡ told rest
+        → cond (not b) (Some i) (find (λ k. not (f k)) (range_with_len (i + 1) n)) ≡ told (cond b rest (some i))
+    go true e = e
+    go false e = refl

@@ -5,7 +5,7 @@ use mathlib.Core.List.{List, []}
 use native.Mathlib.Omega.{arith}
 use borrow.Author.Tests.{eq-eqb, ne_eqb, eqb-true, eqb-false}
 use lib.Dec.{eqb}
-use lib.ListN.{length, get_or, drop, set, length-set, length-replicate, get_or-replicate, get_or-eq_default}
+use lib.ListN.{length, get_or, drop, set, length-set, replicate, length-replicate, get_or-replicate, get_or-eq_default}
 use lib.Seq.{get_or-set_same, get_or-set_other}
 use Rattle.text.proofs.Basics.{by_test}
 use Rattle.eos.specs.Vector.{◌⊕◌, zeros}
@@ -14,8 +14,7 @@ use Rattle.eos.proofs.VectorSums.{length-zeros, long-left, nth_zero}
 use Rattle.marking.specs.declared.NetToken.{NetToken}
 use Rattle.model.specs.Rules.{nth}
 use Rattle.model.proofs.SlotLaws.{by_index}
-use Rattle.model.specs.Held.{no_row}
-use Rattle.step.specs.Rule.{no_rows, row_of}
+use Rattle.model.specs.Held.{no_row, row_at}
 use Rattle.step.specs.Verdict.{inside_in, inner_tokens}
 use Rattle.step.specs.VerdictParts.{Rowed, Added, Inner}
 use Rattle.step.proofs.VectorArrays.{sum_nil}
@@ -38,20 +37,20 @@ module _ (types : List ℕ) (t : NetToken) (d : ℕ) (e : get_or types (t.place 
     pub added_none : d ≡ 0 → Added types t before before
     added_none z = record {
       rowed = rowed;
-      rows = λ n h. rw (inside_other n (λ q. omega arith)) (sym (sum_nil (row_of before n)));
+      rows = λ n h. rw (inside_other n (λ q. omega arith)) (sym (sum_nil (row_at before n)));
       small = λ n k. omega arith;
     }
 
     -- any other its counts to its net
     pub added_inside : 1 ≤ d → d ≤ 8 → length t.counts ≡ 32 → ((i : ℕ) → nth t.counts i ≤ 65535)
-        → (after : List (List ℕ)) → after ≡ set before (d - 1) (row_of before (d - 1) ⊕ t.counts) → Added types t before after
+        → (after : List (List ℕ)) → after ≡ set before (d - 1) (row_at before (d - 1) ⊕ t.counts) → Added types t before after
     added_inside pos few wide small after is =
         let m = d - 1 in
-        let row = row_of before m ⊕ t.counts in
-        let old : length (row_of before m) ≡ 32 = rowed.long m (omega arith) in
-        let long : length row ≡ 32 = long-left (row_of before m) t.counts (omega arith) ∙ old in
-        let own : row_of after m ≡ row = rw is (get_or-set_same before m row [] (omega (arith, rowed.many))) in
-        let other : (n : ℕ) → (n ≡ m → ⊥) → row_of after n ≡ row_of before n = λ n q. rw is (get_or-set_other before m n row [] q) in
+        let row = row_at before m ⊕ t.counts in
+        let old : length (row_at before m) ≡ 32 = rowed.long m (omega arith) in
+        let long : length row ≡ 32 = long-left (row_at before m) t.counts (omega arith) ∙ old in
+        let own : row_at after m ≡ row = rw is (get_or-set_same before m row [] (omega (arith, rowed.many))) in
+        let other : (n : ℕ) → (n ≡ m → ⊥) → row_at after n ≡ row_at before n = λ n q. rw is (get_or-set_other before m n row [] q) in
         record {
           rowed = record {
             many = ap length is ∙ length-set before m row ∙ rowed.many;
@@ -60,22 +59,26 @@ module _ (types : List ℕ) (t : NetToken) (d : ℕ) (e : get_or types (t.place 
           rows = λ n h.
               by_same n m
               (λ z. rw (z, own, inside_own m (omega arith)))
-              (λ q. rw (other n q, inside_other n (λ p. q (omega arith))) (sym (sum_nil (row_of before n))));
+              (λ q. rw (other n q, inside_other n (λ p. q (omega arith))) (sym (sum_nil (row_at before n))));
           small = λ n k.
               by_same n m
-              (λ z. rw (z, own) (omega (arith, get_d-⊕ (row_of before m) t.counts k, small k)))
+              (λ z. rw (z, own) (omega (arith, get_d-⊕ (row_at before m) t.counts k, small k)))
               (λ q. rw (other n q) (omega arith));
         }
 
 -- ---- all net-tokens
 
-blank : (m : ℕ) → m < 8 → row_of no_rows m ≡ zeros 32
+-- no numbers in any row
+abbrev no_rows : List (List ℕ)
+no_rows = replicate 8 no_row
+
+blank : (m : ℕ) → m < 8 → row_at no_rows m ≡ zeros 32
 blank m h = get_or-replicate 8 m no_row [] h
 
 pub rowed_none : Rowed no_rows
 rowed_none = record { many = length-replicate 8 no_row; long = λ n h. rw (blank n h) (length-zeros 32) }
 
-pub none-small : (n k : ℕ) → nth (row_of no_rows n) k ≤ 0
+pub none-small : (n k : ℕ) → nth (row_at no_rows n) k ≤ 0
 none-small n k =
     by_index 8 n
     (λ h. rw (blank n h) (omega (arith, nth_zero 32 k)))
@@ -84,7 +87,7 @@ none-small n k =
 module _ (types : List ℕ) (ts : List NetToken) where
   -- the sums of the first i net-tokens, and those of the others
   abbrev pub Partly : ℕ → List (List ℕ) → Type 0
-  Partly i s = (m : ℕ) → m < 8 → inner_tokens types m ts ≡ row_of s m ⊕ inner_tokens types m (drop i ts)
+  Partly i s = (m : ℕ) → m < 8 → inner_tokens types m ts ≡ row_at s m ⊕ inner_tokens types m (drop i ts)
 
   pub inner_start : Partly 0 no_rows
   inner_start m h =
@@ -93,13 +96,13 @@ module _ (types : List ℕ) (ts : List NetToken) where
   pub inner_turn : (i : ℕ) (s after : List (List ℕ)) (d : NetToken) → i < length ts → Partly i s → Added types (get_or ts i d) s after → Partly (i + 1) after
   inner_turn i s after d h p a m k =
       p m k
-      ∙ rw (a.rows m k) (sum_turn (inside_in types m) (inner_tokens types m) (inner_none types m) (inner_more types m) ts i (row_of s m) d h)
+      ∙ rw (a.rows m k) (sum_turn (inside_in types m) (inner_tokens types m) (inner_none types m) (inner_more types m) ts i (row_at s m) d h)
 
-  pub inner_end : (i : ℕ) (s : List (List ℕ)) → i ≤ 256 → length ts ≤ i → Rowed s → ((n k : ℕ) → nth (row_of s n) k ≤ i * 65535) → Partly i s → Inner types ts s
+  pub inner_end : (i : ℕ) (s : List (List ℕ)) → i ≤ 256 → length ts ≤ i → Rowed s → ((n k : ℕ) → nth (row_at s n) k ≤ i * 65535) → Partly i s → Inner types ts s
   inner_end i s few over rowed small p = record {
     rowed = rowed;
     rows = λ m h.
         sym (p m h
-        ∙ sum_end (inside_in types m) (inner_tokens types m) (inner_none types m) (inner_more types m) ts i (row_of s m) over (rowed.long m h));
+        ∙ sum_end (inside_in types m) (inner_tokens types m) (inner_none types m) (inner_more types m) ts i (row_at s m) over (rowed.long m h));
     small = λ n k. omega (arith, small n k);
   }

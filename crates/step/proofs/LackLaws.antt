@@ -5,11 +5,11 @@ use mathlib.Core.Bool.{Bool, true, false, cond}
 use mathlib.Core.List.{List, [], ◌∷◌}
 use mathlib.Core.Option.{Option, none, some}
 use native.Mathlib.Omega.{arith}
-use native.Mathlib.Numerals.{add-one}
 use lib.Dec.{leb, ltb, leb→le}
 use lib.ListN.{length, get_or, take, drop, drop_of_length-le}
 use lib.Seq.{drop-cons}
 use Rattle.std.specs.List.{filter}
+use Rattle.eos.specs.Causes.{failing}
 use Rattle.eos.specs.Multiset.{bit, count, Within}
 use Rattle.eos.proofs.Basics.{true_is, some_not}
 use Rattle.eos.proofs.MultisetLaws.{bit_self, length-less}
@@ -29,7 +29,7 @@ count_filtered t (u ∷ l) = go (like t u) (count_filtered t l)
     go false e = omega (arith, e)
 
 -- ---- the net-tokens before i, the last first
-abbrev pub before : ℕ → List NetToken → List NetToken → List NetToken
+abbrev before : ℕ → List NetToken → List NetToken → List NetToken
 before i seen [] = seen
 before zero seen (t ∷ l) = seen
 before (suc i) seen (t ∷ l) = before i (t ∷ seen) l
@@ -46,10 +46,10 @@ before-count x (suc i) [] seen = omega arith
 before-count x zero (t ∷ l) seen = omega arith
 before-count x (suc i) (t ∷ l) seen = omega (arith, before-count x i l (t ∷ seen))
 
--- ---- the loop over the net-tokens taken
+-- ---- the net-tokens taken, one after the other
 
 -- what is left to be asked at net-token i
-abbrev pub rest : List NetToken → List NetToken → ℕ → Option ℕ
+abbrev rest : List NetToken → List NetToken → ℕ → Option ℕ
 rest held ts i = lacking_tokens held i (before i [] ts) (drop i ts)
 
 -- net-token t, which stands k + 1 times among those seen with it
@@ -57,36 +57,35 @@ one_lacking : (held : List NetToken) (i k : ℕ) (t : NetToken) (seen l : List N
     → lacking_tokens held i seen (t ∷ l) ≡ cond (ltb k (count like t held)) (lacking_tokens held (suc i) (t ∷ seen) l) (some i)
 one_lacking held i k t seen l e = ap (λ (c : ℕ). cond (leb c (count like t held)) (lacking_tokens held (suc i) (t ∷ seen) l) (some i)) e
 
-module _ (held ts : List NetToken) (i : ℕ) where
-  module _ (d : NetToken) (h : i < length ts) where
-    count_so_far : count like (get_or ts i d) (get_or ts i d ∷ before i [] ts) ≡ suc (count like (get_or ts i d) (take i ts))
-    count_so_far =
-        let t = get_or ts i d in
-        omega (arith, bit_self like held_alike t, before-count t i ts [])
+module _ (held ts : List NetToken) (d : NetToken) where
+  -- the marking has net-token i as often as it stands up to there
+  abbrev pub has_token : ℕ → Bool
+  has_token i = ltb (count like (get_or ts i d) (take i ts)) (count like (get_or ts i d) held)
 
-    -- the marking has net-token i as often as it stands up to there
-    abbrev pub has_token : Bool
-    has_token = ltb (count like (get_or ts i d) (take i ts)) (count like (get_or ts i d) held)
+  count_so_far : (i : ℕ) → count like (get_or ts i d) (get_or ts i d ∷ before i [] ts) ≡ suc (count like (get_or ts i d) (take i ts))
+  count_so_far i =
+      let t = get_or ts i d in
+      omega (arith, bit_self like held_alike t, before-count t i ts [])
 
-    rest_turn : (b : Bool) → b ≡ has_token → rest held ts i ≡ cond b (rest held ts (i + 1)) (some i)
-    rest_turn b e =
-        let t : NetToken = get_or ts i d in
-        let a : drop i ts ≡ t ∷ drop (suc i) ts = drop-cons ts i d h in
-        let f : before (suc i) [] ts ≡ t ∷ before i [] ts = before_next d ts i [] h in
-        rw (add-one i, f, a, e) (one_lacking held i _ t (before i [] ts) (drop (suc i) ts) count_so_far)
+  rest_turn : (i : ℕ) → i < length ts → rest held ts i ≡ cond (has_token i) (rest held ts (suc i)) (some i)
+  rest_turn i h =
+      let t : NetToken = get_or ts i d in
+      let a : drop i ts ≡ t ∷ drop (suc i) ts = drop-cons ts i d h in
+      let f : before (suc i) [] ts ≡ t ∷ before i [] ts = before_next d ts i [] h in
+      rw (f, a) (one_lacking held i _ t (before i [] ts) (drop (suc i) ts) (count_so_far i))
 
-    pub rest_on : {b : Bool} → b ≡ has_token → b ≡ true → rest held ts i ≡ rest held ts (i + 1)
-    rest_on {b} e f = rest_turn b e ∙ rw f
+  rest_failing : (n i : ℕ) → i + n ≡ length ts → rest held ts i ≡ failing n i has_token
+  rest_failing zero i h = rw (drop_of_length-le ts {i = i} (omega (arith, h)))
+  rest_failing (suc n) i h =
+      rest_turn i (omega (arith, h)) ∙ ap (λ (r : Option ℕ). cond (has_token i) r (some i)) (rest_failing n (suc i) (omega (arith, h)))
 
-    pub rest_here : {b : Bool} → b ≡ has_token → b ≡ false → rest held ts i ≡ some i
-    rest_here {b} e f = rest_turn b e ∙ rw f
-
-  pub rest_end : length ts ≤ i → rest held ts i ≡ none
-  rest_end h = rw (drop_of_length-le ts {i = i} h)
-
-pub rest-start : (held ts : List NetToken) → lacking_tokens held 0 [] ts ≡ rest held ts 0
+rest-start : (held ts : List NetToken) → lacking_tokens held 0 [] ts ≡ rest held ts 0
 rest-start held [] = refl
 rest-start held (t ∷ ts) = refl
+
+-- what is lacking is the first that the marking has too seldom
+pub lacking_failing : (held ts : List NetToken) (d : NetToken) → lacking_tokens held 0 [] ts ≡ failing (length ts) 0 (has_token held ts d)
+lacking_failing held ts d = rest-start held ts ∙ rest_failing held ts d (length ts) 0 (omega arith)
 
 -- what is lacking is one of those asked
 pub lacking_below : (held : List NetToken) (n : ℕ) (seen l : List NetToken) (i : ℕ) → lacking_tokens held n seen l ≡ some i → i < n + length l

@@ -1,4 +1,3 @@
-pub mod NetRows
 pub mod ArcSums
 pub mod RuleHeld
 pub mod RuleMade

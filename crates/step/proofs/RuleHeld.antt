@@ -20,23 +20,22 @@ use Rattle.eos.proofs.VectorLaws.{get_d-⊕}
 use Rattle.eos.proofs.VectorSums.{length-times, length-unit, length-zeros, length-one, long-left, nth-times, nth_zero}
 use Rattle.model.specs.Rules.{nth, right_act}
 use Rattle.model.specs.Acts.{act_of, held_act, outer_in}
-use Rattle.model.specs.Held.{row_in, listed, no_net, no_event, sides_in, net_of, event_of, sync_in, model_of, row_at}
+use Rattle.model.specs.Held.{tabled, row, row_in, listed, no_net, no_event, sides_in, net_of, event_of, sync_in, model_of, row_at}
 use Rattle.model.specs.Test.{held_net, empty_past, used_of, frame_in}
 use Rattle.model.specs.declared.ObjectNet.{ObjectNet}
 use Rattle.model.specs.declared.Event.{Event}
 use Rattle.model.specs.declared.Model.{Model}
 use Rattle.model.proofs.PaddedRows.{nth-padded, padded-take}
 use Rattle.model.proofs.SlotLaws.{by_index, length-listed, listed_at, listed_past}
-use Rattle.model.proofs.TableLaws.{nth-row}
+use Rattle.model.proofs.TableLaws.{nth-row, length-tabled, tabled-row}
 use Rattle.model.proofs.HeldTests.{Held, moves_are, most-nets, most-places, most-moves}
 use Rattle.model.proofs.HeldTestLoops.{few-steps}
 use Rattle.model.proofs.HeldActs.{act-is, act_range}
 use Rattle.model.proofs.ShapeLaws.{nets-long, net-is, event-is}
 use Rattle.model.proofs.UsedLaws.{types-empty, count-is, net_used, net-held, event_used}
-use Rattle.step.specs.Rule.{net_rows, hold_sides, hold_rule}
+use Rattle.step.specs.Rule.{hold_sides, hold_rule}
 use Rattle.step.specs.declared.Sides.{Sides}
 use Rattle.step.specs.RuleParts.{sum_rows, net_sum}
-use Rattle.step.proofs.NetRows.{rows_same}
 
 -- ---- sums, number by number
 
@@ -108,6 +107,13 @@ length-rows count table t (suc n) v e =
     let k : length (times (count t) (row_in 32 table t)) ≤ length v = omega (arith, length-times (count t) (row_in 32 table t), row-few 32 table t) in
     length-rows count table (suc t) n (v ⊕ times (count t) (row_in 32 table t)) (long-left v (times (count t) (row_in 32 table t)) k ∙ e)
 
+-- nets that have the same have the same rows
+rows_same : (l k : List (List ℕ)) → length l ≤ 8 → length k ≤ 8 → ((n : ℕ) → n < 8 → padded (get_or l n []) ≡ padded (get_or k n [])) → tabled row 8 l ≡ tabled row 8 k
+rows_same l k p q h =
+    ext_get_or [] (tabled row 8 l) (tabled row 8 k) (length-tabled row 8 l ∙ sym (length-tabled row 8 k)) λ n b.
+    let few : n < 8 = omega (arith, length-tabled row 8 l) in
+    tabled-row row [] refl 8 l p n few ∙ h n few ∙ sym (tabled-row row [] refl 8 k q n few)
+
 -- ---- one side of a held model's transitions, as the code finds it
 pub record Side (side : eos.Transition → List ℕ) (pick : ObjectNet → List (List ℕ)) : Type 0 where
   pub row : (o : ObjectNet) (t : ℕ) → side (sides_in o.places o.pre o.post t) ≡ row_in o.places (pick o) t
@@ -177,8 +183,8 @@ module _ (m : Model) (held : Held m) (e : ℕ) (known : e < m.listed) where
 
   -- the rows of the code's sums are those of the theory's
   pub inners_are : {side : eos.Transition → List ℕ} {pick : ObjectNet → List (List ℕ)} → Side side pick
-      → net_rows (listed (net_sum pick m.objects event.sync) 0 m.nets)
-      ≡ net_rows (listed (inner_of side (model_of m) (eos.event (model_of m) e)) 0 (length (model_of m).nets))
+      → tabled row 8 (listed (net_sum pick m.objects event.sync) 0 m.nets)
+      ≡ tabled row 8 (listed (inner_of side (model_of m) (eos.event (model_of m) e)) 0 (length (model_of m).nets))
   inners_are {side} {pick} s =
       let f = net_sum pick m.objects event.sync in
       let g = inner_of side (model_of m) (eos.event (model_of m) e) in
@@ -255,7 +261,7 @@ module _ (m : Model) (held : Held m) (e : ℕ) (known : e < m.listed) where
   abbrev pub sides_with : (ObjectNet → List (List ℕ)) → List (List ℕ) → Sides
   sides_with pick table = record {
     outer = outer_in event.kind event.index (row_at table);
-    inner = net_rows (listed (net_sum pick m.objects event.sync) 0 m.nets);
+    inner = tabled row 8 (listed (net_sum pick m.objects event.sync) 0 m.nets);
   }
 
   pub rule_is : length m.types ≡ 32 → ((i : ℕ) → i < 32 → length (row_at m.pre i) ≡ 32) → ((i : ℕ) → i < 32 → length (row_at m.post i) ≡ 32)

@@ -1,6 +1,6 @@
 -- Laws of an event's sides in a right model: how long they are, and where they are held.
 use Prim.Native.Nat.{ℕ, ◌≤◌, ◌<◌}
-use mathlib.Core.Path.{◌≡◌, ap, ◌∙◌}
+use mathlib.Core.Path.{◌≡◌, refl, ap, ◌∙◌}
 use mathlib.Core.Bool.{true}
 use mathlib.Core.List.{List, [], ◌∷◌}
 use native.Mathlib.Omega.{arith}
@@ -16,11 +16,11 @@ use Rattle.text.specs.Lines.{every}
 use Rattle.text.specs.Answers.{padded}
 use Rattle.text.proofs.TestLaws.{within-is}
 use Rattle.model.specs.Rules.{right_sides, right_act, frame_of, right_model}
-use Rattle.model.specs.Held.{listed}
+use Rattle.model.specs.Held.{row, listed, row_at}
 use Rattle.model.proofs.RuleLaws.{sides_long, net-is, right_is, few-nets, right_move_lem, right_net_lem, right_event_lem}
 use Rattle.model.proofs.SlotLaws.{length-listed, listed_at}
-use Rattle.step.specs.Rule.{row_of, hold_sides}
-use Rattle.step.proofs.NetRows.{row_held}
+use Rattle.model.proofs.TableLaws.{tabled-row}
+use Rattle.step.specs.Rule.{hold_sides}
 
 -- a side of a transition is as long as its net has places
 abbrev pub Side : (Transition → List ℕ) → Type 0
@@ -60,12 +60,12 @@ module _ (side : Transition → List ℕ) (s : Side side) where
         long-left (zeros (net m n).size) (summed side (get_or ev.sync n []) (net m n).transitions) (omega (arith, length-zeros (net m n).size)) ∙ length-zeros (net m n).size
 
     -- the inner side of net n stands in row n
-    pub side_row : (ev : Event) (n : ℕ) → n < length m.nets → row_of (hold_sides side m ev).inner n ≡ padded (inner_of side m ev n)
+    pub side_row : (ev : Event) (n : ℕ) → n < length m.nets → row_at (hold_sides side m ev).inner n ≡ padded (inner_of side m ev n)
     unfolding hold_sides
     side_row ev n h =
         let few = few-nets m (right_is m right) in
         let l = listed (inner_of side m ev) 0 (length m.nets) in
-        row_held l (omega (arith, length-listed (inner_of side m ev) 0 (length m.nets))) n (omega arith)
+        tabled-row row [] refl 8 l (omega (arith, length-listed (inner_of side m ev) 0 (length m.nets))) n (omega arith)
         ∙ ap padded (listed_at (inner_of side m ev) (length m.nets) n [] h)
 
 pub net-small : (m : Model) → right_model m ≡ true → (n : ℕ) → n < length m.nets → (net m n).size ≤ 32

@@ -1,6 +1,6 @@
 -- What the verdict is asked of holds of every right model's rule, and of right net-tokens as they are held.
 use Prim.Native.Nat.{ℕ, suc, ◌-◌, ◌*◌, ◌≤◌, ◌<◌}
-use mathlib.Core.Path.{◌≡◌, ap, ◌∙◌}
+use mathlib.Core.Path.{◌≡◌, refl, ap, ◌∙◌}
 use mathlib.Core.Bool.{true}
 use mathlib.Core.List.{List, [], ◌∷◌, map}
 use native.Mathlib.Omega.{arith}
@@ -21,17 +21,17 @@ use Rattle.text.specs.Answers.{padded}
 use Rattle.text.proofs.PaddedLaws.{at-padded}
 use Rattle.text.proofs.TestLaws.{within-is}
 use Rattle.model.specs.Rules.{nth, byte, right_sides, right_model, frame_of}
-use Rattle.model.specs.Held.{listed}
+use Rattle.model.specs.Held.{tabled, row, listed}
 use Rattle.model.proofs.PaddedRows.{small_at, nth-zeros, padded_none}
 use Rattle.model.proofs.RuleLaws.{list_is, sides_are, net-is, right_is, few-nets, few-places, right_type, right_net_lem, right_event_lem, sync_at}
 use Rattle.model.proofs.SlotLaws.{by_index, length-listed, listed_at, listed_past}
+use Rattle.model.proofs.TableLaws.{length-tabled, tabled-row}
 use Rattle.marking.specs.Tokens.{OnPlaces}
 use Rattle.marking.specs.Held.{sizes_of, hold_token}
 use Rattle.marking.specs.Reading.{Limits, right_net_token}
 use Rattle.marking.proofs.HoldMarking as hold
-use Rattle.step.specs.Rule.{net_rows, hold_sides, hold_rule}
+use Rattle.step.specs.Rule.{hold_sides, hold_rule}
 use Rattle.step.specs.VerdictParts.{SmallRows, Sound, Placed}
-use Rattle.step.proofs.NetRows.{length_rows, row_held}
 use Rattle.step.proofs.SidesHeld.{inner_side_long, net-small, Side, pre_side, post_side}
 use Rattle.step.proofs.ProjectionLaws.{fit}
 
@@ -91,8 +91,8 @@ module _ (side : Transition → List ℕ) (s : Side side) (b : Bytes side) where
         let l = listed (inner_of side m (event m e)) 0 (length m.nets) in
         let few = few-nets m (right_is m right) in
         by_index 8 n
-        (λ h. rw (row_held l (omega (arith, length-listed (inner_of side m (event m e)) 0 (length m.nets))) n h) (omega (arith, padded-small n k)))
-        (λ h. rw (get_or-eq_default (net_rows l) [] {n = n} (omega (arith, length_rows l))) (omega arith))
+        (λ h. rw (tabled-row row [] refl 8 l (omega (arith, length-listed (inner_of side m (event m e)) 0 (length m.nets))) n h) (omega (arith, padded-small n k)))
+        (λ h. rw (get_or-eq_default (tabled row 8 l) [] {n = n} (omega (arith, length-tabled row 8 l))) (omega arith))
 
 -- ---- what is required of a rule
 pub sound_rule : (m : Model) → right_model m ≡ true → (e : ℕ) → e < length m.events → Sound (hold_rule m e)

@@ -1,6 +1,7 @@
 -- The lines of a step read one after the other: its event, what it takes, and what it gives.
 use Prim.Native.Nat.{ℕ, ◌-◌, ◌≤◌}
 use mathlib.Core.Path.{◌≡◌, refl}
+use mathlib.Core.List.{List, map}
 use native.Mathlib.Omega.{arith}
 use Rattle.std.specs.Prelude.{Result}
 use Rattle.std.specs.declared.result.Result.TheVariants.{Ok, Err}
@@ -15,10 +16,11 @@ use Rattle.text_reader.specs.declared.Reader.{Reader}
 use Rattle.text_reader.proofs.ReadsLaws.{itself, plainly, read_of, first_refused, followed, passes}
 use Rattle.eos.specs.Model as eos
 use Rattle.eos.specs.Firing.{Step}
-use Rattle.marking.specs.Held.{Sizes}
+use Rattle.marking.specs.Held.{Sizes, hold_token}
 use Rattle.marking.specs.Reading.{Limits, read_block}
+use Rattle.marking.specs.declared.NetToken.{NetToken}
 use Rattle.step.specs.Reading.{Taking, read_taking, read_step}
-use Rattle.step.specs.Answers.{Rows, hold_rows, TakeRows, hold_taking, StepRows, hold_step}
+use Rattle.step.specs.Answers.{TakeRows, hold_taking, StepRows, hold_step}
 
 module _ (lim : Limits) (z : Sizes) (events : ℕ) (old : Reader) where
   -- ---- up to what is taken
@@ -53,14 +55,14 @@ module _ (lim : Limits) (z : Sizes) (events : ℕ) (old : Reader) where
     unfolding read_taking
     at_fire r k = followed itself hold_taking fire behind_fire event r (plainly first) (λ v is same. rw (← same) k)
 
-    pub take_refused : {new : Reader} (e : Fault) → Reads (kept hold_rows take_lines) a new (Err e) → Reads (kept hold_taking taking) old new (Err e)
-    take_refused e k = at_fire (Err e) (first_refused hold_rows hold_taking take_lines (λ _. make_taking event) e k)
+    pub take_refused : {new : Reader} (e : Fault) → Reads (kept (map hold_token) take_lines) a new (Err e) → Reads (kept hold_taking taking) old new (Err e)
+    take_refused e k = at_fire (Err e) (first_refused (map hold_token) hold_taking take_lines (λ _. make_taking event) e k)
 
-    pub taking_read : {new : Reader} (taken : Rows) → Reads (kept hold_rows take_lines) a new (Ok taken)
+    pub taking_read : {new : Reader} (taken : List NetToken) → Reads (kept (map hold_token) take_lines) a new (Ok taken)
         → Reads (kept hold_taking taking) old new (Ok (record { event = event - 1; taken = taken }))
     taking_read {new} taken k =
         at_fire _
-        (followed hold_rows hold_taking take_lines (λ _. make_taking event) taken _ k
+        (followed (map hold_token) hold_taking take_lines (λ _. make_taking event) taken _ k
         (λ ts is held. rw held (passes hold_taking (make_taking event ts new.at) (record { event = event - 1; taken = ts }) refl refl)))
 
   -- ---- a whole step
@@ -87,13 +89,13 @@ module _ (lim : Limits) (z : Sizes) (events : ℕ) (old : Reader) where
     unfolding read_step
     at_taking r next = followed hold_taking hold_step taking behind_taking t r first (λ v is held. next v held)
 
-    pub ungiven : {new : Reader} (e : Fault) → Reads (kept hold_rows give_lines) mid new (Err e) → Reads (kept hold_step whole) old new (Err e)
-    ungiven e k = at_taking (Err e) (λ v held. first_refused hold_rows hold_step give_lines (λ _. make_step v) e k)
+    pub ungiven : {new : Reader} (e : Fault) → Reads (kept (map hold_token) give_lines) mid new (Err e) → Reads (kept hold_step whole) old new (Err e)
+    ungiven e k = at_taking (Err e) (λ v held. first_refused (map hold_token) hold_step give_lines (λ _. make_step v) e k)
 
-    pub step_read : {new : Reader} (given : Rows) → Reads (kept hold_rows give_lines) mid new (Ok given)
+    pub step_read : {new : Reader} (given : List NetToken) → Reads (kept (map hold_token) give_lines) mid new (Ok given)
         → Reads (kept hold_step whole) old new (Ok (record { event = t.event; taken = t.taken; given = given }))
     step_read {new} given k =
         at_taking _
         (λ v held.
-        followed hold_rows hold_step give_lines (λ _. make_step v) given _ k
+        followed (map hold_token) hold_step give_lines (λ _. make_step v) given _ k
         (λ ts is held'. rw (held, held') (passes hold_step (make_step v ts new.at) (record { event = v.event; taken = v.taken; given = ts }) refl refl)))

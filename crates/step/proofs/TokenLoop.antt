@@ -1,6 +1,6 @@
 -- Net-tokens laid one behind the other into room for them are the first of it.
 use Prim.Native.Nat.{ℕ, suc, ◌≤◌}
-use mathlib.Core.Path.{◌≡◌, refl, sym, ap, ap₂, ◌∙◌}
+use mathlib.Core.Path.{◌≡◌, refl, sym, ap, ◌∙◌}
 use mathlib.Core.List.{List, [], ◌∷◌, map}
 use native.Mathlib.Omega.{arith}
 use native.Mathlib.Nat.{zero-add}
@@ -19,7 +19,6 @@ use Rattle.model_text.proofs.LineAnswers.{many-long}
 use Rattle.eos.specs.Model as eos
 use Rattle.marking.specs.declared.NetToken.{NetToken}
 use Rattle.marking.specs.Held.{hold_token}
-use Rattle.step.specs.Answers.{Rows, hold_rows, rows_of}
 
 abbrev pub lay : ℕ → NetToken → List NetToken → List NetToken
 lay i t room = set room i t
@@ -42,17 +41,6 @@ first_held start f n at old new room few k =
     ap (take n) (q.held ∙ laid_is 0 q.value start) ∙ ap (λ (i : ℕ). take i (sets start 0 (map hold_token q.value))) (sym m)
     ∙ first_laid (map hold_token q.value) start (omega (arith, m, few)) in
     rw same (passes (map hold_token) (many f n at) q.value q.is q.moved)
-
-abbrev rows_are : ℕ → List NetToken → Rows
-rows_are n ts = record { number = n; tokens = ts }
-
--- with their number
-pub counted_rows : (f : ℕ → Outcome eos.NetToken) (n at : ℕ) (old new : Reader) (room : List NetToken)
-    → Reads (kept (map hold_token) (many f n at)) old new (Ok (take n room)) → Reads (kept hold_rows (many f n at)) old new (Ok (rows_of n room))
-counted_rows f n at old new room k =
-    let q = read_of (map hold_token) (many f n at) (take n room) k in
-    let same : rows_of n room ≡ hold_rows q.value = ap₂ rows_are (sym (many-long f n at q.value new.at q.is)) q.held in
-    rw same (passes hold_rows (many f n at) q.value q.is q.moved)
 
 -- a refusal is one whatever is held
 pub still_refused : {A B C : Type 0} (f : A → B) (g : A → C) (o : Outcome A) (e : Fault) {old new : Reader} → Reads (kept f o) old new (Err e) → Reads (kept g o) old new (Err e)

@@ -12,12 +12,12 @@ use Rattle.std.specs.Result.{IsErrAnd}
 use Rattle.eos.specs.Vector.{le_v, eq_v}
 use Rattle.eos.specs.Causes.{Cause, taking, giving, short, unequal, missing, crowded, first, unless, at, failing}
 use Rattle.marking.specs.declared.NetToken.{NetToken}
-use Rattle.step.specs.Rule.{row_of}
+use Rattle.model.specs.Held.{row_at, told}
 use Rattle.step.specs.declared.Sides.{Sides}
 use Rattle.step.specs.declared.Rule.{Rule}
-use Rattle.step.specs.declared.Cause.TheVariants.{Places, Short, Unequal, Missing, Crowded}
+use Rattle.step.specs.declared.Refusal.TheVariants.{Places, Short, Unequal, Missing, Crowded}
 use Rattle.step.specs.declared.Refusal.{Refusal}
-use Rattle.step.specs.Verdict.{outer_tokens, inner_taken_in, inner_given_in, lacking_tokens, outer_causes, inner_causes, marking_causes, causes_in, verdict_of, told}
+use Rattle.step.specs.Verdict.{outer_tokens, inner_taken_in, inner_given_in, lacking_tokens, outer_causes, inner_causes, marking_causes, causes_in, verdict_of}
 use Rattle.step.specs.VerdictParts.{Inner, even_in}
 use Rattle.eos.proofs.FailingLaws.{failing_same}
 use Rattle.step.proofs.LackLaws.{lacking_fewer}
@@ -93,17 +93,17 @@ module _ (t : ℕ) (pre post : Sides) (taken given : List NetToken) where
   abbrev pub on_places : Verdict
   on_places = answer t (outer_causes pre post taken given)
 
-  pub stop_take : eq_v (outer_tokens taken) pre.outer ≡ false → on_places ≡ Err (record { cause = Places; beside = 2 })
+  pub stop_take : eq_v (outer_tokens taken) pre.outer ≡ false → on_places ≡ Err (Places 2)
   unfolding outer_causes verdict_of
   stop_take e = stop t taking _ (eq_v (outer_tokens taken) pre.outer) e
 
   module _ (a : eq_v (outer_tokens taken) pre.outer ≡ true) where
-    pub stop_give : eq_v (outer_tokens given) post.outer ≡ false → on_places ≡ Err (record { cause = Places; beside = t + 3 })
+    pub stop_give : eq_v (outer_tokens given) post.outer ≡ false → on_places ≡ Err (Places (t + 3))
     unfolding outer_causes verdict_of
     stop_give e =
         let k : 3 + t ≡ t + 3 = omega arith in
         skip t taking _ (eq_v (outer_tokens taken) pre.outer) a ∙ stop t giving [] (eq_v (outer_tokens given) post.outer) e
-        ∙ ap (λ (n : ℕ). Err (record { cause = Places; beside = n })) k
+        ∙ ap (λ (n : ℕ). Err (Places n)) k
 
     pub pass_places : eq_v (outer_tokens given) post.outer ≡ true → on_places ≡ Ok tt
     unfolding outer_causes
@@ -120,19 +120,19 @@ module _ (t : ℕ) (q : Rule) (taken given : List NetToken) where
   abbrev gives : Option ℕ
   gives = failing q.nets 0 (inner_given_in q taken given)
 
-  pub stop_short : (n : ℕ) → Some n ≡ told takes → on_nets ≡ Err (record { cause = Short; beside = n + 1 })
+  pub stop_short : (n : ℕ) → Some n ≡ told takes → on_nets ≡ Err (Short (n + 1))
   unfolding inner_causes verdict_of
   stop_short n e =
       let k : suc n ≡ n + 1 = omega arith in
-      stop_at t short _ takes n (told_some takes n e) ∙ ap (λ (i : ℕ). Err (record { cause = Short; beside = i })) k
+      stop_at t short _ takes n (told_some takes n e) ∙ ap (λ (i : ℕ). Err (Short i)) k
 
   module _ (a : None ≡ told takes) where
-    pub stop_unequal : (n : ℕ) → Some n ≡ told gives → on_nets ≡ Err (record { cause = Unequal; beside = n + 1 })
+    pub stop_unequal : (n : ℕ) → Some n ≡ told gives → on_nets ≡ Err (Unequal (n + 1))
     unfolding inner_causes verdict_of
     stop_unequal n e =
         let k : suc n ≡ n + 1 = omega arith in
         skip_at t short _ takes (told_none takes a) ∙ stop_at t unequal [] gives n (told_some gives n e)
-        ∙ ap (λ (i : ℕ). Err (record { cause = Unequal; beside = i })) k
+        ∙ ap (λ (i : ℕ). Err (Unequal i)) k
 
     pub pass_nets : None ≡ told gives → on_nets ≡ Ok tt
     unfolding inner_causes
@@ -140,7 +140,7 @@ module _ (t : ℕ) (q : Rule) (taken given : List NetToken) where
 
 -- over rows of the inner projections
 module _ (q : Rule) (taken : List NetToken) (held : List (List ℕ)) (few : q.nets ≤ 8) (h : Inner q.types taken held) where
-  pub taken_same : failing q.nets 0 (λ n. le_v (row_of q.pre.inner n) (row_of held n)) ≡ failing q.nets 0 (inner_taken_in q taken)
+  pub taken_same : failing q.nets 0 (λ n. le_v (row_at q.pre.inner n) (row_at held n)) ≡ failing q.nets 0 (inner_taken_in q taken)
   unfolding inner_taken_in
   taken_same = failing_same q.nets 0 _ (inner_taken_in q taken) (λ i k. rw (h.rows i (omega arith)))
 
@@ -159,19 +159,19 @@ module _ (room t : ℕ) (taken : List NetToken) (give : ℕ) (held : List NetTok
   abbrev lacks : Option ℕ
   lacks = lacking_tokens held 0 [] taken
 
-  pub stop_missing : (i : ℕ) → Some i ≡ told lacks → on_marking ≡ Err (record { cause = Missing; beside = i + 3 })
+  pub stop_missing : (i : ℕ) → Some i ≡ told lacks → on_marking ≡ Err (Missing (i + 3))
   unfolding marking_causes verdict_of
   stop_missing i e =
       let k : 3 + i ≡ i + 3 = omega arith in
-      stop_at t missing _ lacks i (told_some lacks i e) ∙ ap (λ (n : ℕ). Err (record { cause = Missing; beside = n })) k
+      stop_at t missing _ lacks i (told_some lacks i e) ∙ ap (λ (n : ℕ). Err (Missing n)) k
 
   module _ (a : None ≡ told lacks) where
-    pub stop_crowded : room + length taken < length held + give → on_marking ≡ Err (record { cause = Crowded; beside = t + 3 })
+    pub stop_crowded : room + length taken < length held + give → on_marking ≡ Err (Crowded (t + 3))
     unfolding marking_causes verdict_of
     stop_crowded h =
         let k : 3 + t ≡ t + 3 = omega arith in
         skip_at t missing _ lacks (told_none lacks a) ∙ stop t crowded [] _ (lt-leb (length held - length taken + give) room (omega arith))
-        ∙ ap (λ (n : ℕ). Err (record { cause = Crowded; beside = n })) k
+        ∙ ap (λ (n : ℕ). Err (Crowded n)) k
 
     pub pass_marking : length held + give ≤ room + length taken → on_marking ≡ Ok tt
     unfolding marking_causes

@@ -2,10 +2,9 @@
 use Rattle.std.specs.Prelude.{ℕ, zero, suc, List, get_or}
 use Rattle.eos.specs.Vector.{◌⊕◌, times, zeros}
 use Rattle.model.specs.Rules.{nth}
-use Rattle.model.specs.Held.{row_at, row_in, listed, no_net}
+use Rattle.model.specs.Held.{tabled, row, row_at, row_in, listed, no_net}
 use Rattle.model.specs.declared.ObjectNet.{ObjectNet}
 use Rattle.model.specs.declared.Model.{Model}
-use Rattle.step.specs.Rule.{net_rows}
 
 -- v, and n rows from row i on, each as often as it is counted
 unfoldable pub sum_rows : (ℕ → ℕ) → (ℕ → List ℕ) → ℕ → ℕ → List ℕ → List ℕ
@@ -28,4 +27,4 @@ post_arcs net = net.post
 
 -- the same of each net, in its row
 abbrev pub net_sums : (ObjectNet → List (List ℕ)) → Model → List (List ℕ) → List (List ℕ)
-net_sums side m sync = net_rows (listed (net_sum side m.objects sync) 0 m.nets)
+net_sums side m sync = tabled row 8 (listed (net_sum side m.objects sync) 0 m.nets)

@@ -1,6 +1,5 @@
 -- Why a step is turned down, over its net-tokens as they are held: 01's causes 8 to 12, in the table's order.
-use Rattle.std.specs.Prelude.{ℕ, suc, ◌+◌, ◌-◌, Bool, cond, List, [], ◌∷◌, ◌++◌, leb, eqb, length, get_or, Result, Ok, Err, None, Some}
-use Rattle.std.specs.Prelude as code
+use Rattle.std.specs.Prelude.{ℕ, suc, ◌+◌, ◌-◌, Bool, cond, List, [], ◌∷◌, ◌++◌, leb, eqb, length, get_or, Result, Ok, Err}
 use Rattle.std.proofs.Math.Option.{Option, none, some}
 use Rattle.eos.specs.Vector.{◌⊕◌, ◌⊖◌, zeros, unit, le_v, eq_v}
 use Rattle.eos.specs.Multiset as M
@@ -8,12 +7,11 @@ use Rattle.eos.specs.Model.{Marking}
 use Rattle.eos.specs.Causes.{Refusal, Cause, taking, giving, short, unequal, missing, crowded, unless, at, failing}
 use Rattle.marking.specs.Tokens.{like}
 use Rattle.marking.specs.declared.NetToken.{NetToken}
-use Rattle.step.specs.Rule.{row_of}
+use Rattle.model.specs.Held.{row_at}
 use Rattle.step.specs.declared.Sides.{Sides}
 use Rattle.step.specs.declared.Rule.{Rule}
-use Rattle.step.specs.declared.Cause as cause
-use Rattle.step.specs.declared.Cause.TheVariants.{Places, Short, Unequal, Missing, Crowded}
 use Rattle.step.specs.declared.Refusal as refusal
+use Rattle.step.specs.declared.Refusal.TheVariants.{Places, Short, Unequal, Missing, Crowded}
 
 -- Π¹, the outer projection: 32 numbers
 unfoldable pub outer_tokens : List NetToken → List ℕ
@@ -31,12 +29,12 @@ inner_tokens types n (t ∷ ts) = inside_in types n t ⊕ inner_tokens types n t
 
 -- the net-tokens taken have what the event asks of net n
 unfoldable pub inner_taken_in : Rule → List NetToken → ℕ → Bool
-inner_taken_in q taken n = le_v (row_of q.pre.inner n) (inner_tokens q.types n taken)
+inner_taken_in q taken n = le_v (row_at q.pre.inner n) (inner_tokens q.types n taken)
 
 -- the net-tokens given have what the event leaves and gives of net n
 unfoldable pub inner_given_in : Rule → List NetToken → List NetToken → ℕ → Bool
 inner_given_in q taken given n =
-    eq_v (inner_tokens q.types n given) (inner_tokens q.types n taken ⊖ row_of q.pre.inner n ⊕ row_of q.post.inner n)
+    eq_v (inner_tokens q.types n given) (inner_tokens q.types n taken ⊖ row_at q.pre.inner n ⊕ row_at q.post.inner n)
 
 -- the first net-token, counted from i on, whose like, counted so far, exceed the marking's; `seen` are those before
 abbrev pub lacking_tokens : List NetToken → ℕ → List NetToken → List NetToken → Option ℕ
@@ -72,39 +70,23 @@ marking_causes room taken give held =
 unfoldable pub causes_in : ℕ → Rule → List NetToken → List NetToken → List NetToken → List (Option Cause)
 causes_in room q taken given held = outer_causes q.pre q.post taken given ++ (inner_causes q taken given ++ marking_causes room taken (length given) held)
 
--- a cause as the code says it, and its number in 01's table
-abbrev pub cause_of : Cause → cause.Cause
-cause_of taking = Places
-cause_of giving = Places
-cause_of (short n) = Short
-cause_of (unequal n) = Unequal
-cause_of (missing i) = Missing
-cause_of crowded = Crowded
-
-abbrev pub number_of : cause.Cause → ℕ
-number_of Places = 8
-number_of Short = 9
-number_of Unequal = 10
-number_of Missing = 11
-number_of Crowded = 12
-
--- what stands beside it. Nets are numbered from 1, lines from the step's `fire` line: `take` is line 2, its `lines` token lines follow, then
--- `give`
-abbrev pub beside_of : ℕ → Cause → ℕ
-beside_of lines taking = 2
-beside_of lines giving = 3 + lines
-beside_of lines (short n) = suc n
-beside_of lines (unequal n) = suc n
-beside_of lines (missing i) = 3 + i
-beside_of lines crowded = 3 + lines
-
--- a step is turned down by a cause
+-- a step is turned down by a cause. Nets are numbered from 1, lines from the step's `fire` line: `take` is line 2, its `lines` token lines
+-- follow, then `give`
 abbrev pub turned_by : ℕ → Cause → refusal.Refusal
-turned_by lines c = record { cause = cause_of c; beside = beside_of lines c }
+turned_by lines taking = Places 2
+turned_by lines giving = Places (3 + lines)
+turned_by lines (short n) = Short (suc n)
+turned_by lines (unequal n) = Unequal (suc n)
+turned_by lines (missing i) = Missing (3 + i)
+turned_by lines crowded = Crowded (3 + lines)
 
--- the number and what stands beside it
+-- its number in 01's table, and what stands beside it
 abbrev pub turned_pair : refusal.Refusal → Refusal
-turned_pair r = record { number = number_of r.cause; beside = r.beside }
+turned_pair (Places line) = record { number = 8; beside = line }
+turned_pair (Short net) = record { number = 9; beside = net }
+turned_pair (Unequal net) = record { number = 10; beside = net }
+turned_pair (Missing line) = record { number = 11; beside = line }
+turned_pair (Crowded line) = record { number = 12; beside = line }
 
 abbrev pub cause_pair : ℕ → Cause → Refusal
 cause_pair lines c = turned_pair (turned_by lines c)
@@ -113,8 +95,3 @@ cause_pair lines c = turned_pair (turned_by lines c)
 unfoldable pub verdict_of : ℕ → Option Cause → Result (Unit {0}) refusal.Refusal
 verdict_of lines none = Ok tt
 verdict_of lines (some c) = Err (turned_by lines c)
-
--- an index of the theory as the code answers it
-abbrev pub told : Option ℕ → code.Option ℕ
-told none = None
-told (some i) = Some i

@@ -4,7 +4,7 @@ use Rattle.eos.specs.Vector.{◌⊕◌, ◌⊖◌, eq_v}
 use Rattle.model.specs.Limits.{room_limit, count_limit}
 use Rattle.marking.specs.Tokens.{OnPlaces}
 use Rattle.marking.specs.declared.NetToken.{NetToken}
-use Rattle.step.specs.Rule.{row_of}
+use Rattle.model.specs.Held.{row_at}
 use Rattle.step.specs.declared.Rule.{Rule}
 use Rattle.step.specs.Verdict.{inside_in, inner_tokens}
 
@@ -15,7 +15,7 @@ abbrev pub Small : List ℕ → Type 0
 Small row = (k : ℕ) → get_or row k 0 < 2 ^ 32
 
 abbrev pub SmallRows : List (List ℕ) → Type 0
-SmallRows rows = (n : ℕ) → Small (row_of rows n)
+SmallRows rows = (n : ℕ) → Small (row_at rows n)
 
 -- a rule as a held model gives it: at most 8 nets, each type one of them or 0, and numbers small enough to add
 pub record Sound (q : Rule) : Type 0 where
@@ -34,18 +34,18 @@ pub record Placed (ts : List NetToken) : Type 0 where
 -- a row of 32 numbers for each net
 pub record Rowed (rows : List (List ℕ)) : Type 0 where
   pub many : length rows ≡ 8
-  pub long : (n : ℕ) → n < 8 → length (row_of rows n) ≡ 32
+  pub long : (n : ℕ) → n < 8 → length (row_at rows n) ≡ 32
 
 -- the inside of a net-token added to the sums of its net, which are row n
 pub record Added (types : List ℕ) (t : NetToken) (before after : List (List ℕ)) : Type 0 where
   pub rowed : Rowed after
-  pub rows : (n : ℕ) → n < 8 → row_of after n ≡ row_of before n ⊕ inside_in types n t
-  pub small : (n k : ℕ) → get_or (row_of after n) k 0 ≤ get_or (row_of before n) k 0 + count_limit
+  pub rows : (n : ℕ) → n < 8 → row_at after n ≡ row_at before n ⊕ inside_in types n t
+  pub small : (n k : ℕ) → get_or (row_at after n) k 0 ≤ get_or (row_at before n) k 0 + count_limit
 
 -- the inner projections, that of net n in row n
 pub record Inner (types : List ℕ) (ts : List NetToken) (sums : List (List ℕ)) : Type 0 where
   pub rowed : Rowed sums
-  pub rows : (n : ℕ) → n < 8 → row_of sums n ≡ inner_tokens types n ts
+  pub rows : (n : ℕ) → n < 8 → row_at sums n ≡ inner_tokens types n ts
   pub small : SmallRows sums
 
 -- what is made of a net is what is held of it, without pre and with post
@@ -54,4 +54,4 @@ even made held pre post = eq_v made (held ⊖ pre ⊕ post)
 
 -- the same of net n, over rows
 abbrev pub even_in : List (List ℕ) → List (List ℕ) → List (List ℕ) → List (List ℕ) → ℕ → Bool
-even_in made held pre post n = even (row_of made n) (row_of held n) (row_of pre n) (row_of post n)
+even_in made held pre post n = even (row_at made n) (row_at held n) (row_at pre n) (row_at post n)

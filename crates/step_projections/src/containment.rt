@@ -3,7 +3,8 @@ ghost use Rattle.std.specs.Prelude.{◌≡◌, [], ◌≤◌, ◌<◌, ltb, leng
 ghost use Rattle.eos.specs.Multiset as M;
 ghost use Rattle.marking.specs.Tokens.{like, before};
 ghost use Rattle.marking.proofs.TokenOrder.{outside};
-ghost use Rattle.step.specs.Verdict.{lacking_tokens, told};
+ghost use Rattle.model.specs.Held.{told};
+ghost use Rattle.step.specs.Verdict.{lacking_tokens};
 
 use marking::NetToken;
 use marking_find::count;
@@ -28,10 +29,5 @@ pub fn lacking(taken: &[NetToken], held: &[NetToken]) -> Option<usize>
     requires { M.Sorted before held.now }
     ensures { result ≡ told (lacking_tokens held.now 0 [] taken.now) }
 {
-    for i in 0..taken.len() {
-        if !has(taken, i, held) {
-            return Some(i);
-        }
-    }
-    None
+    (0..taken.len()).find(|i| !has(taken, *i, held))
 }

@@ -4,7 +4,6 @@
 ghost use Rattle.std.specs.Prelude.{◌≡◌, ℕ, ◌≤◌, get_or};
 ghost use Rattle.eos.specs.Vector.{◌⊕◌};
 ghost use Rattle.model.specs.Limits.{count_limit};
-ghost use Rattle.step.specs.Rule.{no_rows};
 ghost use Rattle.step.specs.Verdict.{outer_tokens};
 ghost use Rattle.step.specs.VerdictParts.{Small, SmallRows, Placed, Rowed, Added, Inner};
 
@@ -49,12 +48,14 @@ fn add_inside(sums: &mut [[u64; 32]; 8], types: &[u8; 32], t: &NetToken)
     add_counts(&mut sums[d - 1], &t.counts);
 }
 
-// The insides of net-tokens added up, net by net, into sums that are all 0.
-pub fn inner_of(tokens: &[NetToken], types: &[u8; 32], sums: &mut [[u64; 32]; 8])
-    requires { Placed tokens.now × ((p : ℕ) → get_or types.now p 0 ≤ 8) × (sums.old ≡ no_rows) }
-    ensures { Inner types.now tokens.now sums.new }
+// The insides of net-tokens added up, net by net.
+pub fn inner_of(tokens: &[NetToken], types: &[u8; 32]) -> [[u64; 32]; 8]
+    requires { Placed tokens.now × ((p : ℕ) → get_or types.now p 0 ≤ 8) }
+    ensures { Inner types.now tokens.now result }
 {
+    let mut sums = [[0u64; 32]; 8];
     for t in tokens {
-        add_inside(sums, types, t);
+        add_inside(&mut sums, types, t);
     }
+    sums
 }

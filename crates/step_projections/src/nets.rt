@@ -3,8 +3,7 @@
 ghost use Rattle.std.specs.Prelude.{◌≡◌, ◌≤◌};
 ghost use Rattle.eos.specs.Vector.{le_v};
 ghost use Rattle.eos.specs.Causes.{failing};
-ghost use Rattle.step.specs.Rule.{row_of};
-ghost use Rattle.step.specs.Verdict.{told};
+ghost use Rattle.model.specs.Held.{row_at, told};
 ghost use Rattle.step.specs.VerdictParts.{Small, SmallRows, even, even_in};
 
 // Whether of a net no more is asked than is held.
@@ -21,14 +20,9 @@ fn enough(asked: &[u64; 32], held: &[u64; 32]) -> bool
 // The first net of which more is asked than is held.
 pub fn short_net(nets: usize, asked: &[[u64; 32]; 8], held: &[[u64; 32]; 8]) -> Option<usize>
     requires { nets ≤ 8 }
-    ensures { result ≡ told (failing nets 0 (λ n. le_v (row_of asked.now n) (row_of held.now n))) }
+    ensures { result ≡ told (failing nets 0 (λ n. le_v (row_at asked.now n) (row_at held.now n))) }
 {
-    for net in 0..nets {
-        if !enough(&asked[net], &held[net]) {
-            return Some(net);
-        }
-    }
-    None
+    (0..nets).find(|net| !enough(&asked[*net], &held[*net]))
 }
 
 // Whether what is made of a net is what is held of it, without pre and with post.
@@ -54,10 +48,5 @@ pub fn unbalanced_net(
     requires { (nets ≤ 8) × SmallRows held.now × SmallRows post.now }
     ensures { result ≡ told (failing nets 0 (even_in made.now held.now pre.now post.now)) }
 {
-    for net in 0..nets {
-        if !even(&made[net], &held[net], &pre[net], &post[net]) {
-            return Some(net);
-        }
-    }
-    None
+    (0..nets).find(|net| !even(&made[*net], &held[*net], &pre[*net], &post[*net]))
 }

@@ -1,15 +1,15 @@
 // A step read from its lines. Its net-tokens are kept in the order of their lines.
 #![tactic(auto)]
 
-ghost use Rattle.std.specs.Prelude.{◌≡◌, ◌≤◌, length, map, take};
+ghost use Rattle.std.specs.Prelude.{◌≡◌, ◌≤◌, length, map};
 ghost use Rattle.text.specs.Lines.{many};
 ghost use Rattle.text.specs.Answers.{kept};
-ghost use Rattle.text_reader.specs.Place.{Reads, lent};
+ghost use Rattle.text_reader.specs.Place.{Reads};
 ghost use Rattle.model.specs.Limits.{line_limit, room_limit, count_limit};
 ghost use Rattle.marking.specs.Held.{as_sizes, hold_token};
 ghost use Rattle.marking.specs.Reading.{limits, read_net_token, read_block};
 ghost use Rattle.step.specs.Reading.{read_taking, read_step};
-ghost use Rattle.step.specs.Answers.{hold_rows, first_of, hold_taking, taking_in, hold_step, step_in};
+ghost use Rattle.step.specs.Answers.{tokens_lent, hold_taking, taking_lent, hold_step, step_lent};
 
 use marking::{Marking, NetToken, PlaceSizes};
 use marking_read::net_token;
@@ -18,63 +18,66 @@ use step::{StepLines, TakeLines};
 use text::Fault;
 use text_reader::Reader;
 
-// The lines of n net-tokens, laid one after the other from the first on.
-fn net_tokens(
+// The lines of n net-tokens, laid one after the other from the first on, and lent as they are laid.
+fn net_tokens<'a>(
     r: &mut Reader,
     z: &PlaceSizes,
     n: usize,
-    room: &mut [NetToken; Marking::ROOM],
-) -> Result<(), Fault>
+    room: &'a mut [NetToken; Marking::ROOM],
+) -> Result<&'a [NetToken], Fault>
     requires { n ≤ line_limit }
-    ensures { Reads (kept (map hold_token) (many (read_net_token (limits line_limit count_limit) (as_sizes z.now) r.old.src.now) n r.old.at)) r.old r.new (lent (take n room.new) result) }
+    ensures { Reads (kept (map hold_token) (many (read_net_token (limits line_limit count_limit) (as_sizes z.now) r.old.src.now) n r.old.at)) r.old r.new (tokens_lent result) }
 {
     for i in 0..n {
         room[i] = net_token(r, z)?;
     }
-    Ok(())
+    Ok(&room[..n])
 }
 
-// The line of key and a number, and that many lines of net-tokens, laid one after the other from the first on.
-fn tokens_after(
+// The line of key and a number, and that many lines of net-tokens.
+fn tokens_after<'a>(
     r: &mut Reader,
     key: &[u8],
     z: &PlaceSizes,
-    room: &mut [NetToken; Marking::ROOM],
-) -> Result<usize, Fault>
-    ensures { Reads (kept hold_rows (read_block key.now (limits line_limit count_limit) (as_sizes z.now) r.old.src.now r.old.at)) r.old r.new (first_of room.new result) }
+    room: &'a mut [NetToken; Marking::ROOM],
+) -> Result<&'a [NetToken], Fault>
+    ensures { Reads (kept (map hold_token) (read_block key.now (limits line_limit count_limit) (as_sizes z.now) r.old.src.now r.old.at)) r.old r.new (tokens_lent result) }
 {
     let n = usize::from(r.number(key, 0, Model::LINES)?);
-    net_tokens(r, z, n, room)?;
-    Ok(n)
+    net_tokens(r, z, n, room)
 }
 
-// The lines of a step up to those that it takes: its event, from 1 to `events`, and the net-tokens taken. `taken` is room for them; what
-// stands there past them, and after a refusal, is left open.
-pub fn read_taking(
+// The lines of a step up to those that it takes: its event, from 1 to `events`, and the net-tokens taken, lent from the room that `taken` is for
+// them. What stands there past them, and after a refusal, is left open.
+pub fn read_taking<'a>(
     r: &mut Reader,
     events: u16,
     z: &PlaceSizes,
-    taken: &mut [NetToken; Marking::ROOM],
-) -> Result<TakeLines, Fault>
-    ensures { Reads (kept hold_taking (read_taking (limits line_limit count_limit) (as_sizes z.now) events r.old.src.now r.old.at)) r.old r.new (taking_in taken.new result) }
+    taken: &'a mut [NetToken; Marking::ROOM],
+) -> Result<TakeLines<'a>, Fault>
+    ensures { Reads (kept hold_taking (read_taking (limits line_limit count_limit) (as_sizes z.now) events r.old.src.now r.old.at)) r.old r.new (taking_lent result) }
 {
     let event = usize::from(r.number(b"fire=", 1, events)?) - 1;
-    let take = tokens_after(r, b"take=", z, taken)?;
-    Ok(TakeLines { event, take })
+    let taken = tokens_after(r, b"take=", z, taken)?;
+    Ok(TakeLines { event, taken })
 }
 
-// The lines of a step: its event, from 1 to `events`, and the net-tokens that it takes and gives. `taken` and `given` are room for them,
-// left as above.
-pub fn read_step(
+// The lines of a step: its event, from 1 to `events`, and the net-tokens that it takes and gives, lent from the room that `taken` and `given` are
+// for them, left as above.
+pub fn read_step<'a>(
     r: &mut Reader,
     events: u16,
     z: &PlaceSizes,
-    taken: &mut [NetToken; Marking::ROOM],
-    given: &mut [NetToken; Marking::ROOM],
-) -> Result<StepLines, Fault>
-    ensures { Reads (kept hold_step (read_step (limits line_limit count_limit) (as_sizes z.now) events r.old.src.now r.old.at)) r.old r.new (step_in taken.new given.new result) }
+    taken: &'a mut [NetToken; Marking::ROOM],
+    given: &'a mut [NetToken; Marking::ROOM],
+) -> Result<StepLines<'a>, Fault>
+    ensures { Reads (kept hold_step (read_step (limits line_limit count_limit) (as_sizes z.now) events r.old.src.now r.old.at)) r.old r.new (step_lent result) }
 {
-    let TakeLines { event, take } = read_taking(r, events, z, taken)?;
-    let give = tokens_after(r, b"give=", z, given)?;
-    Ok(StepLines { event, take, give })
+    let TakeLines { event, taken } = read_taking(r, events, z, taken)?;
+    let given = tokens_after(r, b"give=", z, given)?;
+    Ok(StepLines {
+        event,
+        taken,
+        given,
+    })
 }

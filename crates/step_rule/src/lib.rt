@@ -6,12 +6,12 @@ ghost use Rattle.eos.specs.Vector.{◌⊕◌, times, zeros};
 ghost use Rattle.model.specs.Held.{SizedModel, row_in, no_net, model_of};
 ghost use Rattle.model.specs.Rules.{nth};
 ghost use Rattle.model.specs.Test.{held_model};
-ghost use Rattle.step.specs.Rule.{no_rows, hold_rule, no_rule};
+ghost use Rattle.step.specs.Rule.{hold_rule};
 ghost use Rattle.step.specs.RuleParts.{sum_rows, pre_arcs, post_arcs, net_sums};
 
 use model::Model;
 use model_acts::outer_side;
-use step::Rule;
+use step::{Rule, Sides};
 
 // A row of arcs added to the sum, as often as it is counted.
 fn plus_times(sum: &mut [u64; 32], count: u8, arcs: &[u8; 32])
@@ -39,31 +39,41 @@ fn summed(counts: &[u8; 32], table: &[[u8; 32]; 32], transitions: usize) -> [u64
 }
 
 // The rows of the object nets on both sides, for the counts of an event.
-fn inner_sides(m: &Model, sync: &[[u8; 32]; 8], pre: &mut [[u64; 32]; 8], post: &mut [[u64; 32]; 8])
-    requires { (m.now.nets ≤ 8) × ((n : ℕ) → (get_or m.now.objects n no_net).transitions ≤ 32)
-        × (pre.old ≡ no_rows) × (post.old ≡ no_rows) }
-    ensures { (pre.new ≡ net_sums pre_arcs m.now sync.now) × (post.new ≡ net_sums post_arcs m.now sync.now) }
+fn inner_sides(m: &Model, sync: &[[u8; 32]; 8]) -> ([[u64; 32]; 8], [[u64; 32]; 8])
+    requires { (m.now.nets ≤ 8) × ((n : ℕ) → (get_or m.now.objects n no_net).transitions ≤ 32) }
+    ensures { (result.0 ≡ net_sums pre_arcs m.now sync.now) × (result.1 ≡ net_sums post_arcs m.now sync.now) }
 {
+    let mut pre = [[0u64; 32]; 8];
+    let mut post = [[0u64; 32]; 8];
     for n in 0..m.nets {
         let net = &m.objects[n];
         let transitions = net.transitions;
         pre[n] = summed(&sync[n], &net.pre, transitions);
         post[n] = summed(&sync[n], &net.post, transitions);
     }
+    (pre, post)
 }
 
-// What the firing rule asks of a step of event e, which is one of the held model's, into room that is all 0. The arrays of the model that
-// is lent have their room, and bytes in it.
-pub fn rule_of(m: &Model, e: usize, rule: &mut Rule)
-    requires { (held_model m.now ≡ true) × (e < m.now.listed) × (rule.old ≡ no_rule) }
-    ensures made { rule.new ≡ hold_rule (model_of m.now) e }
+// What the firing rule asks of a step of event e, which is one of the held model's. The arrays of the model that is lent have their room, and
+// bytes in it.
+pub fn rule_of(m: &Model, e: usize) -> Rule
+    requires { (held_model m.now ≡ true) × (e < m.now.listed) }
+    ensures made { result ≡ hold_rule (model_of m.now) e }
     ensures sized { SizedModel m.now }
 {
     let event = &m.events[e];
     let act = event.act();
-    rule.nets = m.nets;
-    rule.types = m.types;
-    rule.pre.outer = outer_side(act, &m.pre);
-    rule.post.outer = outer_side(act, &m.post);
-    inner_sides(m, &event.sync, &mut rule.pre.inner, &mut rule.post.inner);
+    let (pre, post) = inner_sides(m, &event.sync);
+    Rule {
+        nets: m.nets,
+        types: m.types,
+        pre: Sides {
+            outer: outer_side(act, &m.pre),
+            inner: pre,
+        },
+        post: Sides {
+            outer: outer_side(act, &m.post),
+            inner: post,
+        },
+    }
 }

@@ -10,7 +10,7 @@ ghost use Rattle.step.specs.Verdict.{outer_causes, inner_causes, marking_causes,
 ghost use Rattle.step.specs.VerdictParts.{Sound, Placed};
 
 use marking::NetToken;
-use step::{Cause, Refusal, Rule, Sides};
+use step::{Refusal, Rule, Sides};
 use step_projections::containment::lacking;
 use step_projections::nets::{short_net, unbalanced_net};
 use step_projections::{inner_of, outer_of};
@@ -26,15 +26,11 @@ pub fn on_places(
     ensures { result ≡ verdict_of (length taken.now) (first (outer_causes pre.now post.now taken.now given.now)) }
 {
     if outer_of(taken) != pre.outer {
-        return Err(Refusal {
-            cause: Cause::Places,
-            beside: 2,
-        });
+        return Err(Refusal::Places { line: 2 });
     }
     if outer_of(given) != post.outer {
-        return Err(Refusal {
-            cause: Cause::Places,
-            beside: taken.len() + 3,
+        return Err(Refusal::Places {
+            line: taken.len() + 3,
         });
     }
     Ok(())
@@ -45,21 +41,13 @@ pub fn on_nets(rule: &Rule, taken: &[NetToken], given: &[NetToken]) -> Result<()
     requires { Sound rule.now × Placed taken.now × Placed given.now }
     ensures { result ≡ verdict_of (length taken.now) (first (inner_causes rule.now taken.now given.now)) }
 {
-    let mut held = [[0u64; 32]; 8];
-    inner_of(taken, &rule.types, &mut held);
+    let held = inner_of(taken, &rule.types);
     if let Some(net) = short_net(rule.nets, &rule.pre.inner, &held) {
-        return Err(Refusal {
-            cause: Cause::Short,
-            beside: net + 1,
-        });
+        return Err(Refusal::Short { net: net + 1 });
     }
-    let mut made = [[0u64; 32]; 8];
-    inner_of(given, &rule.types, &mut made);
+    let made = inner_of(given, &rule.types);
     if let Some(net) = unbalanced_net(rule.nets, &made, &held, &rule.pre.inner, &rule.post.inner) {
-        return Err(Refusal {
-            cause: Cause::Unequal,
-            beside: net + 1,
-        });
+        return Err(Refusal::Unequal { net: net + 1 });
     }
     Ok(())
 }
@@ -75,15 +63,11 @@ pub fn on_marking(
     ensures { result ≡ verdict_of (length taken.now) (first (marking_causes room taken.now give held.now)) }
 {
     if let Some(i) = lacking(taken, held) {
-        return Err(Refusal {
-            cause: Cause::Missing,
-            beside: i + 3,
-        });
+        return Err(Refusal::Missing { line: i + 3 });
     }
     if room + taken.len() < held.len() + give {
-        return Err(Refusal {
-            cause: Cause::Crowded,
-            beside: taken.len() + 3,
+        return Err(Refusal::Crowded {
+            line: taken.len() + 3,
         });
     }
     Ok(())

@@ -7,7 +7,7 @@ use Rattle.step_projections.proofs.inner_of.Goals as goal
 pub loop-t-init : goal.loop-t-init
 loop-t-init c =
     let a = c.args in
-    rw c.requires.2 (rowed_none, (λ n k. omega (arith, none-small n k)), inner_start a.types.now a.tokens.now)
+    (rowed_none, (λ n k. omega (arith, none-small n k)), inner_start a.types.now a.tokens.now)
 
 pub add_inside-requires : goal.add_inside-requires
 add_inside-requires c =

@@ -2,10 +2,10 @@
 -- of all.
 use Prim.Native.Nat.{ℕ, ◌≤◌, ◌*◌}
 use Rattle.model.specs.Rules.{nth}
-use Rattle.step.specs.Rule.{row_of}
+use Rattle.model.specs.Held.{row_at}
 use Rattle.step.specs.VerdictParts.{Rowed}
 use Rattle.step.proofs.InsideLaws.{Partly}
 use Rattle.step_projections.proofs.inner_of.Given as goal
 
 abbrev pub invariant-loop-t : goal.invariant-loop-t
-invariant-loop-t l = Rowed l.sums × ((n k : ℕ) → nth (row_of l.sums n) k ≤ l.t-index * 65535) × Partly l.types l.tokens l.t-index l.sums
+invariant-loop-t l = Rowed l.sums × ((n k : ℕ) → nth (row_at l.sums n) k ≤ l.t-index * 65535) × Partly l.types l.tokens l.t-index l.sums

@@ -11,10 +11,10 @@ returns-in_err-event c =
     let a = c.args in
     rw (handed_on _ c.from_residual.ensures.1) (untaken (limits 256 65535) (as_sizes c.args.z.now) a.events a.r.now _ c.in_err-event.ensures)
 
-pub returns-in_err-give : goal.returns-in_err-give
-returns-in_err-give c =
+pub returns-in_err-given : goal.returns-in_err-given
+returns-in_err-given c =
     let a = c.args in
-    rw (handed_on _ c.from_residual-in_err-give.ensures.1) (step-joined (limits 256 65535) (as_sizes c.args.z.now) a.events a.r.now _ _ _ _ c.in_ok-event.ensures c.in_err-give.ensures)
+    rw (handed_on _ c.from_residual-in_err-given.ensures.1) (step-joined (limits 256 65535) (as_sizes c.args.z.now) a.events a.r.now _ _ _ _ c.in_ok-event.ensures c.in_err-given.ensures)
 
 pub returns : goal.returns
-returns c = let a = c.args in step-joined (limits 256 65535) (as_sizes c.args.z.now) a.events a.r.now _ _ _ _ c.in_ok-event.ensures c.in_ok-give.ensures
+returns c = let a = c.args in step-joined (limits 256 65535) (as_sizes c.args.z.now) a.events a.r.now _ _ _ _ c.in_ok-event.ensures c.in_ok-given.ensures

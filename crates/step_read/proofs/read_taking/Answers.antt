@@ -13,12 +13,12 @@ returns-in_err-number c =
 pub overflow_sub-event : goal.overflow_sub-event
 overflow_sub-event c = let a = c.args in rw c.from-event.ensures (event_from-one (limits 256 65535) (as_sizes c.args.z.now) a.events a.r.now _ c.in_ok-number.ensures)
 
-pub returns-in_err-take : goal.returns-in_err-take
-returns-in_err-take c =
+pub returns-in_err-taken : goal.returns-in_err-taken
+returns-in_err-taken c =
     let a = c.args in
-    rw (handed_on _ c.from_residual-in_err-take.ensures.1) (take_refused (limits 256 65535) (as_sizes c.args.z.now) a.events a.r.now _ c.in_ok-number.ensures _ c.in_err-take.ensures)
+    rw (handed_on _ c.from_residual-in_err-taken.ensures.1) (take_refused (limits 256 65535) (as_sizes c.args.z.now) a.events a.r.now _ c.in_ok-number.ensures _ c.in_err-taken.ensures)
 
 pub returns : goal.returns
 returns c =
     let a = c.args in
-    rw c.from-event.ensures (taking_read (limits 256 65535) (as_sizes c.args.z.now) a.events a.r.now _ c.in_ok-number.ensures _ c.in_ok-take.ensures)
+    rw c.from-event.ensures (taking_read (limits 256 65535) (as_sizes c.args.z.now) a.events a.r.now _ c.in_ok-number.ensures _ c.in_ok-taken.ensures)

@@ -3,26 +3,17 @@ use mathlib.Core.List.{map}
 use Rattle.text.proofs.Basics.{handed_on}
 use Rattle.marking.specs.Held.{as_sizes, hold_token}
 use Rattle.marking.proofs.BlockLaws.{block_refused, block_counted, counted_few}
-use Rattle.step.specs.Answers.{hold_rows}
-use Rattle.step.proofs.TokenLoop.{counted_rows, still_refused}
 use Rattle.step_read.proofs.tokens_after.Goals as goal
 
 pub returns-in_err-number : goal.returns-in_err-number
 returns-in_err-number c =
     let a = c.args in
-    rw (handed_on _ c.from_residual.ensures.1) (block_refused hold_rows a.key.now 256 (as_sizes a.z.now) a.r.now _ c.in_err-number.ensures)
+    rw (handed_on _ c.from_residual.ensures.1) (block_refused (map hold_token) a.key.now 256 (as_sizes a.z.now) a.r.now _ c.in_err-number.ensures)
 
 pub net_tokens-requires : goal.net_tokens-requires
-net_tokens-requires c = let a = c.args in rw c.from-n.ensures (counted_few hold_rows a.key.now 256 (as_sizes a.z.now) a.r.now _ c.in_ok-number.ensures)
-
-pub returns-in_err-net_tokens : goal.returns-in_err-net_tokens
-returns-in_err-net_tokens c =
-    let a = c.args in
-    rw (handed_on _ c.from_residual-in_err-net_tokens.ensures.1)
-    (block_counted hold_rows a.key.now 256 (as_sizes a.z.now) a.r.now _ c.in_ok-number.ensures _ (still_refused (map hold_token) hold_rows _ _ (rw c.from-n.ensures at c.in_err-net_tokens.ensures)))
+net_tokens-requires c = let a = c.args in rw c.from-n.ensures (counted_few (map hold_token) a.key.now 256 (as_sizes a.z.now) a.r.now _ c.in_ok-number.ensures)
 
 pub returns : goal.returns
 returns c =
     let a = c.args in
-    rw c.from-n.ensures
-    (block_counted hold_rows a.key.now 256 (as_sizes a.z.now) a.r.now _ c.in_ok-number.ensures _ (counted_rows _ _ _ _ _ _ (rw c.from-n.ensures at c.in_ok-net_tokens.ensures)))
+    block_counted (map hold_token) a.key.now 256 (as_sizes a.z.now) a.r.now _ c.in_ok-number.ensures _ (rw c.from-n.ensures at c.net_tokens.ensures)

@@ -3,8 +3,8 @@ use mathlib.Core.Path.{◌≡◌, ap, sym, ◌∙◌}
 use mathlib.Core.List.{[]}
 use native.Mathlib.Omega.{arith}
 use native.Mathlib.Nat.{sub-zero}
-use lib.ListN.{length, get_or, length-set}
-use Rattle.model.specs.Held.{no_net, row_at}
+use lib.ListN.{length, get_or, length-set, length-replicate}
+use Rattle.model.specs.Held.{no_row, no_net, row_at}
 use Rattle.model.specs.declared.ObjectNet.{ObjectNet}
 use Rattle.model.proofs.ModelSized.{told-sized}
 use Rattle.model.proofs.HeldTestLoops.{at_any}
@@ -13,7 +13,7 @@ use Rattle.step.proofs.ArcSums.{nets_begin, nets_next, nets_done}
 use Rattle.step_rule.proofs.inner_sides.Goals as goal
 
 pub loop-n-init : goal.loop-n-init
-loop-n-init c = (omega arith, c.told-pre, c.told-post, rw sub-zero (nets_begin _ _ c.requires.2), rw sub-zero (nets_begin _ _ c.requires.3))
+loop-n-init c = (omega arith, length-replicate 8 no_row, length-replicate 8 no_row, rw sub-zero (nets_begin _), rw sub-zero (nets_begin _))
 
 pub loop-n-preserved : goal.loop-n-preserved
 loop-n-preserved c =

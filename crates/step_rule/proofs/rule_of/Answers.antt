@@ -6,7 +6,6 @@ use Rattle.eos.specs.Firing.{act_side}
 use Rattle.model.specs.Held.{row_at}
 use Rattle.model.specs.declared.Event.{Event}
 use Rattle.model.proofs.ModelSized.{told-sized}
-use Rattle.step.specs.declared.Rule.{Rule}
 use Rattle.step.specs.RuleParts.{net_sums, pre_arcs, post_arcs}
 use Rattle.step.proofs.RuleMade.{few_nets, few_steps, few_events, act_read, act_few, counts_read, rule_made}
 use Rattle.step_rule.proofs.rule_of.Goals as goal
@@ -21,26 +20,22 @@ offset_bounds-m-e c = let h = few_events c.args.m.now c.requires.0 c.args.e c.re
 pub bounds-m-e : goal.bounds-m-e
 bounds-m-e c = few_events c.args.m.now c.requires.0 c.args.e c.requires.1
 
-pub outer_side-rule-requires : goal.outer_side-rule-requires
-outer_side-rule-requires c =
+pub outer_side-requires : goal.outer_side-requires
+outer_side-requires c =
     let m = c.args.m.now in
     let sized = told-sized m c.type_inv.m in
     act_few m c.requires.0 sized c.args.e c.requires.1 _ (act_read m c.requires.0 sized c.args.e c.requires.1 none _ c.act-act.ensures)
 
-pub outer_side-rule-requires-2 : goal.outer_side-rule-requires-2
-outer_side-rule-requires-2 c =
+pub outer_side-requires-2 : goal.outer_side-requires-2
+outer_side-requires-2 c =
     let m = c.args.m.now in
     let sized = told-sized m c.type_inv.m in
     act_few m c.requires.0 sized c.args.e c.requires.1 _ (act_read m c.requires.0 sized c.args.e c.requires.1 none _ c.act-act.ensures)
 
 pub inner_sides-requires : goal.inner_sides-requires
 inner_sides-requires c =
-    let m = c.args.m.now in (
-      few_nets m c.requires.0,
-      few_steps m c.requires.0 (told-sized m c.type_inv.m),
-      ap (λ (r : Rule). r.pre.inner) c.requires.2,
-      ap (λ (r : Rule). r.post.inner) c.requires.2,
-    )
+    let m = c.args.m.now in
+    (few_nets m c.requires.0, few_steps m c.requires.0 (told-sized m c.type_inv.m))
 
 pub returns-clause-sized : goal.returns-clause-sized
 returns-clause-sized c = told-sized c.args.m.now c.type_inv.m
@@ -53,5 +48,5 @@ returns-clause-made c =
     let act = act_read m c.requires.0 sized e c.requires.1 none _ c.act-act.ensures in
     let counts = counts_read m c.requires.0 sized e c.requires.1 none in
     rule_made m c.requires.0 sized e c.requires.1 _ refl refl
-    (c.outer_side-rule.ensures ∙ ap (act_side (row_at m.pre) 32) act) (c.inner_sides.ensures.0 ∙ ap (net_sums pre_arcs m) counts)
-    (c.outer_side-rule-2.ensures ∙ ap (act_side (row_at m.post) 32) act) (c.inner_sides.ensures.1 ∙ ap (net_sums post_arcs m) counts)
+    (c.outer_side.ensures ∙ ap (act_side (row_at m.pre) 32) act) (c.inner_sides.ensures.0 ∙ ap (net_sums pre_arcs m) counts)
+    (c.outer_side-2.ensures ∙ ap (act_side (row_at m.post) 32) act) (c.inner_sides.ensures.1 ∙ ap (net_sums post_arcs m) counts)

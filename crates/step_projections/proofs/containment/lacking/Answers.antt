@@ -1,22 +1,24 @@
-use mathlib.Core.Path.{sym, ap, ◌∙◌}
-use native.Mathlib.Omega.{arith}
+-- `lacking` finds the first index of the net-tokens taken at which the marking has too few.
+use borrow.Author.Rules.{rules}
+use Prim.Native.Nat.{ℕ}
+use mathlib.Core.Path.{refl, sym, ap, ◌∙◌}
+use mathlib.Core.Bool.{Bool, not}
+use native.Mathlib.Nat.{sub-zero}
+use lib.ListN.{length}
+use Rattle.std.proofs.lemmas.Iterator.{YieldsList-from_range}
+use Rattle.std.proofs.lemmas.Iterator.Adapters.{option_map_id}
+use Rattle.std.proofs.lemmas.Iterator.Search.{find_from_yields_List}
 use Rattle.marking.proofs.TokenOrder.{outside}
-use Rattle.step.specs.Verdict.{told}
-use Rattle.step.proofs.LackLaws.{rest-start, rest_on, rest_here, rest_end}
+use Rattle.model.specs.Held.{told}
+use Rattle.step.proofs.LackLaws.{has_token, lacking_failing}
+use Rattle.step.proofs.FirstFailing.{found}
 use Rattle.step_projections.proofs.containment.lacking.Goals as goal
 
-pub loop-i-init : goal.loop-i-init
-loop-i-init c = rest-start c.args.held.now c.args.taken.now
-
-pub returns-then-not-has : goal.returns-then-not-has
-returns-then-not-has c =
-    let a = c.args in
-    sym (ap told (c.loop-i.invariant ∙ rest_here a.held.now a.taken.now c.loop-i.i outside (omega arith) c.has.ensures c.if-not-has.true))
-
-pub loop-i-preserved : goal.loop-i-preserved
-loop-i-preserved c =
-    let a = c.args in
-    c.loop-i.invariant ∙ rest_on a.held.now a.taken.now c.loop-i.i outside (omega arith) c.has.ensures c.if-not-has.false
-
 pub returns : goal.returns
-returns c = sym (ap told (c.loop-i.invariant ∙ rest_end c.args.held.now c.args.taken.now c.loop-i.i (omega arith)))
+returns c =
+    let a = c.args in
+    let n = length a.taken.now in
+    let f : ℕ → Bool = has_token a.held.now a.taken.now outside in
+    sym (option_map_id c.find.result)
+    ∙ find_from_yields_List (λ i. not (f i)) _ _ _ c.find.ensures.ran (YieldsList-from_range 0 n n refl (sub-zero n)) (λ x b q k. search rules)
+    ∙ found n 0 f ∙ ap told (sym (lacking_failing a.held.now a.taken.now outside))

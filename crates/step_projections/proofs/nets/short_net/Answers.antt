@@ -1,26 +1,21 @@
-use mathlib.Core.Path.{sym, ap, ◌∙◌}
-use native.Mathlib.Omega.{arith}
+-- `short_net` finds the first net of the range that fails.
+use borrow.Author.Rules.{rules}
+use Prim.Native.Nat.{ℕ}
+use mathlib.Core.Path.{refl, sym, ◌∙◌}
+use mathlib.Core.Bool.{Bool, not}
 use native.Mathlib.Nat.{sub-zero}
-use Rattle.step.specs.Verdict.{told}
-use Rattle.eos.proofs.FailingLaws.{failing_on, failing_here, failing_end}
-use Rattle.step_projections.proofs.nets.short_net.Invariants.{test}
+use Rattle.std.proofs.lemmas.Iterator.{YieldsList-from_range}
+use Rattle.std.proofs.lemmas.Iterator.Adapters.{option_map_id}
+use Rattle.std.proofs.lemmas.Iterator.Search.{find_from_yields_List}
+use Rattle.eos.specs.Vector.{le_v}
+use Rattle.model.specs.Held.{row_at}
+use Rattle.step.proofs.FirstFailing.{found}
 use Rattle.step_projections.proofs.nets.short_net.Goals as goal
-
-pub loop-net-init : goal.loop-net-init
-loop-net-init c = rw (sub-zero c.args.nets)
-
-pub returns-then-not-enough : goal.returns-then-not-enough
-returns-then-not-enough c =
-    let a = c.args in
-    sym (ap told (c.loop-net.invariant
-    ∙ failing_here a.nets c.loop-net.net (test a.asked.now a.held.now) (omega arith) (sym c.enough.ensures ∙ c.if-not-enough.true)))
-
-pub loop-net-preserved : goal.loop-net-preserved
-loop-net-preserved c =
-    let a = c.args in
-    c.loop-net.invariant ∙ failing_on a.nets c.loop-net.net (test a.asked.now a.held.now) (omega arith) (sym c.enough.ensures ∙ c.if-not-enough.false)
 
 pub returns : goal.returns
 returns c =
     let a = c.args in
-    sym (ap told (c.loop-net.invariant ∙ failing_end a.nets c.loop-net.net (test a.asked.now a.held.now) (omega arith)))
+    let f : ℕ → Bool = λ n. le_v (row_at a.asked.now n) (row_at a.held.now n) in
+    sym (option_map_id c.find.result)
+    ∙ find_from_yields_List (λ n. not (f n)) _ _ _ c.find.ensures.ran (YieldsList-from_range 0 a.nets a.nets refl (sub-zero a.nets)) (λ x b q k. search rules)
+    ∙ found a.nets 0 f

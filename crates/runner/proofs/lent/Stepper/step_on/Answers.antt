@@ -7,13 +7,12 @@ use Rattle.text.proofs.Basics.{handed_on}
 use Rattle.text_reader.proofs.ReadsLaws.{refused_of}
 use Rattle.eos.specs.Firing.{Step}
 use native.Mathlib.Omega.{arith}
-use lib.ListN.{take}
 use Rattle.model.proofs.HeldTests.{held-is, most-events}
 use Rattle.marking.specs.Sizes.{sizes_for}
 use Rattle.reader.proofs.ReadingLaws.{named_ok, named_err}
 use Rattle.std.specs.declared.result.Result.TheVariants.{Ok}
 use Rattle.text_reader.specs.declared.Reader.{Reader}
-use Rattle.step.specs.Answers.{hold_step, rows_of}
+use Rattle.step.specs.Answers.{hold_step, step_lent}
 use Rattle.runner.specs.Answers.{stays}
 use Rattle.runner.proofs.ReadLaws.{ReadTokens, lines-got}
 use Rattle.runner.proofs.RuledLaws.{RightStep, read_right, rule_is_sound, read_placed}
@@ -28,16 +27,14 @@ lines-read : (c : In_ok-lines) → c.read_step-read.result ≡ Ok c.in_ok-lines.
 lines-read c = named_ok c.args.s.now c.read_step-read.result c.in_ok-lines.ensures
 
 -- the step that was read
-read : (c : In_ok-lines) → let a = c.args in let r = c.read_step-read in let l = c.in_ok-lines.lines in
-    ReadTokens l (take l.take r.new.taken) (take l.give r.new.given) (reading a.self.now.model.now a.k.now a.s.now) r.new.r.at
+read : (c : In_ok-lines) → let a = c.args in ReadTokens c.in_ok-lines.lines (reading a.self.now.model.now a.k.now a.s.now) c.read_step-read.new.r.at
 read c =
     let a = c.args in
-    let m = a.self.now.model.now in
     let r = c.read_step-read in
     let l = c.in_ok-lines.lines in
     let begun : Reader = record { src = a.s; at = 0 } in
-    lines-got l r.new.taken r.new.given _ begun r.new.r
-    (subst (λ (o : Outcome Step). Reads (kept hold_step o) begun r.new.r (Ok (record { event = l.event; taken = rows_of l.take r.new.taken; given = rows_of l.give r.new.given }))) (reading_is m a.k.now a.s.now a.self.now.sizes a.self.now.sized) (rw (lines-read c) at r.ensures))
+    lines-got l _ begun r.new.r
+    (subst (λ (o : Outcome Step). Reads (kept hold_step o) begun r.new.r (step_lent (Ok l))) (reading_is a.self.now.model.now a.k.now a.s.now a.self.now.sizes a.self.now.sized) (rw (lines-read c) at r.ensures))
 
 right : (c : In_ok-lines) → RightStep (sizes_for c.args.self.now.model.now) c.args.self.now.model.now.listed (read c).step
 right c = read_right _ _ c.args.s.now _ _ (read c).is
@@ -55,20 +52,10 @@ returns-in_err-lines-clause-stepped c =
     ∙ step-refused m a.k.now a.s.now a.self.now.room _
     (sym (reading_is m a.k.now a.s.now a.self.now.sizes a.self.now.sized) ∙ (refused_of hold_step _ _ (rw is at c.read_step-read.ensures)).is)))
 
-pub rule_of-requires : goal.rule_of-requires
-rule_of-requires c =
-    let p = (goal.at.rule_of-requires c).In_ok-lines in
-    (c.args.self.now.held, omega (arith, (read p).event-is, (right p).known), c.empty-rule.ensures)
-
-pub shared_ref_as_front-fire : goal.shared_ref_as_front-fire
-shared_ref_as_front-fire c =
-    let p = (goal.at.shared_ref_as_front-fire c).In_ok-lines in
-    omega (arith, (read p).take-is, (right p).take-few)
-
-pub shared_ref_as_front-fire-2 : goal.shared_ref_as_front-fire-2
-shared_ref_as_front-fire-2 c =
-    let p = (goal.at.shared_ref_as_front-fire-2 c).In_ok-lines in
-    omega (arith, (read p).give_is, (right p).give_few)
+pub rule_of-rule-requires : goal.rule_of-rule-requires
+rule_of-rule-requires c =
+    let p = (goal.at.rule_of-rule-requires c).In_ok-lines in
+    (c.args.self.now.held, omega (arith, (read p).event-is, (right p).known))
 
 pub fire-requires : goal.fire-requires
 fire-requires c =
@@ -76,10 +63,10 @@ fire-requires c =
     let t = (read p).step in
     let r = right p in
     let m = c.args.self.now.model.now in
-    let sized = c.rule_of.ensures.sized in
+    let sized = c.rule_of-rule.ensures.sized in
     let held = c.args.self.now.held in (
       c.args.self.now.bounded,
-      rule_is_sound m sized held t r _ _ c.rule_of.ensures.made (read p).event-is,
+      rule_is_sound m sized held t r _ _ c.rule_of-rule.ensures.made (read p).event-is,
       read_placed m sized held t.taken r.taken r.take-few _ (read p).taken_are,
       read_placed m sized held t.given r.given r.give_few _ (read p).given_are,
       (both_stands _ _ c.requires.2 c.requires.0).kept,
@@ -90,5 +77,5 @@ returns-clause-stepped c =
     let a = c.args in
     let m = a.self.now.model.now in
     c.fire.ensures
-    ∙ step-ruled m a.k.now a.s.now a.self.now.room c.rule_of.ensures.sized a.self.now.held (both_stands _ _ c.requires.2 c.requires.0) _ _ _ _
-    (read (goal.at.returns-clause-stepped c).In_ok-lines) _ c.rule_of.ensures.made
+    ∙ step-ruled m a.k.now a.s.now a.self.now.room c.rule_of-rule.ensures.sized a.self.now.held (both_stands _ _ c.requires.2 c.requires.0) _ _
+    (read (goal.at.returns-clause-stepped c).In_ok-lines) _ c.rule_of-rule.ensures.made
