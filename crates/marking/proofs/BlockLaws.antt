@@ -20,7 +20,7 @@ use Rattle.text.proofs.Loops.{loop_turn, loop_bad, loop_done}
 use Rattle.text_reader.specs.Place.{Reads}
 use Rattle.text_reader.specs.declared.Reader.{Reader}
 use Rattle.text_reader.proofs.ReadsLaws.{itself, plainly, read_of, refused_of, first_refused, followed, passes, fails}
-use Rattle.marking.specs.Answers.{hold_block}
+use Rattle.marking.specs.Answers.{hold_line, hold_block}
 use Rattle.text.specs.Token.{Token, read_token, right_token}
 use Rattle.text.specs.declared.Fault.{Fault}
 use Rattle.text.proofs.TestLaws.{within-is}
@@ -66,10 +66,6 @@ insert-long t (u ∷ μ) = go (eos.before t u) (insert-long t μ)
 
 -- ---- one line
 
--- a net-token of numbers that a line gives
-abbrev pub token_at : TokenLine → NetToken
-token_at t = record { place = t.place; counts = t.counts }
-
 module _ (lim : Limits) (z : Sizes) (old : Reader) where
   abbrev line : Outcome Token
   line = read_token (bytes "token=") z.places z.size lim.counts old.src.now old.at
@@ -82,7 +78,7 @@ module _ (lim : Limits) (z : Sizes) (old : Reader) where
   token_refused e k = first_refused text.token_line hold_token line (λ _. make) e k
 
   pub token_read : {new : Reader} (t : TokenLine) → Reads (kept text.token_line line) old new (Ok t)
-      → Reads (kept hold_token (read_net_token lim z old.src.now old.at)) old new (Ok (token_at t))
+      → Reads (kept hold_token (read_net_token lim z old.src.now old.at)) old new (Ok (hold_line t))
   unfolding read_net_token right_token text.token_line
   token_read {new} t k =
       followed text.token_line hold_token line (λ _. make) t _ k
@@ -90,7 +86,7 @@ module _ (lim : Limits) (z : Sizes) (old : Reader) where
       let a = (token_exactly (bytes "token=") z.places z.size lim.counts old.src.now).back old.at v new.at is in
       let w = within-is 1 z.places v.place (and_true (in_range 1 z.places v.place) _ a.fine-is).0 in
       let n : suc (v.place - 1) ≡ v.place = omega (arith, w.0) in
-      let same : token_at t ≡ hold_token (line_token v) = ap token_at held ∙ ap (λ (p : ℕ). record { place = p; counts = padded v.counts }) (sym n) in
+      let same : hold_line t ≡ hold_token (line_token v) = ap hold_line held ∙ ap (λ (p : ℕ). record { place = p; counts = padded v.counts }) (sym n) in
       subst (λ (x : NetToken). Reads (kept hold_token (make v new.at)) new new (Ok x)) (sym same) (passes hold_token (make v new.at) (line_token v) refl refl))
 
 -- a net-token that is read fits

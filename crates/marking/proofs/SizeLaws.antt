@@ -1,26 +1,24 @@
 -- How many counts the net-tokens of a held model have: there is room for them, and they are as many as the model says that is held.
-use Prim.Native.Nat.{ℕ, zero, suc, ◌+◌, ◌-◌, ◌≤◌, ◌<◌}
-use mathlib.Core.Path.{◌≡◌, refl, ap, sym, ◌∙◌}
+use Prim.Native.Nat.{ℕ, zero, suc, ◌-◌, ◌≤◌, ◌<◌}
+use mathlib.Core.Path.{◌≡◌, refl, ap, ◌∙◌}
 use mathlib.Core.List.{List}
 use mathlib.Core.Bool.{true, ◌&&◌}
 use native.Mathlib.Omega.{arith}
-use native.Mathlib.Numerals.{add-one}
 use lib.Dec.{leb, eqb}
-use lib.ListN.{length, get_or, replicate, get_or-eq_default}
-use lib.Seq.{ext_get_or}
+use lib.ListN.{length, get_or, get_or-eq_default}
 use borrow.Author.Tests.{leb-true, eqb-true}
 use Rattle.text.specs.Lines.{in_range}
 use Rattle.text.specs.Answers.{padded}
 use Rattle.text.proofs.TestLaws.{within-is, eqb_and}
 use Rattle.eos.specs.Model as eos
 use Rattle.model.specs.Rules.{nth, right_model}
-use Rattle.model.specs.Held.{no_net, hold_net, hold_nets, hold_model, listed}
+use Rattle.model.specs.Held.{no_net, hold_net, hold_nets, hold_model}
 use Rattle.model.specs.Test.{held_model}
 use Rattle.model.specs.declared.Model.{Model}
 use Rattle.model.specs.declared.ObjectNet.{ObjectNet}
-use Rattle.model.proofs.PaddedRows.{nth-zeros, nth-padded}
+use Rattle.model.proofs.PaddedRows.{nth-padded}
 use Rattle.model.proofs.RuleLaws.{right_is, few-nets, few-places}
-use Rattle.model.proofs.SlotLaws.{cond_from, by_index, length-listed, listed_at, listed_past}
+use Rattle.model.proofs.SlotLaws.{cond_from, by_index, listed_at, listed_past}
 use Rattle.model.proofs.HeldTestLoops.{at_any}
 use Rattle.model.proofs.HoldModel.{net-at, net_past}
 use Rattle.model.proofs.HeldTests.{held-is, most-nets, types-at}
@@ -28,20 +26,18 @@ use Rattle.model.proofs.UsedLaws.{type-below, net_used, count-is}
 use Rattle.marking.specs.Held.{Roomy, sizes_of}
 use Rattle.marking.specs.Sizes.{size_of_type, sizes_in, sizes_for, SmallNets}
 
--- ---- lists by index
-
--- numbers that are f of their index are listed by it
-pub listed_all : (f : ℕ → ℕ) (l : List ℕ) (n : ℕ) → length l ≡ n → ((i : ℕ) → i < n → nth l i ≡ f i) → l ≡ listed f 0 n
-listed_all f l n e h = ext_get_or 0 l (listed f 0 n) (e ∙ sym (length-listed f 0 n)) (λ i p. h i (omega arith) ∙ sym (listed_at f n i 0 (omega arith)))
+-- ---- a type by its number
 
 -- of no type there are no counts
-pub first-size : (objects : List ObjectNet) (n i : ℕ) → i < 0 + 1 → nth (replicate n 0) i ≡ size_of_type objects i
-first-size objects n zero h = nth-zeros n 0
-first-size objects n (suc i) h = absurd (omega arith)
+pub size-none : (objects : List ObjectNet) (t : ℕ) → t ≡ 0 → size_of_type objects t ≡ 0
+size-none objects t e = rw e
 
 -- the size of a net's type is looked up with any net for those past the last
-pub size-at : (objects : List ObjectNet) (n : ℕ) (d : ObjectNet) → n < length objects → (get_or objects n d).places ≡ size_of_type objects (n + 1)
-size-at objects n d h = rw (add-one n) (ap (λ (o : ObjectNet). o.places) (at_any objects n d no_net h))
+pub size-at : (objects : List ObjectNet) (t : ℕ) → (t ≡ 0 → ⊥) → t ≤ length objects → (d : ObjectNet) → (get_or objects (t - 1) d).places ≡ size_of_type objects t
+size-at objects zero n h d = absurd (n refl)
+size-at objects (suc t) n h d =
+    let e : suc t - 1 ≡ t = omega arith in
+    rw e (ap (λ (o : ObjectNet). o.places) (at_any objects t d no_net (omega (arith, h))))
 
 -- ---- a held model
 module _ (m : Model) (h : held_model m ≡ true) where

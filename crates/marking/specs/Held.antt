@@ -1,5 +1,5 @@
 -- How a marking is held: its net-tokens in canonical order, each with 32 counts, unused room 0. And which held markings are right.
-use Rattle.std.specs.Prelude.{ℕ, suc, ◌-◌, ◌≤◌, ◌≡◌, Bool, true, ◌&&◌, List, map, leb, length, take, drop, get_or, replicate}
+use Rattle.std.specs.Prelude.{ℕ, suc, ◌-◌, ◌≤◌, ◌≡◌, Bool, true, ◌&&◌, List, map, eqb, leb, length, take, drop, get_or, replicate}
 use Rattle.text.specs.Lines.{in_range, every}
 use Rattle.text.specs.Answers.{padded}
 use Rattle.eos.specs.Vector.{eq_v}
@@ -61,7 +61,8 @@ held_tokens room z n ts =
 abbrev pub held_marking : ℕ → Sizes → Marking → Bool
 held_marking room z k = held_tokens room z k.len k.tokens
 
--- what every held marking is in code: an array of 256 net-tokens, each of numbers of 16 bits
+-- what every held marking is in code: an array of 256 net-tokens, each with 32 counts, of numbers of 16 bits
 pub record SizedMarking (k : Marking) : Type 0 where
   pub long : length k.tokens ≡ room_limit
+  pub wide : every (λ t. eqb (length t.counts) 32) k.tokens ≡ true
   pub small : every (λ t. every (λ v. leb v count_limit) (row t)) k.tokens ≡ true

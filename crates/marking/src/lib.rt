@@ -5,8 +5,10 @@ ghost use Rattle.std.specs.Prelude.{◌≡◌, ◌≤◌, length};
 ghost use Rattle.model.specs.Limits.{room_limit};
 ghost use Rattle.marking.specs.Tokens.{no_token, tokens_in};
 ghost use Rattle.marking.specs.Held.{no_marking, as_sizes};
+ghost use Rattle.marking.specs.Answers.{hold_line};
 
 use model::Model;
+use text::TokenLine;
 
 // A net-token: its place's number, from 1, and its counts; unused room is 0. The derived order, by place and then by counts from the first
 // on, is the canonical order of a marking.
@@ -26,6 +28,16 @@ impl NetToken {
             place: 0,
             counts: [0; 32],
         }
+    }
+}
+
+// A net-token as its line says it.
+impl From<TokenLine> for NetToken {
+    ghost from_gives = { λ line token. token ≡ hold_line line };
+
+    fn from(line: TokenLine) -> NetToken {
+        let TokenLine { place, counts } = line;
+        NetToken { place, counts }
     }
 }
 

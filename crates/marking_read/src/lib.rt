@@ -13,15 +13,15 @@ ghost use Rattle.marking.specs.Answers.{hold_block};
 use marking::{Marking, NetToken, PlaceSizes};
 use marking_edit::insert;
 use model::Model;
-use text::{Fault, TokenLine};
+use text::Fault;
 use text_reader::Reader;
 
 // The line of a net-token.
 pub fn net_token(r: &mut Reader, z: &PlaceSizes) -> Result<NetToken, Fault>
     ensures { Reads (kept hold_token (read_net_token (limits line_limit count_limit) (as_sizes z.now) r.old.src.now r.old.at)) r.old r.new result }
 {
-    let TokenLine { place, counts } = r.token(b"token=", z.places, &z.sizes, Model::COUNT)?;
-    Ok(NetToken { place, counts })
+    let line = r.token(b"token=", z.places, &z.sizes, Model::COUNT)?;
+    Ok(NetToken::from(line))
 }
 
 // The lines of n net-tokens, put into a marking that has none.

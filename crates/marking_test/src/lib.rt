@@ -12,6 +12,7 @@ ghost use Rattle.marking.specs.Sizes.{size_of_type, sizes_in, place_sizes};
 
 use marking::{Marking, NetToken, PlaceSizes};
 use model::{Model, ObjectNet};
+use std::array;
 
 // Whether a net-token is right: its place is one of the model's, and what follows the counts of the place is 0.
 fn token_held(t: &NetToken, z: &PlaceSizes) -> bool
@@ -68,12 +69,11 @@ fn by_type(objects: &[ObjectNet; 8]) -> [u8; 9]
     requires { (n : ℕ) → n < 8 → (get_or objects.now n no_net).places ≤ 32 }
     ensures { result ≡ listed (size_of_type objects.now) 0 9 }
 {
-    let mut sizes = [0u8; 9];
-    for n in 0..8 {
+    array::from_fn(|t| match t {
+        0 => 0,
         // At most 32 inner places: there is no refusal to hand on.
-        sizes[n + 1] = objects[n].places as u8;
-    }
-    sizes
+        net => objects[net - 1].places as u8,
+    })
 }
 
 // For each place, how many counts a net-token has.
@@ -82,11 +82,7 @@ fn sizes(m: &Model) -> [u8; 32]
     ensures { result ≡ sizes_in m.now }
 {
     let of_type = by_type(&m.objects);
-    let mut sizes = [0u8; 32];
-    for p in 0..32 {
-        sizes[p] = of_type[usize::from(m.types[p])];
-    }
-    sizes
+    array::from_fn(|p| of_type[usize::from(m.types[p])])
 }
 
 // How many places a held model has, and how many counts the net-tokens of each.

@@ -1,4 +1,5 @@
-// A held marking written into a lent buffer. Its bytes are counted first: a buffer that is too small is not touched.
+// A held marking written into a lent buffer. Its bytes are counted first: a buffer that is too small is not touched. The functions take the
+// buffer and a position, since a text is laid behind what stands in the buffer already: a struct of both would be taken apart at each call.
 #![tactic(auto)]
 
 ghost use Rattle.std.specs.Prelude.{◌≡◌, true, ◌+◌, ◌*◌, ◌≤◌, length};

@@ -16,7 +16,7 @@ use Rattle.text.proofs.Basics as T
 use Rattle.text.proofs.Basics.{by_test}
 use Rattle.model.specs.Rules.{nth, Frame}
 use Rattle.model.specs.Held.{no_net, row_at}
-use Rattle.model.specs.Test.{empty, empty_past, used_of, held_events, frame_in, counts_are, empty_at, used_in, sizes_are, framed, event_at}
+use Rattle.model.specs.Test.{empty, empty_past, used_of, held_events, frame_in, counts_are, empty_at, used_in, sizes_are, frame_with, event_at}
 use Rattle.model.specs.declared.Model.{Model}
 
 -- ---- a test that is made first
@@ -123,8 +123,8 @@ few-counts nets places moves listed e =
     )
 
 module _ (m : Model) (steps : List ℕ) (h : (n : ℕ) → nth steps n ≡ (get_or m.objects n no_net).transitions) where
-  -- the frame of a held model, from its numbers
-  frame_is : framed m.places m.moves m.nets m.types steps ≡ frame_in m
+  -- the frame of a held model, how many transitions each net has from a list
+  frame_is : frame_with m steps ≡ frame_in m
   frame_is = λ i. record {
     places = m.places;
     moves = m.moves;
@@ -133,6 +133,6 @@ module _ (m : Model) (steps : List ℕ) (h : (n : ℕ) → nth steps n ≡ (get_
     steps = λ n. h n i;
   }
 
-  pub events_are : all_below 64 (event_at (framed m.places m.moves m.nets m.types steps) m.listed m.events) ≡ held_events m
+  pub events_are : all_below 64 (event_at (frame_with m steps) m.listed m.events) ≡ held_events m
   unfolding held_events
   events_are = ap (λ (f : Frame). all_below 64 (event_at f m.listed m.events)) frame_is

@@ -1,6 +1,6 @@
 -- Laws of things put into slots by their index, listed by their index, and tested by their index.
 use Prim.Native.Nat.{ℕ, zero, suc, ◌+◌, ◌≤◌, ◌<◌}
-use mathlib.Core.Path.{◌≡◌, refl, sym, ◌∙◌}
+use mathlib.Core.Path.{◌≡◌, refl, sym, subst, ◌∙◌}
 use mathlib.Core.List.{List, [], ◌∷◌}
 use mathlib.Core.Bool.{Bool, true, cond}
 use native.Mathlib.Omega.{arith}
@@ -9,6 +9,8 @@ use lib.Dec.{ltb}
 use borrow.Author.Tests.{lt-ltb, le-ltb, ltb-true, ltb-false}
 use lib.ListN.{length, get_or, replicate, length-replicate, length-set, get_or-replicate, get_or-eq_default}
 use lib.Seq.{get_or-set_same, get_or-set_other}
+use denote.Param.Members.{Mut, Called}
+use Rattle.std.specs.Array.{IsFromFnResultFrom, IsFromFnResult}
 use Rattle.text.specs.Repeat.{fill}
 use Rattle.text.proofs.Basics.{by_test}
 use Rattle.eos.specs.Firing.{all_below}
@@ -144,3 +146,22 @@ module _ {A B : Type 0} (f : A → B) (none : B) where
       fill_past (put_at f) (λ t i. get_or t i none) f (λ n t. n ≤ length t) array_slots n l i (replicate n none) (rw (length-replicate n none) (omega arith)) p q
       ∙ get_or-replicate n i none none q)
       (λ q. get_or-eq_default (fill (put_at f) 0 l (replicate n none)) none (rw (length-held l n) q))
+
+-- what a closure makes at each index below n is listed by index, where its call at an index leaves it as it is and answers `value` there
+module _ {F B : Type 0} (g : Mut F (ℕ × Unit {0}) B) (f : F) (value : ℕ → B) (n : ℕ)
+    (one : (i : ℕ) → i < n → (b : B) (q : F) → Called g f (i, tt) b q → (q ≡ f) × (b ≡ value i)) (l : List B) (d : B)
+  where
+    made_at : (i k : ℕ) → i + k ≤ n → IsFromFnResultFrom g f l i k → (j : ℕ) → j < k → value (i + j) ≡ get_or l (i + j) d
+    made_at i zero few made j h = absurd (omega (arith, h))
+    made_at i (suc k) few (q, b, at, call, rest) zero h =
+        rw (add-zero i) (sym (at.1 d ∙ (one i (omega (arith, few)) b q call).1))
+    made_at i (suc k) few (q, b, at, call, rest) (suc j) h =
+        let same = (one i (omega (arith, few)) b q call).0 in
+        let e : i + 1 + j ≡ i + suc j = omega arith in
+        rw (← e) (made_at (i + 1) k (omega (arith, few)) (subst (λ x. IsFromFnResultFrom g x l (i + 1) k) same rest) j (omega (arith, h)))
+
+    pub made_listed : IsFromFnResult g f l n → l ≡ listed value 0 n
+    made_listed made =
+        let at : (j : ℕ) → j < length l → value j ≡ get_or l j d =
+        λ j h. let e : 0 + j ≡ j = omega arith in rw e at (made_at 0 n (omega arith) made.each j (omega (arith, made.long, h))) in
+        sym (listed-is value l d at) ∙ rw made.long

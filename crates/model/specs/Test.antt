@@ -86,6 +86,10 @@ frame_in m = record {
 abbrev pub framed : ℕ → ℕ → ℕ → List ℕ → List ℕ → Frame
 framed places moves nets types steps = record { places = places; moves = moves; nets = nets; type = nth types; steps = nth steps }
 
+-- the same of a model, how many transitions each net has from a list
+abbrev pub frame_with : Model → List ℕ → Frame
+frame_with m steps = framed m.places m.moves m.nets m.types steps
+
 -- the counts of net n in an event
 abbrev pub part_at : ℕ → List (List ℕ) → ℕ → Bool
 part_at own sync n = takes_part own n (row_at sync n)

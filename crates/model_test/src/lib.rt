@@ -6,7 +6,7 @@ ghost use Rattle.text.specs.Lines.{in_range, every};
 ghost use Rattle.eos.specs.Firing.{all_below};
 ghost use Rattle.model.specs.Rules.{nth};
 ghost use Rattle.model.specs.Held.{no_net, no_event};
-ghost use Rattle.model.specs.Test.{empty, empty_past, used_of, held_moves, held_event, empty_event, held_model, used_in, type_at, move_at, sizes_are, net_is, net_at, counts_are, framed, part_at, event_is, event_at};
+ghost use Rattle.model.specs.Test.{empty, empty_past, used_of, held_moves, held_event, empty_event, held_model, used_in, type_at, move_at, sizes_are, net_is, net_at, counts_are, frame_with, part_at, event_is, event_at};
 
 use model::{Event, Model, ObjectNet};
 use model_acts::{act_held, own_net};
@@ -134,41 +134,53 @@ fn parts_held(own: u8, nets: usize, sync: &[[u8; 32]; 8]) -> bool
     (0..nets).all(|n| takes_part(own, n, &sync[n]))
 }
 
-fn event_held(m: &Model, steps: &[usize; 8], e: &Event) -> bool
-    requires { (m.now.places ≤ 32) × (m.now.moves ≤ 32) × (m.now.nets ≤ 8) }
-    ensures { result ≡ held_event (framed m.now.places m.now.moves m.now.nets m.now.types steps.now) e.now }
-{
-    act_held(m.places, m.moves, &m.types, e)
-        && (empty_past(&e.sync, m.nets, steps)
-            && parts_held(own_net(&m.types, e.act()), m.nets, &e.sync))
-}
-
 fn event_empty(e: &Event) -> bool
     ensures { result ≡ empty_event e.now }
 {
     e.kind == 0 && (e.index == 0 && rows_empty(&e.sync))
 }
 
-// Whether event k may be e.
-fn event_is(m: &Model, steps: &[usize; 8], k: usize, e: &Event) -> bool
-    requires { (m.now.places ≤ 32) × (m.now.moves ≤ 32) × (m.now.nets ≤ 8) }
-    ensures { result ≡ event_is (framed m.now.places m.now.moves m.now.nets m.now.types steps.now) m.now.listed k e.now }
-{
-    if k < m.listed {
-        event_held(m, steps, e)
-    } else {
-        event_empty(e)
-    }
+// What the events of a model depend on: the model, its counts in range, and how many transitions each net has.
+#[derive(Clone, Copy)]
+struct Frame<'a> {
+    model: &'a Model,
+    steps: [usize; 8],
+    ghost places: { model.now.places ≤ 32 },
+    ghost moves: { model.now.moves ≤ 32 },
+    ghost nets: { model.now.nets ≤ 8 },
 }
 
-fn events_held(m: &Model, steps: &[usize; 8]) -> bool
-    requires { (m.now.places ≤ 32) × (m.now.moves ≤ 32) × (m.now.nets ≤ 8) }
-    ensures { result ≡ all_below 64 (event_at (framed m.now.places m.now.moves m.now.nets m.now.types steps.now) m.now.listed m.now.events) }
-{
-    m.events
-        .iter()
-        .enumerate()
-        .all(|(k, e)| event_is(m, steps, k, e))
+impl Frame<'_> {
+    // Whether an event that is used may be e.
+    fn event_held(&self, e: &Event) -> bool
+        ensures { result ≡ held_event (frame_with self.now.model.now self.now.steps) e.now }
+    {
+        let m = self.model;
+        act_held(m.places, m.moves, &m.types, e)
+            && (empty_past(&e.sync, m.nets, &self.steps)
+                && parts_held(own_net(&m.types, e.act()), m.nets, &e.sync))
+    }
+
+    // Whether event k may be e.
+    fn event_is(&self, k: usize, e: &Event) -> bool
+        ensures { result ≡ event_is (frame_with self.now.model.now self.now.steps) self.now.model.now.listed k e.now }
+    {
+        if k < self.model.listed {
+            self.event_held(e)
+        } else {
+            event_empty(e)
+        }
+    }
+
+    fn events_held(&self) -> bool
+        ensures { result ≡ all_below 64 (event_at (frame_with self.now.model.now self.now.steps) self.now.model.now.listed self.now.model.now.events) }
+    {
+        self.model
+            .events
+            .iter()
+            .enumerate()
+            .all(|(k, e)| self.event_is(k, e))
+    }
 }
 
 fn counts_held(m: &Model) -> bool
@@ -184,8 +196,11 @@ fn counts_held(m: &Model) -> bool
 pub fn is_held(m: &Model) -> bool
     ensures { result ≡ held_model m.now }
 {
-    counts_held(m)
-        && (types_held(m.nets, m.places, &m.types)
-            && (moves_held(m)
-                && (nets_held(m.nets, &m.objects) && events_held(m, &transitions_of(&m.objects)))))
+    if !counts_held(m) {
+        return false;
+    }
+    let steps = transitions_of(&m.objects);
+    let frame = Frame { model: m, steps };
+    types_held(m.nets, m.places, &m.types)
+        && (moves_held(m) && (nets_held(m.nets, &m.objects) && frame.events_held()))
 }

@@ -1,16 +1,16 @@
 -- Laws of what a text begins with, and of the lines that end in it.
-use Prim.Native.Nat.{ℕ, ◌+◌, ◌-◌, ◌≤◌, ◌<◌, min}
+use Prim.Native.Nat.{ℕ, ◌+◌, ◌-◌, ◌≤◌, min}
 use mathlib.Core.Path.{◌≡◌, refl, sym, ◌∙◌}
-use mathlib.Core.List.{[], ◌∷◌, ◌++◌}
+use mathlib.Core.List.{[], ◌∷◌}
 use mathlib.Core.Bool.{true, false≢true}
 use native.Mathlib.Omega.{arith}
-use native.Mathlib.Numerals.{add-one}
 use lib.Dec.{eqb, leb}
-use Rattle.std.specs.List.{starts_with}
+use Rattle.std.specs.List.{starts_with, count_by}
+use Rattle.std.proofs.lemmas.List.Recursion.{is_count_by}
 use native.Mathlib.Nat.{min-eq_left}
 use borrow.Author.Tests.{eq-eqb, ne_eqb, eqb-true, eqb-false, leb-true, leb-false}
-use lib.ListN.{length, take, drop, get_or, drop_of_length-le, length-drop}
-use lib.Seq.{take-suc, take_all}
+use lib.ListN.{length, take, drop, drop_of_length-le, length-drop}
+use lib.Seq.{take_all}
 use Rattle.text.specs.Bytes.{Text, lf, starts, newlines, line_at}
 use Rattle.text.proofs.Basics.{by_test}
 
@@ -53,37 +53,21 @@ key_past key s at e = omega (arith, starts-length key (drop at s) e, length-drop
 
 -- ---- line numbers
 
-lines_cons : (b : ℕ) (s t : Text) (k : ℕ) → newlines t ≡ newlines s + k → newlines (b ∷ t) ≡ newlines (b ∷ s) + k
+-- the lines ended in a text are its bytes LF
+newlines_counted : (s : Text) → newlines s ≡ count_by (λ b. eqb b lf) s
 unfolding newlines
-lines_cons b s t k e = by_test (eqb b lf) (λ h. rw (h, newlines) (omega arith)) (λ h. rw (h, newlines) e)
+newlines_counted s =
+    is_count_by newlines (λ b. eqb b lf) refl (λ b s. by_test (eqb b lf) (λ h. rw (h, newlines) (omega arith)) (λ h. rw (h, newlines))) s
 
-lines_end : (s : Text) (b : ℕ) → b ≡ lf → newlines (s ++ (b ∷ [])) ≡ newlines s + 1
-unfolding newlines
-lines_end [] b e = rw (eq-eqb b lf e, newlines)
-lines_end (c ∷ s) b e = lines_cons c s (s ++ (b ∷ [])) 1 (lines_end s b e)
-
-lines_other : (s : Text) (b : ℕ) → (b ≡ lf → ⊥) → newlines (s ++ (b ∷ [])) ≡ newlines s + 0
-unfolding newlines
-lines_other [] b e = rw (ne_eqb b lf e, newlines)
-lines_other (c ∷ s) b e = lines_cons c s (s ++ (b ∷ [])) 0 (lines_other s b e)
-
-pub line_first : (s : Text) → 1 ≡ line_at s 0
-unfolding newlines
-line_first s = refl
-
-module _ (s : Text) (i : ℕ) (h : i < length s) where
-  pub line_more : get_or s i 0 ≡ lf → line_at s i + 1 ≡ line_at s (i + 1)
-  line_more e = let z = lines_end (take i s) (get_or s i 0) e in rw (add-one i, take-suc s i 0 h) (omega (arith, z))
-
-  pub line_same : (get_or s i 0 ≡ lf → ⊥) → line_at s i ≡ line_at s (i + 1)
-  line_same e = let z = lines_other (take i s) (get_or s i 0) e in rw (add-one i, take-suc s i 0 h) (omega (arith, z))
-
-pub line_last : (s : Text) (i at : ℕ) → length s ≤ i → i ≤ at → line_at s i ≡ line_at s at
+line_last : (s : Text) (i at : ℕ) → length s ≤ i → i ≤ at → line_at s i ≡ line_at s at
 line_last s i at h k = rw (take_all at s (omega arith), take_all i s h)
 
 -- past the end of the text there is no line more
-pub line_within : (s : Text) (at : ℕ) → line_at s (min at (length s)) ≡ line_at s at
+line_within : (s : Text) (at : ℕ) → line_at s (min at (length s)) ≡ line_at s at
 line_within s at =
     by_test (leb at (length s))
     (λ h. rw (min-eq_left (leb-true at (length s) h)))
     (λ h. let k = leb-false at (length s) h in line_last s (min at (length s)) at (omega (arith, k)) (omega (arith, k)))
+
+pub line_counted : (s : Text) (at n : ℕ) → n ≡ count_by (λ b. eqb b lf) (take (min at (length s)) s) → n + 1 ≡ line_at s at
+line_counted s at n e = let z = newlines_counted (take (min at (length s)) s) in omega (arith, e, z, line_within s at)

@@ -12,10 +12,12 @@ use Rattle.text.specs.Number.{Read, missing, number, item}
 use Rattle.text.specs.Lines.{Outcome, bad, fault, need, judged, in_range, behind, read_number, read_head}
 use Rattle.std.specs.Prelude.{Result}
 use Rattle.std.specs.declared.result.Result.TheVariants.{Ok, Err}
+use Rattle.std.specs.declared.option.Option.TheVariants.{Some}
+use Rattle.text.specs.Capped.{cap, capped}
 use Rattle.text.specs.Answers.{parsed}
 use Rattle.text.specs.declared.Fault.{Fault}
 use Rattle.text.specs.declared.Parsed.{Parsed}
-use Rattle.text.proofs.NumberLaws.{Exact, Capped}
+use Rattle.text.proofs.NumberLaws.{Exact, Capped, exact_of}
 use Rattle.text.specs.declared.Cause.{Cause}
 use Rattle.text.specs.declared.Cause.TheVariants.{Syntax, Range}
 
@@ -64,6 +66,21 @@ module _ {A : Type 0} (key : Text) (f : ℕ → Read A) (s : Text) (at : ℕ) wh
   unfolding behind
   behind-key e = rw (e, behind)
 
+-- a key, and a number with the byte `stop` right behind it, from what is answered: whether the key stands there, and what was read behind it
+module _ (key s : Text) (at stop : ℕ) (t : Bool) (is : t ≡ starts key (drop at s)) where
+  pub no_key : t ≡ false → behind key (item number stop s) s at ≡ missing
+  no_key e = behind_other key (item number stop s) s at (sym is ∙ e)
+
+  module _ (key-is : t ≡ true) where
+    pub no_number : item number stop s (at + length key) ≡ missing → behind key (item number stop s) s at ≡ missing
+    no_number e = behind-key key (item number stop s) s at (sym is ∙ key-is) ∙ e
+
+    pub key_number : (p : Parsed ℕ) → Some p ≡ capped (item number stop s (at + length key)) → (v : ℕ) → v ≡ p.value
+        → Exact (behind key (item number stop s) s at) (Capped v) p.end
+    key_number p r v same =
+        let x = exact_of cap (item number stop s (at + length key)) p r in
+        record { value = x.value; is = behind-key key (item number stop s) s at (sym is ∙ key-is) ∙ x.is; told = same ∙ x.told }
+
 -- ---- a test
 
 module _ {A : Type 0} (t : Bool) (cause : Cause) (at : ℕ) (o : Outcome A) where
@@ -81,25 +98,20 @@ module _ (key s : Text) (at lo hi : ℕ) where
   abbrev pub number_answer : Result (Parsed ℕ) Fault
   number_answer = parsed (read_number key (in_range lo hi) s at)
 
-  pub line_other : starts key (drop at s) ≡ false → number_answer ≡ Err (fault Syntax at)
+  pub line-missing : behind key (item number lf s) s at ≡ missing → number_answer ≡ Err (fault Syntax at)
   unfolding read_number judged parsed
-  line_other e = rw (behind_other key (item number lf s) s at e)
+  line-missing e = rw e
 
-  module _ (key-is : starts key (drop at s) ≡ true) where
-    pub line-missing : item number lf s (at + length key) ≡ missing → number_answer ≡ Err (fault Syntax at)
-    unfolding read_number judged parsed
-    line-missing e = rw (behind-key key (item number lf s) s at key-is, e)
+  module _ (lo-fits : lo < 65536) (hi-fits : hi < 65536) (v u : ℕ) (h : Exact (behind key (item number lf s) s at) (Capped v) u) where
+    pub line_out : in_range lo hi v ≡ false → number_answer ≡ Err (fault Range at)
+    unfolding read_number judged parsed need
+    line_out e = rw (h.is, capped-within lo hi v h.value lo-fits hi-fits h.told, e)
 
-    module _ (lo-fits : lo < 65536) (hi-fits : hi < 65536) (v u : ℕ) (h : Exact (item number lf s (at + length key)) (Capped v) u) where
-      pub line_out : in_range lo hi v ≡ false → number_answer ≡ Err (fault Range at)
-      unfolding read_number judged parsed need
-      line_out e = rw (behind-key key (item number lf s) s at key-is, h.is, capped-within lo hi v h.value lo-fits hi-fits h.told, e)
-
-      pub line-value : in_range lo hi v ≡ true → number_answer ≡ Ok (record { value = v; end = u })
-      unfolding read_number judged parsed need
-      line-value e =
-          let same : h.value ≡ v = omega (arith, h.told, within-most lo hi v e) in
-          rw (behind-key key (item number lf s) s at key-is, h.is, capped-within lo hi v h.value lo-fits hi-fits h.told, e, same)
+    pub line-value : in_range lo hi v ≡ true → number_answer ≡ Ok (record { value = v; end = u })
+    unfolding read_number judged parsed need
+    line-value e =
+        let same : h.value ≡ v = omega (arith, h.told, within-most lo hi v e) in
+        rw (h.is, capped-within lo hi v h.value lo-fits hi-fits h.told, e, same)
 
 -- ---- the first line
 

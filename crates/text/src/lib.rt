@@ -15,7 +15,7 @@ pub struct Parsed<T> {
 
 // Why a line is refused: it is not of the form that is wanted there, a number is out of its range, a move takes racks of a net and gives
 // none, or an event idles at a place without a net, with another net or with no transition.
-#[derive(Clone, Copy, PartialEq, Eq)]
+#[derive(Clone, Copy, PartialEq, Eq, Debug)]
 pub enum Cause {
     Syntax,
     Range,
@@ -38,7 +38,7 @@ impl Cause {
 }
 
 // A fault: its cause, the position at which the line at fault begins, and that of the byte at fault, for which the line's first stands.
-#[derive(Clone, Copy)]
+#[derive(Clone, Copy, PartialEq, Eq, Debug)]
 pub struct Fault {
     pub cause: Cause,
     pub at: usize,
@@ -46,7 +46,7 @@ pub struct Fault {
 }
 
 // A fault as an answer names it: its cause, and the number of its line, from 1.
-#[derive(Clone, Copy)]
+#[derive(Clone, Copy, PartialEq, Eq, Debug)]
 pub struct Spot {
     pub cause: Cause,
     pub line: usize,

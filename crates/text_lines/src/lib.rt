@@ -1,4 +1,5 @@
-// Lines `key=number`, and the first line of a file. A key has its '=' at its end.
+// Lines `key=number`, and the first line of a file. A key has its '=' at its end. The functions of a line take the bytes and a place: 01 has
+// them know no reader.
 #![tactic(auto)]
 
 ghost use Rattle.std.specs.Prelude.{◌≡◌};

@@ -1,5 +1,5 @@
 // Lines `key=list`, and the lists in them. A key has its '=' at its end. The type of the values says whether a minus sign may stand before
-// one.
+// one. The functions of a line take the bytes and a place: 01 has them know no reader.
 #![tactic(auto)]
 
 ghost use Rattle.std.specs.Prelude.{◌≡◌, leb};
@@ -65,7 +65,7 @@ pub fn list_end<V: Value>(
     })
 }
 
-// The line of key and n values.
+// The line of key and n values. Their limit has 16 bits for every type of values: a narrower one would ask more of callers.
 pub fn list_line<V: Value>(
     s: &[u8],
     at: usize,

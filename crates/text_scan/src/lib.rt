@@ -30,13 +30,8 @@ pub fn starts(s: &[u8], at: usize, key: &[u8]) -> bool
 pub fn line_at(s: &[u8], at: usize) -> usize
     ensures { result ≡ line_at s.now at }
 {
-    let mut line = 1;
-    for i in 0..at.min(s.len()) {
-        if s[i] == b'\n' {
-            line += 1;
-        }
-    }
-    line
+    let before = &s[..at.min(s.len())];
+    before.iter().filter(|b| **b == b'\n').count() + 1
 }
 
 // The fault of a line that begins at `at`.

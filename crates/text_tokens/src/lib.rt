@@ -1,4 +1,4 @@
-// The line `token=place:counts`.
+// The line `token=place:counts`. The functions of a line take the bytes and a place: 01 has them know no reader.
 #![tactic(auto)]
 
 ghost use Rattle.std.specs.Prelude.{◌≡◌, true, ◌-◌, leb, get_or};

@@ -1,4 +1,5 @@
-// Texts that fit, laid into a lent buffer from a position on. A writer answers the position after its text.
+// Texts that fit, laid into a lent buffer from a position on. A writer answers the position after its text. It takes the buffer and the
+// position, since a text is laid behind what stands in the buffer already: a struct of both would be taken apart at each call.
 #![tactic(auto)]
 
 ghost use Rattle.std.specs.Prelude.{◌≡◌, ◌+◌, ◌≤◌, length};

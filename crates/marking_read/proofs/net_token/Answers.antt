@@ -5,9 +5,9 @@ use Rattle.marking.specs.Reading.{limits}
 use Rattle.marking.proofs.BlockLaws.{token_refused, token_read}
 use Rattle.marking_read.proofs.net_token.Goals as goal
 
-pub returns-in_err-place : goal.returns-in_err-place
-returns-in_err-place c =
-    rw (handed_on _ c.from_residual.ensures.1) (token_refused (limits 256 65535) (as_sizes c.args.z.now) c.args.r.now _ c.in_err-place.ensures)
+pub returns-in_err-line : goal.returns-in_err-line
+returns-in_err-line c =
+    rw (handed_on _ c.from_residual.ensures.1) (token_refused (limits 256 65535) (as_sizes c.args.z.now) c.args.r.now _ c.in_err-line.ensures)
 
 pub returns : goal.returns
-returns c = token_read (limits 256 65535) (as_sizes c.args.z.now) c.args.r.now _ c.in_ok-place.ensures
+returns c = rw (c.from.ensures) (token_read (limits 256 65535) (as_sizes c.args.z.now) c.args.r.now _ c.in_ok-line.ensures)

@@ -1,38 +1,25 @@
-use Prim.Native.Nat.{ℕ}
-use mathlib.Core.Path.{◌≡◌, refl, ap, ◌∙◌}
-use mathlib.Core.List.{List}
-use native.Mathlib.Omega.{arith}
-use lib.ListN.{length-set}
+-- `sizes` lists, for each place, the size of its type.
+use Rattle.std.proofs.Common.{rules, ◌≡◌, ◌∙◌, ap, ℕ, ◌<◌, length, get_or, arith, List}
+use Rattle.std.proofs.iter.Serving.{serving}
 use Rattle.model.specs.Rules.{nth}
-use Rattle.model.proofs.HeldTestLoops.{filled_turn}
-use Rattle.model.proofs.SlotLaws.{listed_at}
+use Rattle.model.proofs.SlotLaws.{listed_at, made_listed}
 use Rattle.marking.specs.Sizes.{size_of_type, sizes_in}
-use Rattle.marking.proofs.SizeLaws.{net-few, type-few, listed_all}
-use Rattle.marking_test.proofs.sizes.Invariants.{size_at}
+use Rattle.marking.proofs.SizeLaws.{net-few, type-few}
 use Rattle.marking_test.proofs.sizes.Goals as goal
 
 pub by_type-of_type-requires : goal.by_type-of_type-requires
-by_type-of_type-requires c =
-    net-few c.args.m.now c.requires
+by_type-of_type-requires c = net-few c.args.m.now c.requires
 
-pub loop-p-init : goal.loop-p-init
-loop-p-init c = (omega arith, refl, λ i h. absurd (omega arith))
-
-pub bounds-of_type-from : goal.bounds-of_type-from
-bounds-of_type-from c =
-    omega (arith, c.from.ensures, type-few c.args.m.now c.requires c.loop-p.p c.loop-p-test.true)
-
-pub loop-p-preserved : goal.loop-p-preserved
-loop-p-preserved c =
-    let m = c.args.m.now in
-    let t = type-few m c.requires c.loop-p.p c.loop-p-test.true in
-    let d = nth m.types c.loop-p.p in
-    let e = ap (λ (x : List ℕ). nth x d) c.by_type-of_type.ensures ∙ listed_at (size_of_type m.objects) 9 d 0 (omega arith) in
-    (omega arith, (simp length-set c.loop-p.invariant.1), rw c.from.ensures (filled_turn (size_at m) c.loop-p.sizes c.loop-p.p _ (omega arith) c.loop-p.invariant.2 e))
+pub from_fn-requires : goal.from_fn-requires
+from_fn-requires c =
+    let few = type-few c.args.m.now c.requires in
+    let long : length c.by_type-of_type.result ≡ 9 = search rules in
+    grind serving
 
 pub returns : goal.returns
 unfolding sizes_in
 returns c =
     let m = c.args.m.now in
-    let e : c.loop-p.p ≡ 32 = omega arith in
-    listed_all (size_at m) c.loop-p.sizes 32 c.loop-p.invariant.1 (rw e at c.loop-p.invariant.2)
+    let of_type : (p : ℕ) → p < 32 → get_or c.by_type-of_type.result (nth m.types p) 0 ≡ size_of_type m.objects (nth m.types p) =
+    λ p h. ap (λ (x : List ℕ). get_or x (nth m.types p) 0) c.by_type-of_type.ensures ∙ listed_at (size_of_type m.objects) 9 (nth m.types p) 0 (omega (arith, type-few m c.requires p h)) in
+    made_listed _ _ (λ p. size_of_type m.objects (nth m.types p)) 32 (λ p h b q k. search (rules, of_type p h)) _ 0 c.from_fn.ensures.items
