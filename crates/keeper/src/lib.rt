@@ -31,7 +31,7 @@ pub struct HeldWeights {
 
 // Why weights do not pass: their file is not read, or they are turned down, since all of them are 0 (beside it the last line) or since an event
 // does not balance (beside it that event, from 1).
-#[derive(Clone, Copy)]
+#[derive(Clone, Copy, PartialEq, Eq, Debug)]
 pub enum WeightRefusal {
     Unread(ReadRefusal),
     Weightless { line: usize },

@@ -90,7 +90,7 @@ fn event(r: &mut Reader, m: &Model) -> Result<Event, Fault>
     Ok(Event::new(act, sync))
 }
 
-// The lines of n events, which are laid into a model that has none.
+// The lines of n events, which are laid into a model that has none, as the object nets are.
 pub fn events(r: &mut Reader, n: usize, m: &mut Model) -> Result<(), Fault>
     requires fitting { Fitting m.old }
     requires none { (n ≤ 64) × (m.old.events ≡ replicate 64 no_event) }

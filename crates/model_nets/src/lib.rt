@@ -70,7 +70,7 @@ fn net(r: &mut Reader) -> Result<ObjectNet, Fault>
     })
 }
 
-// The lines of n object nets, which are laid into room for them.
+// The lines of n object nets, which are laid into the model's room for them: in fixed memory, where they are not copied.
 pub fn nets(r: &mut Reader, n: usize, objects: &mut [ObjectNet; 8]) -> Result<(), Fault>
     requires { (n ≤ 8) × (objects.old ≡ replicate 8 no_net) }
     ensures { Reads (kept hold_nets (many (read_net r.old.src.now) n r.old.at)) r.old r.new (lent objects.new result) }

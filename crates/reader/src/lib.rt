@@ -16,7 +16,7 @@ use text_scan::spot_of;
 mod lines;
 
 // Why a text is not read: it is too long, what it is lent with is not held, or one of its lines is at fault.
-#[derive(Clone, Copy)]
+#[derive(Clone, Copy, PartialEq, Eq, Debug)]
 pub enum ReadRefusal {
     TooLong,
     NotHeld,
@@ -31,7 +31,7 @@ pub struct ModelReading {
 }
 
 // Why a marking is not written into lent bytes.
-#[derive(Clone, Copy)]
+#[derive(Clone, Copy, PartialEq, Eq, Debug)]
 pub enum WriteRefusal {
     Unheld,
     TooSmall { needed: usize },

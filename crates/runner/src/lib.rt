@@ -11,7 +11,7 @@ pub mod lent;
 pub mod stepping;
 
 // Why a step is not fired: its text is not read, or the step is turned down.
-#[derive(Clone, Copy)]
+#[derive(Clone, Copy, PartialEq, Eq, Debug)]
 pub enum StepRefusal {
     Unread(ReadRefusal),
     Turned(Refusal),
