@@ -2,7 +2,7 @@
 use Prim.Native.Nat.{ℕ, zero, suc, ◌+◌, ◌≤◌, ◌<◌}
 use mathlib.Core.Path.{◌≡◌, refl, ap, sym, ◌∙◌}
 use mathlib.Core.Bool.{Bool, true, false}
-use mathlib.Core.List.{List, [], ◌∷◌}
+use mathlib.Core.List.{List, []}
 use mathlib.Core.Option.{some}
 use native.Mathlib.Omega.{arith}
 use native.Mathlib.Nat.{zero-add}
@@ -17,6 +17,8 @@ use Rattle.eos.specs.Weights.{is_zero}
 use Rattle.model.specs.Held.{no_net, row_at, told}
 use Rattle.model.specs.declared.Model.{Model}
 use Rattle.model.proofs.SlotLaws.{by_index}
+use Rattle.model.proofs.HeldTestLoops.{at_any}
+use Rattle.std.specs.List.{All}
 use Rattle.weigh.specs.Sums.{number_of, gain_of, Small, GainRow, Gains, move_gain}
 
 by_same : {G : Type 0} (i j : ℕ) → (i ≡ j → G) → ((i ≡ j → ⊥) → G) → G
@@ -35,14 +37,9 @@ small_set row i v h p k =
     (λ e. by_index (length row) i (λ q. rw (e, get_or-set_same row i v (pos 0) q) p) (λ q. rw (set_out row i v q) (h k)))
     (λ d. rw (get_or-set_other row i k v (pos 0) d) (h k))
 
--- the first number of a small row, and those behind it
-pub small_here : (a rest : List ℤ) (g : ℤ) → a ≡ g ∷ rest → Small a → nat_abs g ≤ 137436856320
-small_here a rest g e h = let p : nat_abs (number_of a 0) ≡ nat_abs g = ap (λ (l : List ℤ). nat_abs (number_of l 0)) e in omega (arith, p, h 0)
-
-pub small_rest : (a rest : List ℤ) (g : ℤ) → a ≡ g ∷ rest → Small a → Small rest
-small_rest a rest g e h k =
-    let p : nat_abs (number_of a (suc k)) ≡ nat_abs (number_of rest k) = ap (λ (l : List ℤ). nat_abs (number_of l (suc k))) e in
-    omega (arith, p, h (suc k))
+-- each of its numbers is small
+pub small_all : (row : List ℤ) → Small row → All (λ g. nat_abs g ≤ 137436856320) row
+small_all row h k d p = rw (at_any row k d (pos 0) p) (h k)
 
 -- the first t gains stand in it
 pub record Filling (w : List ℤ) (pre post : List (List ℕ)) (t : ℕ) (row : List ℤ) : Type 0 where

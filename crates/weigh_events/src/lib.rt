@@ -57,30 +57,6 @@ fn act_gain(act: Act, gains: &[i64; 32]) -> i64
     }
 }
 
-// A gain, as often as it is counted.
-fn counted(gain: i64, count: u8) -> i64
-    requires { nat_abs gain ≤ 137436856320 }
-    ensures value { result ≡ gain *ℤ pos count }
-    ensures low { neg_ℤ (pos 35046398361600) ≤ℤ result }
-    ensures high { result ≤ℤ pos 35046398361600 }
-{
-    gain * i64::from(count)
-}
-
-// What a net's transitions gain, each as often as it is counted.
-fn counts_gain(gains: &[i64], counts: &[u8]) -> i64
-    requires { (length gains.now ≤ 32) × Small gains.now }
-    ensures value { result ≡ dot gains.now counts.now }
-    ensures low { neg_ℤ (pos 1121484747571200) ≤ℤ result }
-    ensures high { result ≤ℤ pos 1121484747571200 }
-{
-    let mut sum: i64 = 0;
-    for (gain, count) in gains.iter().zip(counts.iter()) {
-        sum += counted(*gain, *count);
-    }
-    sum
-}
-
 // What an event gains.
 fn event_gain(e: &Event, nets: usize, gains: &[[i64; 32]; 9]) -> i64
     requires { (nets ≤ 8) × ActIn e.now × ((r : ℕ) → Small (row_at gains.now r)) }
@@ -88,7 +64,7 @@ fn event_gain(e: &Event, nets: usize, gains: &[[i64; 32]; 9]) -> i64
 {
     let mut sum = act_gain(e.act(), &gains[0]);
     for n in 0..nets {
-        sum += counts_gain(&gains[n + 1], &e.sync[n]);
+        sum += dot(&gains[n + 1], &e.sync[n]);
     }
     sum
 }
