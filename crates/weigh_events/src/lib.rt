@@ -3,7 +3,7 @@
 
 ghost use Rattle.std.specs.Prelude.{◌≡◌, ℕ, ◌≤◌, ◌<◌, length, get_or, pos, neg_ℤ, nat_abs, ◌-ℤ◌, ◌*ℤ◌, ◌≤ℤ◌};
 ghost use Rattle.eos.specs.Causes.{failing};
-ghost use Rattle.eos.specs.Weights.{dot};
+ghost use Rattle.eos.specs.Weights.{dot, is_zero};
 ghost use Rattle.model.specs.Acts.{as_act, index_of, move_of};
 ghost use Rattle.model.specs.Held.{no_event, row_at, told};
 ghost use Rattle.weigh.specs.Sums.{GainRow, Gains, Small, move_gain, event_gain, balanced_at, ActIn};
@@ -69,16 +69,21 @@ fn event_gain(e: &Event, nets: usize, gains: &[[i64; 32]; 9]) -> i64
     sum
 }
 
+// Whether an event gains nothing.
+fn balanced(e: &Event, nets: usize, gains: &[[i64; 32]; 9]) -> bool
+    requires { (nets ≤ 8) × ActIn e.now × ((r : ℕ) → Small (row_at gains.now r)) }
+    ensures { result ≡ is_zero (event_gain nets e.now gains.now) }
+{
+    event_gain(e, nets, gains) == 0
+}
+
 // The first of the events that gains something, by its index.
 pub fn first_unbalanced(events: &[Event], nets: usize, gains: &[[i64; 32]; 9]) -> Option<usize>
     requires nets_bound { (nets ≤ 8) × ((r : ℕ) → Small (row_at gains.now r)) }
     requires by_index { (k : ℕ) → k < length events.now → ActIn (get_or events.now k no_event) }
     ensures { result ≡ told (failing (length events.now) 0 (balanced_at nets events.now gains.now)) }
 {
-    for (k, event) in events.iter().enumerate() {
-        if event_gain(event, nets, gains) != 0 {
-            return Some(k);
-        }
-    }
-    None
+    events
+        .iter()
+        .position(|event| !balanced(event, nets, gains))
 }
