@@ -9,8 +9,9 @@ use lib.IntN.{ℤ, pos, negsuc, neg_ℤ, nat_abs, ◌+ℤ◌, ◌*ℤ◌}
 use lib.ListN.{length, length-append}
 use lib.Signed.{◌≤ℤ◌}
 use mir.Syntax.{w64}
-use mir.Val.{to_z, of_z}
+use mir.Val.{SFits, to_z, of_z}
 use Rattle.std.proofs.lemmas.Int.{ints}
+use Rattle.std.specs.List.{All}
 use Rattle.eos.specs.Weights.{dot}
 
 -- a sum of at most `so_far`, and a summand of at most `more`, either side of 0
@@ -42,12 +43,12 @@ pub record Adding (most : ℕ) (weights : List ℤ) (counts : List ℕ) (sum : �
   pub high : sum ≤ℤ pos (yielded * most)
 
 module _ (most : ℕ) {weights : List ℤ} {counts : List ℕ} where
-  -- one turn: w, which the code has as v, times n, which it has as r, is added to the sum
-  pub added_next : {P : Type 0} {n : ℕ} {v w r : ℤ} {a rest : List ℤ} {b rest_b : List ℕ} (bits : ℕ) (yielded : List P) (p : P)
+  -- one turn: w times n, which the code has as r, is added to the sum
+  pub added_next : {P : Type 0} {n : ℕ} {w r : ℤ} {a rest : List ℤ} {b rest_b : List ℕ} (bits : ℕ) (yielded : List P) (p : P)
       → length weights * most < 2 ^ 63 → Adding most weights counts (to_z w64 bits) (length yielded) a b → a ≡ w ∷ rest → b ≡ n ∷ rest_b
-      → v ≡ w → r ≡ v *ℤ pos n → neg_ℤ (pos most) ≤ℤ r → r ≤ℤ pos most
+      → r ≡ w *ℤ pos n → neg_ℤ (pos most) ≤ℤ r → r ≤ℤ pos most
       → Adding most weights counts (to_z w64 (of_z w64 (to_z w64 bits +ℤ to_z w64 (of_z w64 r)))) (length (yielded ++ p ∷ [])) rest rest_b
-  added_next {r = r} bits yielded p few i ea eb held value low high =
+  added_next {r = r} bits yielded p few i ea eb value low high =
       let next : length (yielded ++ p ∷ []) ≡ length yielded + 1 = length-append yielded (p ∷ []) in
       let long = ap length ea in
       let more : length yielded * most + most ≡ (length yielded + 1) * most = omega arith in
@@ -55,11 +56,21 @@ module _ (most : ℕ) {weights : List ℤ} {counts : List ℕ} where
       let e = sum_step bits (length yielded * most) most r (omega (arith, more, within, few)) i.low i.high low high in
       rw (e.0, next)
       record {
-        whole = dot_step _ _ _ _ _ _ _ _ _ ea eb i.whole (ap (λ (z : ℤ). to_z w64 bits +ℤ z) (rw (← held) value));
+        whole = dot_step _ _ _ _ _ _ _ _ _ ea eb i.whole (ap (λ (z : ℤ). to_z w64 bits +ℤ z) value);
         left = omega (arith, long, i.left);
         low = rw (← more) e.1;
         high = rw (← more) e.2;
       }
+
+  -- there is room for one product more
+  pub added_fits : {w r : ℤ} {a rest : List ℤ} {b : List ℕ} (bits yielded : ℕ) → length weights * most < 2 ^ 63
+      → Adding most weights counts (to_z w64 bits) yielded a b → a ≡ w ∷ rest → neg_ℤ (pos most) ≤ℤ r → r ≤ℤ pos most
+      → SFits w64 (to_z w64 bits +ℤ to_z w64 (of_z w64 r))
+  added_fits bits yielded few i ea low high =
+      let long = ap length ea in
+      let more : yielded * most + most ≡ (yielded + 1) * most = omega arith in
+      let within : (yielded + 1) * most ≤ length weights * most = mul-le-mul (omega (arith, i.left, long)) (omega arith) in
+      omega (arith, ints, more, within, few, i.low, i.high, low, high)
 
   -- nothing is still to come
   pub added_up : {sum : ℤ} {yielded : ℕ} {a : List ℤ} {b : List ℕ} → Adding most weights counts sum yielded a b → (length a ≡ 0) ⊎ (length b ≡ 0) → sum ≡ dot weights counts
@@ -73,9 +84,32 @@ module _ (most : ℕ) {weights : List ℤ} {counts : List ℕ} where
       (omega (arith, ints, p, i.low), omega (arith, ints, p, i.high))
 
 -- a product of two numbers that have limits
-pub times_most : (g : ℤ) (n most few : ℕ) → nat_abs g ≤ most → n ≤ few → (neg_ℤ (pos (most * few)) ≤ℤ (g *ℤ pos n)) × ((g *ℤ pos n) ≤ℤ pos (most * few))
+times_most : (g : ℤ) (n most few : ℕ) → nat_abs g ≤ most → n ≤ few → (neg_ℤ (pos (most * few)) ≤ℤ (g *ℤ pos n)) × ((g *ℤ pos n) ≤ℤ pos (most * few))
 times_most (pos a) n most few h k = let p : a * n ≤ most * few = mul-le-mul h k in (omega (arith, ints, p), omega (arith, ints, p))
 times_most (negsuc a) n most few h k = let p : suc a * n ≤ most * few = mul-le-mul h k in (omega (arith, ints, p), omega (arith, ints, p))
+
+-- the product of w and n as the code has it, and of how many the sum fits
+module _ {x y w : ℤ} {n most few : ℕ} (first : (x ≡ w) × (nat_abs w ≤ most) × (most ≤ 137436856320)) (second : (y ≡ pos n) × (n ≤ few) × (few ≤ 65535)) where
+  abbrev held : ℤ
+  held = to_z w64 (of_z w64 x) *ℤ to_z w64 (of_z w64 y)
+
+  pub held_is : held ≡ w *ℤ pos n
+  held_is =
+      let p : to_z w64 (of_z w64 x) ≡ w = omega (arith, ints, first) in
+      let q : to_z w64 (of_z w64 y) ≡ pos n = omega (arith, ints, second) in
+      ap₂ ◌*ℤ◌ p q
+
+  pub held_within : (neg_ℤ (pos (most * few)) ≤ℤ held) × (held ≤ℤ pos (most * few))
+  held_within = rw held_is (times_most w n most few first.1 second.1)
+
+  pub held_fits : SFits w64 held
+  held_fits = let p : most * few ≤ 137436856320 * 65535 = mul-le-mul first.2 second.2 in omega (arith, ints, p, held_within)
+
+  pub sum_fits : (l : ℕ) → l ≤ 32 → l * (most * few) < 2 ^ 63
+  sum_fits l h =
+      let p : most * few ≤ 137436856320 * 65535 = mul-le-mul first.2 second.2 in
+      let q : l * (most * few) ≤ 32 * (137436856320 * 65535) = mul-le-mul h p in
+      omega (arith, q)
 
 -- a number between two limits
 pub between : (z : ℤ) (most : ℕ) → neg_ℤ (pos most) ≤ℤ z → z ≤ℤ pos most → nat_abs z ≤ most
@@ -85,3 +119,7 @@ between (negsuc a) most low high = omega (arith, ints)
 pub within : (z : ℤ) (most : ℕ) → nat_abs z ≤ most → (neg_ℤ (pos most) ≤ℤ z) × (z ≤ℤ pos most)
 within (pos a) most h = (omega (arith, ints), omega (arith, ints))
 within (negsuc a) most h = (omega (arith, ints), omega (arith, ints))
+
+-- what holds of all of a list holds of those behind the first
+pub all_rest : {A : Type 0} (P : A → Type 0) {a rest : List A} {x : A} → a ≡ x ∷ rest → All P a → All P rest
+all_rest P e all k d h = (rw e at all) (suc k) d (omega (arith, h))

@@ -1,22 +1,24 @@
 -- What transitions gain, as a row is filled and as the rows are laid one after the other.
 use Prim.Native.Nat.{ℕ, zero, suc, ◌+◌, ◌≤◌, ◌<◌}
-use mathlib.Core.Path.{◌≡◌, refl, ap, sym, ◌∙◌}
-use mathlib.Core.Bool.{Bool, true, false}
+use mathlib.Core.Path.{◌≡◌, refl, ◌∙◌}
+use mathlib.Core.Bool.{Bool, not, cond}
 use mathlib.Core.List.{List, [], ◌∷◌}
-use mathlib.Core.Option.{some}
 use native.Mathlib.Omega.{arith}
-use native.Mathlib.Nat.{zero-add}
+use native.Mathlib.Nat.{add-zero}
 use native.Mathlib.Numerals.{add-one}
-use Rattle.std.specs.Prelude as answer
-use lib.IntN.{ℤ, pos, negsuc, nat_abs}
+use lib.Dec.{ltb}
+use lib.IntN.{ℤ, pos, nat_abs}
 use lib.ListN.{length, get_or, set, replicate, length-set}
 use lib.Seq.{get_or-set_same, get_or-set_other, set_out}
+use Rattle.std.specs.Prelude as answer
+use Rattle.std.specs.List.{All, position_from, position_or_len}
+use Rattle.std.proofs.lemmas.Iterator.Adapters.{position_from-zero}
+use Rattle.text.proofs.Basics.{by_test}
 use Rattle.eos.specs.Causes.{failing}
-use Rattle.eos.proofs.FailingLaws.{failing_first, failing_none}
-use Rattle.eos.specs.Weights.{is_zero}
 use Rattle.model.specs.Held.{no_net, row_at, told}
 use Rattle.model.specs.declared.Model.{Model}
 use Rattle.model.proofs.SlotLaws.{by_index}
+use Rattle.model.proofs.HeldTestLoops.{at_any}
 use Rattle.weigh.specs.Sums.{number_of, gain_of, Small, GainRow, Gains, move_gain}
 
 by_same : {G : Type 0} (i j : ℕ) → (i ≡ j → G) → ((i ≡ j → ⊥) → G) → G
@@ -35,14 +37,9 @@ small_set row i v h p k =
     (λ e. by_index (length row) i (λ q. rw (e, get_or-set_same row i v (pos 0) q) p) (λ q. rw (set_out row i v q) (h k)))
     (λ d. rw (get_or-set_other row i k v (pos 0) d) (h k))
 
--- the first number of a small row, and those behind it
-pub small_here : (a rest : List ℤ) (g : ℤ) → a ≡ g ∷ rest → Small a → nat_abs g ≤ 137436856320
-small_here a rest g e h = let p : nat_abs (number_of a 0) ≡ nat_abs g = ap (λ (l : List ℤ). nat_abs (number_of l 0)) e in omega (arith, p, h 0)
-
-pub small_rest : (a rest : List ℤ) (g : ℤ) → a ≡ g ∷ rest → Small a → Small rest
-small_rest a rest g e h k =
-    let p : nat_abs (number_of a (suc k)) ≡ nat_abs (number_of rest k) = ap (λ (l : List ℤ). nat_abs (number_of l (suc k))) e in
-    omega (arith, p, h (suc k))
+-- each of its numbers is small
+pub small_all : (row : List ℤ) → Small row → All (λ g. nat_abs g ≤ 137436856320) row
+small_all row h k d p = rw (at_any row k d (pos 0) p) (h k)
 
 -- the first t gains stand in it
 pub record Filling (w : List ℤ) (pre post : List (List ℕ)) (t : ℕ) (row : List ℤ) : Type 0 where
@@ -120,19 +117,20 @@ unfolding move_gain
 move_small row h zero = omega arith
 move_small row h (suc k) = h k
 
--- ---- the first event that fails
+-- ---- the first that fails
 
-pub first_fails : (f : ℕ → Bool) (n k : ℕ) → k < n → ((j : ℕ) → j < k → f j ≡ true) → f k ≡ false → answer.Some k ≡ told (failing n 0 f)
-first_fails f n k h p q = sym (ap told (failing_first n 0 f k h (λ j r. rw (zero-add j) (p j r)) (rw (zero-add k) q) ∙ ap some (zero-add k)))
+module _ {A : Type 0} (f : A → Bool) (d : A) where
+  failing_from : (l : List A) (i : ℕ) (g : ℕ → Bool) → ((k : ℕ) → f (get_or l k d) ≡ g (i + k)) → position_from (λ a. not (f a)) i l ≡ told (failing (length l) i g)
+  failing_from [] i g h = refl
+  failing_from (a ∷ l) i g h =
+      let here : f a ≡ g i = rw (add-zero i) at (h 0) in
+      let rest = failing_from l (suc i) g (λ k. let e : suc i + k ≡ i + suc k = omega arith in rw e (h (suc k))) in
+      rw (here, add-one i) (by_test (g i) (λ t. rw t rest) (λ t. rw t))
 
-pub none_fails : (f : ℕ → Bool) (n : ℕ) → ((j : ℕ) → j < n → f j ≡ true) → answer.None ≡ told (failing n 0 f)
-none_fails f n p = sym (ap told (failing_none n 0 f (λ j r. rw (zero-add j) (p j r))))
-
--- a gain that is 0, and one that is not
-pub gain_zero : (g v : ℤ) → g ≡ v → g ≡ pos 0 → is_zero v ≡ true
-gain_zero g v e z = rw (← e, z)
-
-pub gain_not_zero : (g v : ℤ) → g ≡ v → (g ≡ pos 0 → ⊥) → is_zero v ≡ false
-gain_not_zero (pos zero) v e z = absurd (z refl)
-gain_not_zero (pos (suc n)) v e z = rw (← e)
-gain_not_zero (negsuc n) v e z = rw (← e)
+  -- as the library looks for it
+  pub first_failing : (l : List A)
+      → cond (ltb (position_or_len (λ a. not (f a)) l) (length l)) (answer.Some (position_or_len (λ a. not (f a)) l)) answer.None
+      ≡ told (failing (length l) 0 (λ k. f (get_or l k d)))
+  first_failing l =
+      position_from-zero (λ a. not (f a)) l
+      ∙ failing_from l 0 (λ k. f (get_or l k d)) (λ k. let e : 0 + k ≡ k = omega arith in rw e)

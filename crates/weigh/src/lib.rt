@@ -2,45 +2,88 @@
 // weights cover. Definitions, laws, and the one product that all of these sums are made of.
 #![tactic(auto)]
 
-ghost use Rattle.std.specs.Prelude.{◌≡◌, ℕ, ◌≤◌, length, map, pos, neg_ℤ, ◌*ℤ◌, ◌≤ℤ◌};
+ghost use Rattle.std.specs.Prelude.{◌≡◌, ℕ, ◌*◌, ◌≤◌, ⊤, length, map, ℤ, pos, neg_ℤ, nat_abs, ◌*ℤ◌, ◌≤ℤ◌};
+ghost use Rattle.std.specs.List.{All};
 ghost use Rattle.eos.specs.Weights.{dot};
 
-// A number of racks, or what an arc takes or gives: a weight is added up as often as it says.
+// What is added up: a weight, or what weights add up to, which has a limit either side of 0.
+pub trait Factor: Copy {
+    ghost number: { Self → ℤ };
+
+    ghost limit: { ℕ };
+
+    ghost within: { Self → Type 0 };
+
+    fn wide(self) -> i64
+        requires { within self }
+        ensures { (result ≡ number self) × (nat_abs (number self) ≤ limit) × (limit ≤ 137436856320) };
+}
+
+impl Factor for i16 {
+    ghost number = { λ n. n };
+
+    ghost limit = { 32768 };
+
+    ghost within = { λ _. ⊤ };
+
+    fn wide(self) -> i64 {
+        i64::from(self)
+    }
+}
+
+impl Factor for i64 {
+    ghost number = { λ n. n };
+
+    ghost limit = { 137436856320 };
+
+    ghost within = { λ n. nat_abs n ≤ 137436856320 };
+
+    fn wide(self) -> i64 {
+        self
+    }
+}
+
+// How often it is added up: a number of racks, or what an arc takes or gives.
 pub trait Count: Copy {
     ghost count: { Self → ℕ };
 
-    fn times(self, weight: i16) -> i64
-        ensures value { result ≡ weight *ℤ pos (count self) }
-        ensures low { neg_ℤ (pos 2147450880) ≤ℤ result }
-        ensures high { result ≤ℤ pos 2147450880 };
+    ghost limit: { ℕ };
+
+    fn wide(self) -> i64
+        ensures { (result ≡ pos (count self)) × (count self ≤ limit) × (limit ≤ 65535) };
 }
 
 impl Count for u8 {
     ghost count = { λ n. n };
 
-    fn times(self, weight: i16) -> i64 {
-        i64::from(weight) * i64::from(self)
+    ghost limit = { 255 };
+
+    fn wide(self) -> i64 {
+        i64::from(self)
     }
 }
 
 impl Count for u16 {
     ghost count = { λ n. n };
 
-    fn times(self, weight: i16) -> i64 {
-        i64::from(weight) * i64::from(self)
+    ghost limit = { 65535 };
+
+    fn wide(self) -> i64 {
+        i64::from(self)
     }
 }
 
-// Weights times counts, added up; no more than 32 of them, so that the sum stays far within its type.
-pub fn dot<C: Count>(weights: &[i16], counts: &[C]) -> i64
-    requires { length weights.now ≤ 32 }
-    ensures value { result ≡ dot weights.now (map C.count counts.now) }
-    ensures low { neg_ℤ (pos 68718428160) ≤ℤ result }
-    ensures high { result ≤ℤ pos 68718428160 }
+// Factors times counts, added up; no more than 32 of them, so that the sum stays far within its type.
+pub fn dot<F: Factor, C: Count>(factors: &[F], counts: &[C]) -> i64
+    requires few { length factors.now ≤ 32 }
+    requires small { All F.within factors.now }
+    ensures value { result ≡ dot (map F.number factors.now) (map C.count counts.now) }
+    ensures low { neg_ℤ (pos (32 * (F.limit * C.limit))) ≤ℤ result }
+    ensures high { result ≤ℤ pos (32 * (F.limit * C.limit)) }
 {
     let mut sum: i64 = 0;
-    for (weight, count) in weights.iter().zip(counts.iter()) {
-        sum += count.times(*weight);
+    for (factor, count) in factors.iter().zip(counts.iter()) {
+        sum += factor.wide() * count.wide();
     }
     sum
 }

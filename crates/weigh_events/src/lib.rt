@@ -3,7 +3,7 @@
 
 ghost use Rattle.std.specs.Prelude.{◌≡◌, ℕ, ◌≤◌, ◌<◌, length, get_or, pos, neg_ℤ, nat_abs, ◌-ℤ◌, ◌*ℤ◌, ◌≤ℤ◌};
 ghost use Rattle.eos.specs.Causes.{failing};
-ghost use Rattle.eos.specs.Weights.{dot};
+ghost use Rattle.eos.specs.Weights.{dot, is_zero};
 ghost use Rattle.model.specs.Acts.{as_act, index_of, move_of};
 ghost use Rattle.model.specs.Held.{no_event, row_at, told};
 ghost use Rattle.weigh.specs.Sums.{GainRow, Gains, Small, move_gain, event_gain, balanced_at, ActIn};
@@ -57,30 +57,6 @@ fn act_gain(act: Act, gains: &[i64; 32]) -> i64
     }
 }
 
-// A gain, as often as it is counted.
-fn counted(gain: i64, count: u8) -> i64
-    requires { nat_abs gain ≤ 137436856320 }
-    ensures value { result ≡ gain *ℤ pos count }
-    ensures low { neg_ℤ (pos 35046398361600) ≤ℤ result }
-    ensures high { result ≤ℤ pos 35046398361600 }
-{
-    gain * i64::from(count)
-}
-
-// What a net's transitions gain, each as often as it is counted.
-fn counts_gain(gains: &[i64], counts: &[u8]) -> i64
-    requires { (length gains.now ≤ 32) × Small gains.now }
-    ensures value { result ≡ dot gains.now counts.now }
-    ensures low { neg_ℤ (pos 1121484747571200) ≤ℤ result }
-    ensures high { result ≤ℤ pos 1121484747571200 }
-{
-    let mut sum: i64 = 0;
-    for (gain, count) in gains.iter().zip(counts.iter()) {
-        sum += counted(*gain, *count);
-    }
-    sum
-}
-
 // What an event gains.
 fn event_gain(e: &Event, nets: usize, gains: &[[i64; 32]; 9]) -> i64
     requires { (nets ≤ 8) × ActIn e.now × ((r : ℕ) → Small (row_at gains.now r)) }
@@ -88,9 +64,17 @@ fn event_gain(e: &Event, nets: usize, gains: &[[i64; 32]; 9]) -> i64
 {
     let mut sum = act_gain(e.act(), &gains[0]);
     for n in 0..nets {
-        sum += counts_gain(&gains[n + 1], &e.sync[n]);
+        sum += dot(&gains[n + 1], &e.sync[n]);
     }
     sum
+}
+
+// Whether an event gains nothing.
+fn balanced(e: &Event, nets: usize, gains: &[[i64; 32]; 9]) -> bool
+    requires { (nets ≤ 8) × ActIn e.now × ((r : ℕ) → Small (row_at gains.now r)) }
+    ensures { result ≡ is_zero (event_gain nets e.now gains.now) }
+{
+    event_gain(e, nets, gains) == 0
 }
 
 // The first of the events that gains something, by its index.
@@ -99,10 +83,7 @@ pub fn first_unbalanced(events: &[Event], nets: usize, gains: &[[i64; 32]; 9]) -
     requires by_index { (k : ℕ) → k < length events.now → ActIn (get_or events.now k no_event) }
     ensures { result ≡ told (failing (length events.now) 0 (balanced_at nets events.now gains.now)) }
 {
-    for (k, event) in events.iter().enumerate() {
-        if event_gain(event, nets, gains) != 0 {
-            return Some(k);
-        }
-    }
-    None
+    events
+        .iter()
+        .position(|event| !balanced(event, nets, gains))
 }

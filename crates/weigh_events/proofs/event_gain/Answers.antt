@@ -6,6 +6,7 @@ use native.Mathlib.Numerals.{add-one}
 use mir.Syntax.{w64}
 use mir.Val.{to_z, of_z}
 use Rattle.std.proofs.lemmas.Int.{ints}
+use Rattle.std.proofs.lemmas.List.{map-id}
 use Rattle.eos.specs.Model.{Act}
 use Rattle.model.specs.Acts.{as_act, index_of, move_of}
 use Rattle.model.proofs.HeldActs.{index_back}
@@ -13,7 +14,7 @@ use Rattle.model.specs.Held.{row_at}
 use Rattle.weigh.specs.Sums.{move_gain, event_gain}
 use Rattle.weigh.proofs.TotalLaws.{total_begins, total_further}
 use Rattle.weigh.proofs.DotLaws.{sum_step, within}
-use Rattle.weigh.proofs.GainLaws.{move_small}
+use Rattle.weigh.proofs.GainLaws.{move_small, small_all}
 use Rattle.weigh_events.proofs.event_gain.Goals as goal
 
 pub act_gain-sum-requires : goal.act_gain-sum-requires
@@ -32,17 +33,17 @@ loop-n-init c =
       rw (held, c.act_gain-sum.ensures) p.1,
     )
 
-pub counts_gain-sum-requires : goal.counts_gain-sum-requires
-counts_gain-sum-requires c = (search rules, c.requires.2 (c.loop-n.n + 1))
+pub dot-sum-requires : goal.dot-sum-requires
+dot-sum-requires c = record { few = search rules; small = small_all _ (c.requires.2 (c.loop-n.n + 1)) }
 
 pub loop-n-preserved : goal.loop-n-preserved
 loop-n-preserved c =
     let l = c.loop-n in
     let i = l.invariant in
-    let t = c.counts_gain-sum.ensures in
-    let e = sum_step l.sum-bits (l.n * 1121484747571200 + 137436856320) 1121484747571200 c.counts_gain-sum.result (omega (arith, c.requires.0)) i.1 i.2 t.low t.high in
+    let t = c.dot-sum.ensures in
+    let e = sum_step l.sum-bits (l.n * 1121484747571200 + 137436856320) 1121484747571200 c.dot-sum.result (omega (arith, c.requires.0)) i.1 i.2 t.low t.high in
     let more : l.n * 1121484747571200 + 137436856320 + 1121484747571200 ≡ (l.n + 1) * 1121484747571200 + 137436856320 = omega arith in (
-      rw e.0 (total_further _ _ _ l.n _ i.0 (rw (add-one l.n) at t.value)),
+      rw e.0 (total_further _ _ _ l.n _ i.0 (rw (map-id, map-id, add-one l.n) at t.value)),
       rw (e.0, ← more) e.1,
       rw (e.0, ← more) e.2,
     )

@@ -22,4 +22,4 @@ returns-clause-value c =
     let s : to_z w64 (of_z w64 (to_z w64 (of_z w64 c.from-2.result) +ℤ to_z w64 (of_z w64 c.dot-counts.result))) ≡ c.from-2.result +ℤ c.dot-counts.result =
     omega (arith, ints, c.from-2.ensures, d.low, d.high) in
     s
-    ∙ ap₂ ◌+ℤ◌ (w ∙ ap (λ (place : ℕ). number_of outer (place - 1)) c.from-place.ensures) (d.value ∙ rw (map-id, c.from.ensures, c.from-place.ensures))
+    ∙ ap₂ ◌+ℤ◌ (w ∙ ap (λ (place : ℕ). number_of outer (place - 1)) c.from-place.ensures) (d.value ∙ rw (map-id, map-id, c.from.ensures, c.from-place.ensures))
