@@ -137,7 +137,7 @@ counts_of_lem m (t ∷ μ) h =
 abbrev pub Within : ℤ → Type 0
 Within z = nat_abs z ≤ 536862976000
 
--- a number by its parts
+-- a number of which both parts are so small
 parts_within : (z : ℤ) → above z ≤ 536862976000 → below z ≤ 536862976000 → Within z
 parts_within (pos n) p q = p
 parts_within (negsuc n) p q = q

@@ -1,7 +1,7 @@
 // What events gain, by weights: an event whose effect is 0 gains nothing.
 #![tactic(auto)]
 
-ghost use Rattle.std.specs.Prelude.{◌≡◌, ℕ, ◌≤◌, ◌<◌, length, get_or, pos, neg_ℤ, nat_abs, ◌-ℤ◌, ◌*ℤ◌, ◌≤ℤ◌};
+ghost use Rattle.std.specs.Prelude.{◌≡◌, ℕ, ◌≤◌, ◌<◌, length, get_or, pos, neg_ℤ, ◌-ℤ◌, ◌≤ℤ◌};
 ghost use Rattle.eos.specs.Causes.{failing};
 ghost use Rattle.eos.specs.Weights.{dot, is_zero};
 ghost use Rattle.model.specs.Acts.{as_act, index_of, move_of};
