@@ -13,7 +13,7 @@ use text::TokenLine;
 // A net-token: its place's number, from 1, and its counts; unused room is 0. The derived order, by place and then by counts from the first
 // on, is the canonical order of a marking.
 #[repr(C)]
-#[derive(Clone, Copy, PartialEq, Eq, PartialOrd, Ord)]
+#[derive(Clone, Copy, PartialEq, Eq, PartialOrd, Ord, Debug)]
 pub struct NetToken {
     pub place: u16,
     pub counts: [u16; 32],
