@@ -1,6 +1,6 @@
 -- 01's limits, and the rooms of the arrays that hold what they limit. Limits of the same number are told apart by what they count. In code
 -- they are constants of `Model` and `Marking`.
-use Rattle.std.specs.Prelude.{ℕ, ◌*◌}
+use Rattle.std.specs.Prelude.{ℕ}
 
 -- ---- limits
 
