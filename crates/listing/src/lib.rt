@@ -22,7 +22,7 @@ use text_write::{put_number_line, put_text};
 mod files;
 mod head;
 
-// A listing that ends with its head.
+// A listing that ends with its head, whose bytes are in hand; the net-tokens behind a head are counted before they are laid (`write`).
 fn lay_head(head: &[u8], out: &mut [u8]) -> Result<usize, WriteRefusal>
     ensures { record { answer = result; bytes = out.new } ≡ lay_whole head.now out.old }
 {
