@@ -12,12 +12,10 @@ use Rattle.text.specs.Number.{Read, missing, number, item}
 use Rattle.text.specs.Lines.{Outcome, bad, fault, need, judged, in_range, behind, read_number, read_head}
 use Rattle.std.specs.Prelude.{Result}
 use Rattle.std.specs.declared.result.Result.TheVariants.{Ok, Err}
-use Rattle.std.specs.declared.option.Option.TheVariants.{Some}
-use Rattle.text.specs.Capped.{cap, capped}
 use Rattle.text.specs.Answers.{parsed}
 use Rattle.text.specs.declared.Fault.{Fault}
 use Rattle.text.specs.declared.Parsed.{Parsed}
-use Rattle.text.proofs.NumberLaws.{Exact, Capped, exact_of}
+use Rattle.text.proofs.NumberLaws.{Exact, Capped}
 use Rattle.text.specs.declared.Cause.{Cause}
 use Rattle.text.specs.declared.Cause.TheVariants.{Syntax, Range}
 
@@ -65,21 +63,6 @@ module _ {A : Type 0} (key : Text) (f : ℕ → Read A) (s : Text) (at : ℕ) wh
   pub behind-key : starts key (drop at s) ≡ true → behind key f s at ≡ f (at + length key)
   unfolding behind
   behind-key e = rw (e, behind)
-
--- a key, and a number with the byte `stop` right behind it, from what is answered: whether the key stands there, and what was read behind it
-module _ (key s : Text) (at stop : ℕ) (t : Bool) (is : t ≡ starts key (drop at s)) where
-  pub no_key : t ≡ false → behind key (item number stop s) s at ≡ missing
-  no_key e = behind_other key (item number stop s) s at (sym is ∙ e)
-
-  module _ (key-is : t ≡ true) where
-    pub no_number : item number stop s (at + length key) ≡ missing → behind key (item number stop s) s at ≡ missing
-    no_number e = behind-key key (item number stop s) s at (sym is ∙ key-is) ∙ e
-
-    pub key_number : (p : Parsed ℕ) → Some p ≡ capped (item number stop s (at + length key)) → (v : ℕ) → v ≡ p.value
-        → Exact (behind key (item number stop s) s at) (Capped v) p.end
-    key_number p r v same =
-        let x = exact_of cap (item number stop s (at + length key)) p r in
-        record { value = x.value; is = behind-key key (item number stop s) s at (sym is ∙ key-is) ∙ x.is; told = same ∙ x.told }
 
 -- ---- a test
 

@@ -7,16 +7,13 @@ ghost use Rattle.text.specs.Lines.{in_range, read_number, read_head};
 ghost use Rattle.text.specs.Answers.{parsed};
 
 use text::{Cause, Fault, Parsed};
-use text_scan::{fault_at, item, starts};
+use text_scan::{fault_at, key_item, starts};
 
 // The line of key and one number from lo to hi.
 pub fn number_line(s: &[u8], at: usize, key: &[u8], lo: u16, hi: u16) -> Result<Parsed<u16>, Fault>
     ensures { result ≡ parsed (read_number key.now (in_range lo hi) s.now at) }
 {
-    if !starts(s, at, key) {
-        return Err(fault_at(Cause::Syntax, at));
-    }
-    let Some(Parsed { value, end }) = item(s, at + key.len(), b'\n') else {
+    let Some(Parsed { value, end }) = key_item(s, at, key, b'\n') else {
         return Err(fault_at(Cause::Syntax, at));
     };
     let Ok(value) = u16::try_from(value) else {

@@ -8,7 +8,7 @@ ghost use Rattle.text.specs.Bytes.{starts, line_at};
 ghost use Rattle.text.specs.Number.{is_digit, digits, number, negated, plainly, signed_if, item};
 ghost use Rattle.text.specs.Capped.{capped, capped_signed};
 ghost use Rattle.text.specs.Lists.{stop_of};
-ghost use Rattle.text.specs.Lines.{fault, spot_of};
+ghost use Rattle.text.specs.Lines.{fault, spot_of, behind};
 
 use text::{Cause, Fault, Parsed, Spot};
 
@@ -116,6 +116,16 @@ pub fn item(s: &[u8], at: usize, stop: u8) -> Option<Parsed<u32>>
         });
     }
     None
+}
+
+// A number behind a key, and the byte `stop` right after it.
+pub fn key_item(s: &[u8], at: usize, key: &[u8], stop: u8) -> Option<Parsed<u32>>
+    ensures { result ≡ capped (behind key.now (item number stop s.now) s.now at) }
+{
+    if !starts(s, at, key) {
+        return None;
+    }
+    item(s, at + key.len(), stop)
 }
 
 // A number as a signed one.

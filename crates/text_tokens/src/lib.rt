@@ -11,7 +11,7 @@ ghost use Rattle.text.specs.Answers.{kept, parsed, token_line};
 
 use text::{Cause, Fault, Parsed, TokenLine};
 use text_lists::list_end;
-use text_scan::{byte_at, fault_at, item, number, starts};
+use text_scan::{byte_at, fault_at, key_item, number};
 
 // Whether a list of numbers of any length goes from `from` to the end of its line.
 fn any_list(s: &[u8], from: usize) -> bool
@@ -72,10 +72,7 @@ pub fn token_line(
 ) -> Result<Parsed<TokenLine>, Fault>
     ensures { result ≡ parsed (kept token_line (read_token key.now places (λ p. get_or sizes.now (p - 1) 0) (λ v. leb v hi) s.now at)) }
 {
-    if !starts(s, at, key) {
-        return Err(fault_at(Cause::Syntax, at));
-    }
-    let Some(Parsed { value, end }) = item(s, at + key.len(), b':') else {
+    let Some(Parsed { value, end }) = key_item(s, at, key, b':') else {
         return Err(fault_at(Cause::Syntax, at));
     };
     let Ok(place) = u16::try_from(value) else {

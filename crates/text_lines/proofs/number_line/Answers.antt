@@ -1,17 +1,16 @@
--- `number_line` meets its contract: the key, the number with LF, and then its range, each from what the callee ensures.
+-- `number_line` meets its contract: the number with LF behind the key, and then its range, each from what the callee ensures.
 use Prim.Native.Nat.{◌<◌}
-use mathlib.Core.Path.{◌≡◌, refl, ap, sym, ◌∙◌}
+use mathlib.Core.Path.{◌≡◌, ap, sym, ◌∙◌}
 use mathlib.Core.Bool.{true}
 use native.Mathlib.Omega.{arith}
 use borrow.Author.Tests.{le-leb, lt-leb}
 use Rattle.text.specs.Bytes.{lf}
-use Rattle.text.proofs.ByteLaws.{key_past}
 use Rattle.text.specs.Capped.{cap}
 use Rattle.text.specs.Number.{number, item}
 use Rattle.text.specs.Lines.{in_range, behind}
 use Rattle.std.specs.declared.result.Result.TheVariants.{Err}
-use Rattle.text.proofs.NumberLaws.{Exact, Capped, missing_if}
-use Rattle.text.proofs.LineLaws.{within_low, within_low_not, within_high, no_key, no_number, key_number, line-missing, line_out, line-value}
+use Rattle.text.proofs.NumberLaws.{Exact, Capped, missing_if, exact_of}
+use Rattle.text.proofs.LineLaws.{within_low, within_low_not, within_high, line-missing, line_out, line-value}
 use Rattle.text_lines.proofs.number_line.Goals as goal
 use Rattle.text_lines.proofs.number_line.Goals.{Else-hi-value, In-Ok}
 
@@ -19,7 +18,7 @@ use Rattle.text_lines.proofs.number_line.Goals.{Else-hi-value, In-Ok}
 held : (c : In-Ok) →
     let a = c.args in
     Exact (behind a.key.now (item number lf a.s.now) a.s.now a.at) (Capped c.in-Ok.value) c.in-Some.field-0.end
-held c = key_number _ _ _ _ _ c.starts.ensures c.if-not-starts.false _ c.in-Some.ensures _ (c.in-Ok.ensures.1)
+held c = rw c.in-Ok.ensures.1 (exact_of cap _ _ c.in-Some.ensures)
 
 -- it is in the range
 inside : (c : Else-hi-value) →
@@ -27,17 +26,9 @@ inside : (c : Else-hi-value) →
     in_range a.lo a.hi c.in-Ok.value ≡ true
 inside c = within_low_not _ _ _ c.if-value-lo.false ∙ le-leb _ _ c.if-hi-value.false
 
-pub returns-then-not-starts : goal.returns-then-not-starts
-returns-then-not-starts c =
-    ap Err c.fault_at.ensures ∙ sym (line-missing _ _ _ _ _ (no_key _ _ _ _ _ c.starts.ensures c.if-not-starts.true))
-
-pub overflow_add-at : goal.overflow_add-at
-overflow_add-at c = let a = c.args in omega (arith, key_past a.key.now a.s.now a.at (sym c.starts.ensures ∙ c.if-not-starts.false))
-
 pub returns-in_default : goal.returns-in_default
 returns-in_default c =
-    ap Err c.fault_at-in_default.ensures
-    ∙ sym (line-missing _ _ _ _ _ (no_number _ _ _ _ _ c.starts.ensures c.if-not-starts.false (missing_if cap _ _ c.item.ensures c.in_default.not-Some)))
+    ap Err c.fault_at.ensures ∙ sym (line-missing _ _ _ _ _ (missing_if cap _ _ c.key_item.ensures c.in_default.not-Some))
 
 pub returns-then-value-lo : goal.returns-then-value-lo
 returns-then-value-lo c =
@@ -56,7 +47,7 @@ returns-in_default-try_from c =
     let f = c.ranges in
     let high : c.args.hi < c.in-Some.field-0.value = omega (arith, f.hi.fits, c.in_default-try_from.ensures) in
     ap Err c.fault_at-in_default-try_from.ensures
-    ∙ sym (line_out _ _ _ _ _ f.lo.fits f.hi.fits _ _ (key_number _ _ _ _ _ c.starts.ensures c.if-not-starts.false _ c.in-Some.ensures _ refl) (within_high _ _ _ high))
+    ∙ sym (line_out _ _ _ _ _ f.lo.fits f.hi.fits _ _ (exact_of cap _ _ c.in-Some.ensures) (within_high _ _ _ high))
 
 pub returns : goal.returns
 returns c =

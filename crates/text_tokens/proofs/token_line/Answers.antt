@@ -1,15 +1,13 @@
--- `token_line` meets its contract: the key, the place with its colon, and then its range, each from what the callee ensures.
+-- `token_line` meets its contract: the place with its colon behind the key, and then its range, each from what the callee ensures.
 use Prim.Native.Nat.{◌<◌}
-use mathlib.Core.Path.{refl, sym, ap, ◌∙◌}
+use mathlib.Core.Path.{sym, ap, ◌∙◌}
 use native.Mathlib.Omega.{arith}
 use Rattle.text.specs.Bytes.{colon}
-use Rattle.text.proofs.ByteLaws.{key_past}
 use Rattle.text.specs.Number.{number, item}
 use Rattle.text.specs.Capped.{cap}
 use Rattle.text.specs.Lines.{behind}
 use Rattle.std.specs.declared.result.Result.TheVariants.{Err}
-use Rattle.text.proofs.NumberLaws.{Exact, Capped, missing_if}
-use Rattle.text.proofs.LineLaws.{no_key, no_number, key_number}
+use Rattle.text.proofs.NumberLaws.{Exact, Capped, missing_if, exact_of}
 use Rattle.text_tokens.proofs.TokenLaws.{answer, refused, token_missing, token_low, token_high, token_in}
 use Rattle.text_tokens.proofs.token_line.Goals as goal
 use Rattle.text_tokens.proofs.token_line.Goals.{In-Ok}
@@ -18,25 +16,17 @@ use Rattle.text_tokens.proofs.token_line.Goals.{In-Ok}
 held : (c : In-Ok) →
     let a = c.args in
     Exact (behind a.key.now (item number colon a.s.now) a.s.now a.at) (Capped c.in-Ok.place) c.in-Some.field-0.end
-held c = key_number _ _ _ _ _ c.starts.ensures c.if-not-starts.false _ c.in-Some.ensures _ (c.in-Ok.ensures.1)
-
-pub returns-then-not-starts : goal.returns-then-not-starts
-returns-then-not-starts c =
-    ap Err c.fault_at.ensures ∙ refused (token_missing _ _ _ _ _ _ (no_key _ _ _ _ _ c.starts.ensures c.if-not-starts.true))
-
-pub overflow_add-at : goal.overflow_add-at
-overflow_add-at c = let a = c.args in omega (arith, key_past a.key.now a.s.now a.at (sym c.starts.ensures ∙ c.if-not-starts.false))
+held c = rw c.in-Ok.ensures.1 (exact_of cap _ _ c.in-Some.ensures)
 
 pub returns-in_default : goal.returns-in_default
 returns-in_default c =
-    ap Err c.fault_at-in_default.ensures
-    ∙ refused (token_missing _ _ _ _ _ _ (no_number _ _ _ _ _ c.starts.ensures c.if-not-starts.false (missing_if cap _ _ c.item.ensures c.in_default.not-Some)))
+    ap Err c.fault_at.ensures ∙ refused (token_missing _ _ _ _ _ _ (missing_if cap _ _ c.key_item.ensures c.in_default.not-Some))
 
 pub returns-in_default-try_from : goal.returns-in_default-try_from
 returns-in_default-try_from c =
     let f = c.ranges in
     let high : c.args.places < c.in-Some.field-0.value = omega (arith, f.places.fits, c.in_default-try_from.ensures) in
-    c.out_of_range.ensures ∙ sym (ap answer (token_high _ _ _ _ _ _ f.places.fits _ _ (key_number _ _ _ _ _ c.starts.ensures c.if-not-starts.false _ c.in-Some.ensures _ refl) high))
+    c.out_of_range.ensures ∙ sym (ap answer (token_high _ _ _ _ _ _ f.places.fits _ _ (exact_of cap _ _ c.in-Some.ensures) high))
 
 pub returns-then-place-eq0 : goal.returns-then-place-eq0
 returns-then-place-eq0 c =
