@@ -87,7 +87,8 @@ impl<'a> Stepper<'a> {
             &mut self.given,
         );
         let lines = named(s, read)?;
-        let rule = rule_of(self.model, lines.event);
+        let mut rule = Rule::empty();
+        rule_of(self.model, lines.event, &mut rule);
         fire(self.room, &rule, k, lines.taken, lines.given, r.at)
     }
 }

@@ -1,9 +1,9 @@
 -- How an event's sides are held, added up over the counts of its transitions: what net n has stands in row n; unused room 0.
-use Rattle.std.specs.Prelude.{ℕ, List, length}
+use Rattle.std.specs.Prelude.{ℕ, List, length, replicate}
 use Rattle.text.specs.Answers.{padded}
 use Rattle.eos.specs.Model as eos
 use Rattle.eos.specs.Firing.{outer_of, inner_of, pre, post}
-use Rattle.model.specs.Held.{tabled, row, listed}
+use Rattle.model.specs.Held.{no_row, tabled, row, listed}
 use Rattle.step.specs.declared.Sides.{Sides}
 use Rattle.step.specs.declared.Rule.{Rule}
 
@@ -19,3 +19,10 @@ hold_rule m k = record {
   pre = hold_sides pre m (eos.event m k);
   post = hold_sides post m (eos.event m k);
 }
+
+-- room that is not used
+abbrev pub no_sides : Sides
+no_sides = record { outer = no_row; inner = replicate 8 no_row }
+
+abbrev pub no_rule : Rule
+no_rule = record { nets = 0; types = replicate 32 0; pre = no_sides; post = no_sides }

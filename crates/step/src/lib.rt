@@ -1,6 +1,9 @@
 // A step: its lines, what its event asks and gives, why it is turned down (01's causes 8 to 12 over its net-tokens and the marking's), and the marking after it. Definitions and laws.
 #![tactic(auto)]
 
+ghost use Rattle.std.specs.Prelude.{◌≡◌};
+ghost use Rattle.step.specs.Rule.{no_sides, no_rule};
+
 use marking::NetToken;
 
 // One side of an event: how many net-tokens it has on each place, and how many tokens on each place of each object net, a row for each
@@ -11,6 +14,18 @@ pub struct Sides {
     pub inner: [[u64; 32]; 8],
 }
 
+impl Sides {
+    // Room for the sums of a side.
+    pub fn empty() -> Sides
+        ensures { result ≡ no_sides }
+    {
+        Sides {
+            outer: [0u64; 32],
+            inner: [[0u64; 32]; 8],
+        }
+    }
+}
+
 // What the firing rule asks of a step of one event: how many nets there are, the types of the places, and the event's two sides.
 #[derive(Clone, Copy)]
 pub struct Rule {
@@ -18,6 +33,20 @@ pub struct Rule {
     pub types: [u8; 32],
     pub pre: Sides,
     pub post: Sides,
+}
+
+impl Rule {
+    // Room for a rule.
+    pub fn empty() -> Rule
+        ensures { result ≡ no_rule }
+    {
+        Rule {
+            nets: 0,
+            types: [0u8; 32],
+            pre: Sides::empty(),
+            post: Sides::empty(),
+        }
+    }
 }
 
 // Why a step is turned down: for the places of its net-tokens, for too few tokens of an object net, for others than the event leaves, for a

@@ -48,14 +48,13 @@ fn add_inside(sums: &mut [[u64; 32]; 8], types: &[u8; 32], t: &NetToken)
     add_counts(&mut sums[d - 1], &t.counts);
 }
 
-// The insides of net-tokens added up, net by net.
-pub fn inner_of(tokens: &[NetToken], types: &[u8; 32]) -> [[u64; 32]; 8]
+// The insides of net-tokens added up, net by net, into room for the sums.
+pub fn inner_of(tokens: &[NetToken], types: &[u8; 32], sums: &mut [[u64; 32]; 8])
     requires { Placed tokens.now × ((p : ℕ) → get_or types.now p 0 ≤ 8) }
-    ensures { Inner types.now tokens.now result }
+    ensures { Inner types.now tokens.now sums.new }
 {
-    let mut sums = [[0u64; 32]; 8];
+    *sums = [[0u64; 32]; 8];
     for t in tokens {
-        add_inside(&mut sums, types, t);
+        add_inside(sums, types, t);
     }
-    sums
 }

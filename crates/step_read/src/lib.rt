@@ -47,8 +47,8 @@ fn tokens_after<'a>(
     net_tokens(r, z, n, room)
 }
 
-// The lines of a step up to those that it takes: its event, from 1 to `events`, and the net-tokens taken, lent from the room that `taken` is for
-// them. What stands there past them, and after a refusal, is left open.
+// The lines of a step up to those that it takes: its event, from 1 to `events`, and the net-tokens taken. `taken` is room for them, of which
+// they are lent; what stands there past them, and after a refusal, is left open.
 pub fn read_taking<'a>(
     r: &mut Reader,
     events: u16,
@@ -62,8 +62,8 @@ pub fn read_taking<'a>(
     Ok(TakeLines { event, taken })
 }
 
-// The lines of a step: its event, from 1 to `events`, and the net-tokens that it takes and gives, lent from the room that `taken` and `given` are
-// for them, left as above.
+// The lines of a step: its event, from 1 to `events`, and the net-tokens that it takes and gives. `taken` and `given` are room for them, lent
+// and left as above.
 pub fn read_step<'a>(
     r: &mut Reader,
     events: u16,

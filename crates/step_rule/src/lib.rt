@@ -11,7 +11,7 @@ ghost use Rattle.step.specs.RuleParts.{sum_rows, pre_arcs, post_arcs, net_sums};
 
 use model::Model;
 use model_acts::outer_side;
-use step::{Rule, Sides};
+use step::Rule;
 
 // A row of arcs added to the sum, as often as it is counted.
 fn plus_times(sum: &mut [u64; 32], count: u8, arcs: &[u8; 32])
@@ -38,42 +38,33 @@ fn summed(counts: &[u8; 32], table: &[[u8; 32]; 32], transitions: usize) -> [u64
     sum
 }
 
-// The rows of the object nets on both sides, for the counts of an event.
-fn inner_sides(m: &Model, sync: &[[u8; 32]; 8]) -> ([[u64; 32]; 8], [[u64; 32]; 8])
+// The rows of the object nets on both sides, for the counts of an event, into room for them.
+fn inner_sides(m: &Model, sync: &[[u8; 32]; 8], pre: &mut [[u64; 32]; 8], post: &mut [[u64; 32]; 8])
     requires { (m.now.nets ≤ 8) × ((n : ℕ) → (get_or m.now.objects n no_net).transitions ≤ 32) }
-    ensures { (result.0 ≡ net_sums pre_arcs m.now sync.now) × (result.1 ≡ net_sums post_arcs m.now sync.now) }
+    ensures { (pre.new ≡ net_sums pre_arcs m.now sync.now) × (post.new ≡ net_sums post_arcs m.now sync.now) }
 {
-    let mut pre = [[0u64; 32]; 8];
-    let mut post = [[0u64; 32]; 8];
+    *pre = [[0u64; 32]; 8];
+    *post = [[0u64; 32]; 8];
     for n in 0..m.nets {
         let net = &m.objects[n];
         let transitions = net.transitions;
         pre[n] = summed(&sync[n], &net.pre, transitions);
         post[n] = summed(&sync[n], &net.post, transitions);
     }
-    (pre, post)
 }
 
-// What the firing rule asks of a step of event e, which is one of the held model's. The arrays of the model that is lent have their room, and
-// bytes in it.
-pub fn rule_of(m: &Model, e: usize) -> Rule
+// What the firing rule asks of a step of event e, which is one of the held model's, into room for it. The arrays of the model that is lent have
+// their room, and bytes in it.
+pub fn rule_of(m: &Model, e: usize, rule: &mut Rule)
     requires { (held_model m.now ≡ true) × (e < m.now.listed) }
-    ensures made { result ≡ hold_rule (model_of m.now) e }
+    ensures made { rule.new ≡ hold_rule (model_of m.now) e }
     ensures sized { SizedModel m.now }
 {
     let event = &m.events[e];
     let act = event.act();
-    let (pre, post) = inner_sides(m, &event.sync);
-    Rule {
-        nets: m.nets,
-        types: m.types,
-        pre: Sides {
-            outer: outer_side(act, &m.pre),
-            inner: pre,
-        },
-        post: Sides {
-            outer: outer_side(act, &m.post),
-            inner: post,
-        },
-    }
+    rule.nets = m.nets;
+    rule.types = m.types;
+    rule.pre.outer = outer_side(act, &m.pre);
+    rule.post.outer = outer_side(act, &m.post);
+    inner_sides(m, &event.sync, &mut rule.pre.inner, &mut rule.post.inner);
 }

@@ -41,11 +41,13 @@ pub fn on_nets(rule: &Rule, taken: &[NetToken], given: &[NetToken]) -> Result<()
     requires { Sound rule.now × Placed taken.now × Placed given.now }
     ensures { result ≡ verdict_of (length taken.now) (first (inner_causes rule.now taken.now given.now)) }
 {
-    let held = inner_of(taken, &rule.types);
+    let mut held = [[0u64; 32]; 8];
+    inner_of(taken, &rule.types, &mut held);
     if let Some(net) = short_net(rule.nets, &rule.pre.inner, &held) {
         return Err(Refusal::Short { net: net + 1 });
     }
-    let made = inner_of(given, &rule.types);
+    let mut made = [[0u64; 32]; 8];
+    inner_of(given, &rule.types, &mut made);
     if let Some(net) = unbalanced_net(rule.nets, &made, &held, &rule.pre.inner, &rule.post.inner) {
         return Err(Refusal::Unequal { net: net + 1 });
     }

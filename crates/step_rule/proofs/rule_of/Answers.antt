@@ -20,14 +20,14 @@ offset_bounds-m-e c = let h = few_events c.args.m.now c.requires.0 c.args.e c.re
 pub bounds-m-e : goal.bounds-m-e
 bounds-m-e c = few_events c.args.m.now c.requires.0 c.args.e c.requires.1
 
-pub outer_side-requires : goal.outer_side-requires
-outer_side-requires c =
+pub outer_side-rule-requires : goal.outer_side-rule-requires
+outer_side-rule-requires c =
     let m = c.args.m.now in
     let sized = told-sized m c.type_inv.m in
     act_few m c.requires.0 sized c.args.e c.requires.1 _ (act_read m c.requires.0 sized c.args.e c.requires.1 none _ c.act-act.ensures)
 
-pub outer_side-requires-2 : goal.outer_side-requires-2
-outer_side-requires-2 c =
+pub outer_side-rule-requires-2 : goal.outer_side-rule-requires-2
+outer_side-rule-requires-2 c =
     let m = c.args.m.now in
     let sized = told-sized m c.type_inv.m in
     act_few m c.requires.0 sized c.args.e c.requires.1 _ (act_read m c.requires.0 sized c.args.e c.requires.1 none _ c.act-act.ensures)
@@ -48,5 +48,5 @@ returns-clause-made c =
     let act = act_read m c.requires.0 sized e c.requires.1 none _ c.act-act.ensures in
     let counts = counts_read m c.requires.0 sized e c.requires.1 none in
     rule_made m c.requires.0 sized e c.requires.1 _ refl refl
-    (c.outer_side.ensures ∙ ap (act_side (row_at m.pre) 32) act) (c.inner_sides.ensures.0 ∙ ap (net_sums pre_arcs m) counts)
-    (c.outer_side-2.ensures ∙ ap (act_side (row_at m.post) 32) act) (c.inner_sides.ensures.1 ∙ ap (net_sums post_arcs m) counts)
+    (c.outer_side-rule.ensures ∙ ap (act_side (row_at m.pre) 32) act) (c.inner_sides.ensures.0 ∙ ap (net_sums pre_arcs m) counts)
+    (c.outer_side-rule-2.ensures ∙ ap (act_side (row_at m.post) 32) act) (c.inner_sides.ensures.1 ∙ ap (net_sums post_arcs m) counts)
