@@ -48,7 +48,7 @@ fn add_inside(sums: &mut [[u64; 32]; 8], types: &[u8; 32], t: &NetToken)
     add_counts(&mut sums[d - 1], &t.counts);
 }
 
-// The insides of net-tokens added up, net by net, into room for the sums.
+// The insides of net-tokens added up, net by net, into room for the sums: an answer of 2 KB is copied, which is slower (tried).
 pub fn inner_of(tokens: &[NetToken], types: &[u8; 32], sums: &mut [[u64; 32]; 8])
     requires { Placed tokens.now × ((p : ℕ) → get_or types.now p 0 ≤ 8) }
     ensures { Inner types.now tokens.now sums.new }
