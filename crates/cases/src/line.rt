@@ -1,6 +1,7 @@
 // The text of a case, in which \n stands for LF and \r for CR.
 ghost use Rattle.std.specs.Prelude.{◌≡◌, ◌≢◌, ◌≤◌, ◌<◌, length, take, slice_index, All};
 
+use text::Parsed;
 use text_scan::{number, starts};
 
 // The position of the first such byte of s; where there is none, the length of s.
@@ -13,37 +14,31 @@ pub fn find(s: &[u8], byte: u8) -> usize
 }
 
 // A byte of the text, and the position after what stands for it.
-#[derive(Clone, Copy)]
-struct Byte {
-    value: u8,
-    next: usize,
-}
-
-fn byte_from(s: &[u8], at: usize) -> Byte
+fn byte_from(s: &[u8], at: usize) -> Parsed<u8>
     requires { at < length s.now }
-    ensures { (at < result.next) × (result.next ≤ length s.now) }
+    ensures { (at < result.end) × (result.end ≤ length s.now) }
 {
     if s.len() - at < 2 {
-        return Byte {
+        return Parsed {
             value: s[at],
-            next: at + 1,
+            end: at + 1,
         };
     }
     if starts(s, at, b"\\n") {
-        return Byte {
+        return Parsed {
             value: b'\n',
-            next: at + 2,
+            end: at + 2,
         };
     }
     if starts(s, at, b"\\r") {
-        return Byte {
+        return Parsed {
             value: b'\r',
-            next: at + 2,
+            end: at + 2,
         };
     }
-    Byte {
+    Parsed {
         value: s[at],
-        next: at + 1,
+        end: at + 1,
     }
 }
 
@@ -53,18 +48,15 @@ pub fn decoded(s: &[u8], out: &mut [u8]) -> usize
     ensures prefix { result ≡ length (take result out.new) }
 {
     let mut at = 2;
-    let mut n = 0;
-    // Both places move by what stands there: no index goes over the text.
-    while at < s.len() {
-        if out.len() <= n {
+    for n in 0..out.len() {
+        if s.len() <= at {
             return n;
         }
-        let b = byte_from(s, at);
-        out[n] = b.value;
-        at = b.next;
-        n += 1;
+        let Parsed { value, end } = byte_from(s, at);
+        out[n] = value;
+        at = end;
     }
-    n
+    out.len()
 }
 
 // The number at `at`, 0 where there is none. There is no From of u32 for usize, which is wider: none is lost.

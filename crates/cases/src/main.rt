@@ -16,25 +16,35 @@ mod line;
 
 // What a case that leaves the hand as it is prints after its name.
 fn print(rt: &impl Print, hand: &Hand, kind: &[u8], text: &[u8]) -> io::Result<()> {
-    if starts(kind, 0, b"model ") {
-        answers::model(rt, text)
-    } else if starts(kind, 0, b"marking ") {
-        answers::marking(rt, hand, text)
-    } else if starts(kind, 0, b"step ") {
-        answers::step(rt, hand, text)?;
-        Ok(())
-    } else if starts(kind, 0, b"run ") {
-        answers::run(rt, hand, text)
-    } else if starts(kind, 0, b"weigh ") {
-        answers::weigh(rt, hand, text)
-    } else if starts(kind, 0, b"write ") {
-        answers::write(rt, hand, text)
-    } else if starts(kind, 0, b"count ") {
-        answers::count(rt, hand)
-    } else if starts(kind, 0, b"ways ") {
-        answers::ways(rt, text)
-    } else {
-        println!(rt; "no such kind")
+    match kind {
+        b"model" => answers::model(rt, text),
+        b"marking" => answers::marking(rt, hand, text),
+        b"step" => answers::step(rt, hand, text).map(|_| ()),
+        b"run" => answers::run(rt, hand, text),
+        b"weigh" => answers::weigh(rt, hand, text),
+        b"write" => answers::write(rt, hand, text),
+        b"count" => answers::count(rt, hand),
+        b"ways" => answers::ways(rt, text),
+        _ => println!(rt; "no such kind"),
+    }
+}
+
+// A case that prints its name, and then what it answers; answers what is in hand after it.
+fn named_case(
+    rt: &impl Print,
+    hand: Hand,
+    kind: &[u8],
+    name: &[u8],
+    text: &[u8],
+) -> io::Result<Hand> {
+    rt.write_all(name)?;
+    rt.write_all(b": ")?;
+    match kind {
+        b"go" => answers::step(rt, &hand, text),
+        _ => {
+            print(rt, &hand, kind, text)?;
+            Ok(hand)
+        }
     }
 }
 
@@ -46,19 +56,11 @@ fn case(
     name: &[u8],
     text: &[u8],
 ) -> io::Result<Hand> {
-    if starts(kind, 0, b"use ") {
-        return Ok(Hand::of(text));
+    match kind {
+        b"use" => Ok(Hand::of(text)),
+        b"load" => Ok(Hand::loaded_by_name(rt, text)),
+        _ => named_case(rt, hand, kind, name, text),
     }
-    if starts(kind, 0, b"load ") {
-        return Ok(Hand::loaded_by_name(rt, text));
-    }
-    rt.write_all(name)?;
-    rt.write_all(b": ")?;
-    if starts(kind, 0, b"go ") {
-        return answers::step(rt, &hand, text);
-    }
-    print(rt, &hand, kind, text)?;
-    Ok(hand)
 }
 
 // The case of a line; a line that is empty or a comment has none.
@@ -73,7 +75,13 @@ fn case_of(rt: &(impl Files + Print), hand: Hand, line: &[u8]) -> io::Result<Han
     }
     let mut text = [0u8; 65536];
     let n = decoded(&line[colon..], &mut text);
-    case(rt, hand, line, &line[blank + 1..colon], &text[..n])
+    case(
+        rt,
+        hand,
+        &line[..blank],
+        &line[blank + 1..colon],
+        &text[..n],
+    )
 }
 
 fn all_cases(rt: &(impl Files + Print), text: &[u8]) -> io::Result<()> {

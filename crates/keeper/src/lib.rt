@@ -23,7 +23,8 @@ use weightfile::weight_lines;
 mod effects;
 mod weightfile;
 
-// The weights of a model's places in nine rows of 32: the outer weights, and then those of each net. Unused room is 0.
+// The weights of a model's places in nine rows of 32: the outer weights, and then those of each net, so that a place's type picks its row.
+// Unused room is 0.
 #[derive(Clone, Copy)]
 pub struct HeldWeights {
     pub rows: [[i16; 32]; 9],

@@ -7,6 +7,7 @@ use keeper::{WeightCheck, WeightRefusal, check_weights};
 use marking::Marking;
 use model::Model;
 use reader::{ModelReading, ReadRefusal, read_model, short};
+use runner::StepRefusal;
 use runner_trace::{RunEnd, run, run_refused};
 
 // The limit on a file.
@@ -30,7 +31,7 @@ pub fn trace_file(m: &Model, k: &mut Marking, s: &[u8]) -> RunEnd
     ensures { ran_to result k.new ≡ trace_file m.now k.old s.now }
 {
     if let Err(refusal) = short(s, LONGEST) {
-        return run_refused(refusal);
+        return run_refused(Err(StepRefusal::Unread(refusal)));
     }
     run(m, k, s)
 }

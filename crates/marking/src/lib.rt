@@ -41,7 +41,8 @@ impl From<TokenLine> for NetToken {
     }
 }
 
-// Net-tokens in canonical order, as many as there is room for; unused room is empty. Their number stands beside the array, as C holds them.
+// Net-tokens in canonical order, as many as there is room for; unused room is empty. Their number stands beside the array, as C holds them. C
+// may store any: what is known of a held marking is asked where it is needed, and is no fact of the type.
 #[repr(C)]
 #[derive(Clone, Copy)]
 pub struct Marking {
@@ -80,7 +81,8 @@ impl Marking {
     }
 }
 
-// How many places there are, and how many counts the net-tokens of each have.
+// How many places there are, and how many counts the net-tokens of each have. Any sizes may be lent to a test or a reading: that there is room
+// for them is asked where it is needed.
 #[derive(Clone, Copy)]
 pub struct PlaceSizes {
     pub places: u16,

@@ -37,7 +37,8 @@ pub enum Act {
 }
 
 impl Act {
-    // The act that a kind and an index stand for. A kind and an index of no act stand for one too: a held model has none of them.
+    // The act that a kind and an index stand for. A kind and an index of no act stand for one too: a held model has none of them, and who reads
+    // its events need not ask.
     pub fn of(kind: u8, index: u8) -> Act
         ensures { as_act result ≡ act_of kind index }
     {
@@ -109,7 +110,8 @@ impl Event {
     }
 }
 
-// The held model; a row of arcs for each move. Unused room is 0.
+// The held model; a row of arcs for each move. Unused room is 0. It is laid out for C, in arrays of fixed room with their counts beside them; C may
+// store any.
 #[repr(C)]
 #[derive(Clone, Copy)]
 pub struct Model {

@@ -24,7 +24,7 @@ pub fn act_held(places: usize, moves: usize, types: &[u8; 32], event: &Event) ->
     }
 }
 
-// The net that an event idles in, from 1; 0 for a move.
+// The net that an event idles in, from 1; 0, the type of black tokens, for a move.
 pub fn own_net(types: &[u8; 32], act: Act) -> u8
     requires { index_of (as_act act) ≤ 32 }
     ensures { result ≡ own_net (nth types.now) (as_act act) }

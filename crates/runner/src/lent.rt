@@ -42,7 +42,7 @@ fn fire(
 }
 
 // What the steps of a run share: a held model, how many counts the net-tokens of its places have, how many net-tokens a marking has room
-// for, and room for those that a step takes and gives.
+// for, and room for those that a step takes and gives, in fixed memory.
 #[derive(Drop)]
 pub struct Stepper<'a> {
     pub model: &'a Model,

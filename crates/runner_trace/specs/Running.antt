@@ -33,12 +33,13 @@ ran n at a k = record { fired = n; at = at; stop = a; marking = k }
 abbrev pub ran_to : RunEnd → Marking → Ran
 ran_to r k = ran r.fired r.at r.stop k
 
--- refused before its first step
-abbrev pub run_refused : ReadRefusal → RunEnd
-run_refused e = record { fired = 0; at = 0; stop = Err (Unread e) }
+-- stopped before its first step
+abbrev pub run_refused : Result (Unit {0}) StepRefusal → RunEnd
+run_refused a = record { fired = 0; at = 0; stop = a }
 
+-- refused, since its text is not read
 abbrev pub unrun : ReadRefusal → Marking → Ran
-unrun e k = ran_to (run_refused e) k
+unrun e k = ran_to (run_refused (Err (Unread e))) k
 
 -- a run at what is left of the text: at its end it stops, a step that fires is followed by the rest of the run, and one that is turned
 -- down stops it

@@ -9,7 +9,7 @@ ghost use Rattle.runner_trace.specs.Running.{ran, ran_to, run_refused, run_from,
 
 use marking::Marking;
 use model::Model;
-use reader::{ReadRefusal, admitted, named};
+use reader::{admitted, named};
 use runner::StepRefusal;
 use runner::lent::Stepper;
 use text_reader::Reader;
@@ -67,14 +67,14 @@ fn run_steps(m: &Model, k: &mut Marking, r: &mut Reader) -> RunEnd
     }
 }
 
-// A run that is refused before its first step.
-pub fn run_refused(refusal: ReadRefusal) -> RunEnd
-    ensures { result ≡ run_refused refusal }
+// A run that is stopped before its first step.
+pub fn run_refused(stop: Result<(), StepRefusal>) -> RunEnd
+    ensures { result ≡ run_refused stop }
 {
     RunEnd {
         fired: 0,
         at: 0,
-        stop: Err(StepRefusal::Unread(refusal)),
+        stop,
     }
 }
 
@@ -83,11 +83,11 @@ pub fn run(m: &Model, k: &mut Marking, s: &[u8]) -> RunEnd
     ensures { ran_to result k.new ≡ running m.now k.old s.now }
 {
     if let Err(refusal) = admitted(m, k, s) {
-        return run_refused(refusal);
+        return run_refused(Err(StepRefusal::Unread(refusal)));
     }
     let mut r = Reader { src: s, at: 0 };
     if let Err(refusal) = named(s, r.head(b"run=1\n")) {
-        return run_refused(refusal);
+        return run_refused(Err(StepRefusal::Unread(refusal)));
     }
     run_steps(m, k, &mut r)
 }

@@ -25,7 +25,7 @@ pub fn short_net(nets: usize, asked: &[[u64; 32]; 8], held: &[[u64; 32]; 8]) -> 
     (0..nets).find(|net| !enough(&asked[*net], &held[*net]))
 }
 
-// Whether what is made of a net is what is held of it, without pre and with post.
+// Whether what is made of a net is what is held of it, without pre and with post; four rows at one index.
 fn even(made: &[u64; 32], held: &[u64; 32], pre: &[u64; 32], post: &[u64; 32]) -> bool
     requires { Small held.now × Small post.now }
     ensures { result ≡ even made.now held.now pre.now post.now }

@@ -1,4 +1,5 @@
-// The verdict on a step: the tests in their order, up to the first that fails.
+// The verdict on a step: the tests in their order, up to the first that fails. They are asked of net-tokens that need not have been read from a
+// step's lines, and so of what is taken and what is given each by itself.
 #![tactic(auto)]
 
 ghost use Rattle.std.specs.Prelude.{◌≡◌, ◌≤◌, length};

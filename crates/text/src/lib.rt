@@ -52,7 +52,7 @@ pub struct Spot {
     pub line: usize,
 }
 
-// A net-token's place, from 1, and its counts.
+// A net-token's place, from 1, and its counts. Texts know no held thing: a held net-token is made of it.
 #[derive(Clone, Copy)]
 pub struct TokenLine {
     pub place: u16,
