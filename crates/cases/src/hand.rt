@@ -28,8 +28,7 @@ impl Hand {
     // Of the text of a file.
     pub fn loaded(rt: &impl Files, path: &str) -> Hand {
         let mut buf = [0u8; 65536];
-        let n = load(rt, path, &mut buf);
-        Hand::of(&buf[..n])
+        Hand::of(load(rt, path, &mut buf))
     }
 
     // Of the file that a case names; a name that is not UTF-8 is no file's.

@@ -42,8 +42,16 @@ fn byte_from(s: &[u8], at: usize) -> Parsed<u8>
     }
 }
 
-// Puts the text behind a colon and a blank, with which s begins, into out, and answers how many bytes there are.
-pub fn decoded(s: &[u8], out: &mut [u8]) -> usize
+// The text behind a colon and a blank, with which s begins, is put into out, and lent as far as there is room for it.
+pub fn decoded<'a>(s: &[u8], out: &'a mut [u8]) -> &'a [u8]
+    ensures { length result.now ≤ length out.old }
+{
+    let n = put(s, out);
+    &out[..n]
+}
+
+// How many bytes are put.
+fn put(s: &[u8], out: &mut [u8]) -> usize
     ensures in_bounds { result ≤ length out.new }
     ensures prefix { result ≡ length (take result out.new) }
 {

@@ -74,14 +74,8 @@ fn case_of(rt: &(impl Files + Print), hand: Hand, line: &[u8]) -> io::Result<Han
         return Ok(hand);
     }
     let mut text = [0u8; 65536];
-    let n = decoded(&line[colon..], &mut text);
-    case(
-        rt,
-        hand,
-        &line[..blank],
-        &line[blank + 1..colon],
-        &text[..n],
-    )
+    let text = decoded(&line[colon..], &mut text);
+    case(rt, hand, &line[..blank], &line[blank + 1..colon], text)
 }
 
 fn all_cases(rt: &(impl Files + Print), text: &[u8]) -> io::Result<()> {
@@ -94,7 +88,6 @@ fn all_cases(rt: &(impl Files + Print), text: &[u8]) -> io::Result<()> {
 
 fn main(rt: HostRuntime) -> io::Result<()> {
     let mut text = [0u8; 65536];
-    let n = load(&rt, "cases", &mut text);
-    all_cases(&rt, &text[..n])?;
+    all_cases(&rt, load(&rt, "cases", &mut text))?;
     held::run(&rt, &Hand::loaded(&rt, "listing"))
 }

@@ -7,9 +7,17 @@ use std::fs::File;
 use std::io::Read;
 use std::rt::Files;
 
-// Reads the file at `path` into buf and answers how many bytes there are: as many as there is room for, and up to a read that fails; of
-// one that cannot be opened, none.
-pub fn load(rt: &impl Files, path: &str, buf: &mut [u8]) -> usize
+// Reads the file at `path` into buf and lends the bytes that there are: as many as there is room for, and up to a read that fails; of one
+// that cannot be opened, none.
+pub fn load<'a>(rt: &impl Files, path: &str, buf: &'a mut [u8]) -> &'a [u8]
+    ensures { length result.now ≤ length buf.old }
+{
+    let done = loaded(rt, path, buf);
+    &buf[..done]
+}
+
+// How many bytes are read of it.
+fn loaded(rt: &impl Files, path: &str, buf: &mut [u8]) -> usize
     ensures in_bounds { result ≤ length buf.new }
     ensures prefix { result ≡ length (take result buf.new) }
 {

@@ -26,8 +26,8 @@ fn main(rt: HostRuntime) -> io::Result<()> {
     let mut weights = [0u8; 65537];
     let mut trace = [0u8; 65537];
     let mut out = [0u8; 65536];
-    let m = load(&rt, "model", &mut model);
-    let w = load(&rt, "weights", &mut weights);
-    let t = load(&rt, "trace", &mut trace);
-    print_listing(&rt, &model[..m], &weights[..w], &trace[..t], &mut out)
+    let model = load(&rt, "model", &mut model);
+    let weights = load(&rt, "weights", &mut weights);
+    let trace = load(&rt, "trace", &mut trace);
+    print_listing(&rt, model, weights, trace, &mut out)
 }
