@@ -1,11 +1,11 @@
 // The lines of a model, from `eos` to its last event.
 #![tactic(auto)]
 
-ghost use Rattle.std.specs.Prelude.{◌≡◌, ◌≤◌, replicate};
+ghost use Rattle.std.specs.Prelude.{◌≡◌, ◌≤◌, replicate, OnErr};
 ghost use Rattle.text.specs.Answers.{kept};
 ghost use Rattle.text_reader.specs.Place.{Reads, lent};
 ghost use Rattle.model.specs.Rules.{nth, monotonous};
-ghost use Rattle.model.specs.Held.{no_net, hold_model};
+ghost use Rattle.model.specs.Held.{no_net, no_model, hold_model};
 ghost use Rattle.model_text.specs.Reading.{read_plant};
 ghost use Rattle.model_text.specs.Parts.{read_outline, read_system};
 ghost use Rattle.model_text.specs.Answers.{hold_outline, with_system};
@@ -46,9 +46,8 @@ fn system(r: &mut Reader, m: &mut Model) -> Result<(), Fault>
     Ok(())
 }
 
-// The lines of a model, in order, into the model lent: the first that is refused ends the reading, and what is in the model then is left
-// open.
-pub fn read_plant(r: &mut Reader, m: &mut Model) -> Result<(), Fault>
+// The lines of a model, in order, into the model lent: the first that is refused ends the reading.
+fn plant(r: &mut Reader, m: &mut Model) -> Result<(), Fault>
     ensures { Reads (kept hold_model (read_plant r.old.src.now r.old.at)) r.old r.new (lent m.new result) }
 {
     let outline = outline(r)?;
@@ -60,4 +59,16 @@ pub fn read_plant(r: &mut Reader, m: &mut Model) -> Result<(), Fault>
     let listed = usize::from(r.number(b"events=", 0, Model::EVENTS)?);
     events(r, listed, m)?;
     Ok(())
+}
+
+// The lines of a model into the model lent, which is the empty model where one of them is refused.
+pub fn read_plant(r: &mut Reader, m: &mut Model) -> Result<(), Fault>
+    ensures read { Reads (kept hold_model (read_plant r.old.src.now r.old.at)) r.old r.new (lent m.new result) }
+    ensures refused { OnErr result (m.new ≡ no_model) }
+{
+    let read = plant(r, m);
+    if read.is_err() {
+        *m = Model::empty();
+    }
+    read
 }

@@ -1,9 +1,9 @@
--- `read_plant` reads the lines of a model: one of them is refused, or all are held.
+-- `plant` reads the lines of a model: one of them is refused, or all are held.
 use mathlib.Core.Path.{ap}
 use Rattle.text.proofs.Basics.{handed_on}
 use Rattle.model.specs.declared.Model.{Model}
 use Rattle.model_text.proofs.PlantLaws.{outline_refused, outline_fits, system_refused, fits, eventless_yet, listed_refused, listed_few, events_read}
-use Rattle.model_read.proofs.read_plant.Goals as goal
+use Rattle.model_read.proofs.plant.Goals as goal
 
 pub returns-in_err-outline : goal.returns-in_err-outline
 returns-in_err-outline c =
