@@ -1,12 +1,12 @@
 // The lines of the events.
 #![tactic(auto)]
 
-ghost use Rattle.std.specs.Prelude.{◌≡◌, ◌≤◌, ◌<◌, replicate};
+ghost use Rattle.std.specs.Prelude.{◌≡◌, ◌≤◌, ◌<◌};
 ghost use Rattle.text.specs.Lines.{many};
 ghost use Rattle.text.specs.Repeat.{many_at};
 ghost use Rattle.text.specs.Answers.{kept, padded};
 ghost use Rattle.text_reader.specs.Place.{Reads, lent};
-ghost use Rattle.model.specs.Held.{row, tabled, hold_event, no_event};
+ghost use Rattle.model.specs.Held.{row, tabled, hold_event};
 ghost use Rattle.model.specs.Test.{frame_in};
 ghost use Rattle.model_text.specs.Reading.{read_idle, read_move, read_act, read_sync, read_event};
 ghost use Rattle.model_text.specs.Answers.{Fitting, hold_act, with_events};
@@ -90,12 +90,13 @@ fn event(r: &mut Reader, m: &Model) -> Result<Event, Fault>
     Ok(Event::new(act, sync))
 }
 
-// The lines of n events, which are laid into a model that has none, as the object nets are.
+// The lines of n events, which are laid into the model's room for them, as the object nets are.
 pub fn events(r: &mut Reader, n: usize, m: &mut Model) -> Result<(), Fault>
     requires fitting { Fitting m.old }
-    requires none { (n ≤ 64) × (m.old.events ≡ replicate 64 no_event) }
+    requires few { n ≤ 64 }
     ensures { Reads (kept (with_events m.old) (many (read_event (frame_in m.old) r.old.src.now) n r.old.at)) r.old r.new (lent m.new result) }
 {
+    m.events = [Event::empty(); 64];
     for i in 0..n {
         m.events[i] = event(r, m)?;
     }

@@ -4,7 +4,7 @@ use mathlib.Core.Path.{◌≡◌, refl, sym, ap, subst, ◌∙◌}
 use mathlib.Core.List.{List}
 use mathlib.Core.Bool.{Bool}
 use native.Mathlib.Omega.{arith}
-use lib.ListN.{length, replicate}
+use lib.ListN.{length}
 use Rattle.text.specs.Bytes.{Text, bytes}
 use Rattle.text.specs.Lines.{Outcome, got, then, many, in_range, read_number}
 use Rattle.std.specs.Prelude.{Result}
@@ -17,7 +17,7 @@ use Rattle.text_reader.proofs.ReadsLaws.{itself, plainly, read_of, first_refused
 use Rattle.text.proofs.Exactly.{then-then}
 use Rattle.eos.specs.Model as eos
 use Rattle.model.specs.Rules.{nth, Frame, frame_of, monotonous, keeps_types}
-use Rattle.model.specs.Held.{no_event, no_model, hold_model}
+use Rattle.model.specs.Held.{no_model, hold_model}
 use Rattle.model.specs.Test.{frame_in}
 use Rattle.model.specs.declared.Model.{Model}
 use Rattle.model_text.specs.Reading.{read_event, read_plant, eventless}
@@ -173,9 +173,6 @@ module _ (old : Reader) where
           let e = exact q.value sound q.held in
           let bounded = system_bounded q.value.nets q.value.places (types_kept q.value) a.src.now a.at r.value b.at (sym e ∙ r.is) in
           rw (r.held ∙ ap (λ (x : Outline). with_system (with_outline x) r.value) q.held) (frame_fits q.value sound r.value bounded)
-
-      pub eventless_yet : m.events ≡ replicate 64 no_event
-      eventless_yet = let r = read_of (with_system begun) system_lines m second in ap (λ (x : Model). x.events) r.held
 
       abbrev listed_line : Outcome ℕ
       listed_line = read_number (bytes "events=") (in_range 0 64) b.src.now b.at

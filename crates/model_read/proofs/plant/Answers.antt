@@ -1,8 +1,6 @@
 -- `plant` reads the lines of a model: one of them is refused, or all are held.
-use mathlib.Core.Path.{ap}
 use Rattle.text.proofs.Basics.{handed_on}
-use Rattle.model.specs.declared.Model.{Model}
-use Rattle.model_text.proofs.PlantLaws.{outline_refused, outline_fits, system_refused, fits, eventless_yet, listed_refused, listed_few, events_read}
+use Rattle.model_text.proofs.PlantLaws.{outline_refused, outline_fits, system_refused, fits, listed_refused, listed_few, events_read}
 use Rattle.model_read.proofs.plant.Goals as goal
 
 pub returns-in_err-outline : goal.returns-in_err-outline
@@ -10,9 +8,7 @@ returns-in_err-outline c =
     rw (handed_on _ c.from_residual.ensures.1) (outline_refused c.args.r.now _ c.in_err-outline.ensures)
 
 pub system-requires : goal.system-requires
-system-requires c =
-    let few = outline_fits c.args.r.now _ c.in_ok-outline.ensures in
-    (few.0, few.1, ap (λ (m : Model). m.objects) c.empty.ensures)
+system-requires c = outline_fits c.args.r.now _ c.in_ok-outline.ensures
 
 pub returns-in_err-system : goal.returns-in_err-system
 returns-in_err-system c =
@@ -25,11 +21,9 @@ returns-in_err-number c =
 pub events-requires-clause-fitting : goal.events-requires-clause-fitting
 events-requires-clause-fitting c = fits c.args.r.now _ c.in_ok-outline.ensures _ (rw c.empty.ensures at c.in_ok-system.ensures)
 
-pub events-requires-clause-none : goal.events-requires-clause-none
-events-requires-clause-none c = (
-  rw c.from-listed.ensures (listed_few c.args.r.now _ c.in_ok-outline.ensures _ (rw c.empty.ensures at c.in_ok-system.ensures) _ c.in_ok-number.ensures),
-  eventless_yet c.args.r.now _ c.in_ok-outline.ensures _ (rw c.empty.ensures at c.in_ok-system.ensures),
-)
+pub events-requires-clause-few : goal.events-requires-clause-few
+events-requires-clause-few c =
+    rw c.from-listed.ensures (listed_few c.args.r.now _ c.in_ok-outline.ensures _ (rw c.empty.ensures at c.in_ok-system.ensures) _ c.in_ok-number.ensures)
 
 pub returns-in_err-events : goal.returns-in_err-events
 returns-in_err-events c =
