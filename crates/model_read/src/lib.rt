@@ -46,12 +46,11 @@ fn system(r: &mut Reader, m: &mut Model) -> Result<(), Fault>
     Ok(())
 }
 
-// The lines of a model, in order, into the model lent: the first that is refused ends the reading.
+// The lines of a model, in order, into the model lent, whatever stands there: the first that is refused ends the reading.
 fn plant(r: &mut Reader, m: &mut Model) -> Result<(), Fault>
     ensures { Reads (kept hold_model (read_plant r.old.src.now r.old.at)) r.old r.new (lent m.new result) }
 {
     let outline = outline(r)?;
-    *m = Model::empty();
     m.nets = outline.nets;
     m.places = outline.places;
     m.types = outline.types;
