@@ -13,7 +13,7 @@ ghost use Rattle.model_text.specs.Answers.{hold_outline, with_system};
 use model::Model;
 use model_events::events;
 use model_nets::{nets, tables};
-use model_text::{Outline, Tables};
+use model_text::{Outline, Sides};
 use text::Fault;
 use text_reader::Reader;
 
@@ -38,7 +38,7 @@ fn system(r: &mut Reader, m: &mut Model) -> Result<(), Fault>
     ensures { Reads (kept (with_system m.old) (read_system m.old.nets m.old.places (λ t. monotonous m.old.nets m.old.places (nth m.old.types) (nth t.pre) (nth t.post)) r.old.src.now r.old.at)) r.old r.new (lent m.new result) }
 {
     let moves = usize::from(r.number(b"moves=", 0, Model::MOVES)?);
-    let Tables { pre, post } = tables(r, m.places, m.nets, &m.types, moves)?;
+    let Sides { pre, post } = tables(r, m.places, m.nets, &m.types, moves)?;
     m.moves = moves;
     m.pre = pre;
     m.post = post;
