@@ -24,11 +24,6 @@ one m s i at = read_event (frame_in m) s at
 pub loop-i-init : goal.loop-i-init
 loop-i-init c = let a = c.args in rw c.empty-m.ensures (refl {a = emptied a.m.now}, begins hold_event lay_event (one a.m.now) a.n a.r.now (emptied a.m.now))
 
-pub event-requires : goal.event-requires
-event-requires c =
-    let f = c.requires.fitting in
-    rw (c.loop-i.invariant.0) (record { places = f.places; moves = f.moves; nets = f.nets; steps = f.steps })
-
 pub returns-in_err-m : goal.returns-in_err-m
 returns-in_err-m c =
     let a = c.args in
