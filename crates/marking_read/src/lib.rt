@@ -1,7 +1,7 @@
 // Net-tokens read from their lines: one, and a block of them into a marking.
 #![tactic(auto)]
 
-ghost use Rattle.std.specs.Prelude.{◌≡◌, ◌≤◌};
+ghost use Rattle.std.specs.Prelude.{◌≡◌, ◌≤◌, OnErr};
 ghost use Rattle.text.specs.Lines.{many};
 ghost use Rattle.text.specs.Answers.{kept};
 ghost use Rattle.text_reader.specs.Place.{Reads, lent};
@@ -36,9 +36,8 @@ fn net_tokens(r: &mut Reader, z: &PlaceSizes, n: usize, marking: &mut Marking) -
     Ok(())
 }
 
-// The line of key and a number up to `most`, and that many lines of net-tokens, in any order, into the marking lent; what is in it where
-// one of them is refused is left open.
-pub fn block(
+// The line of key and a number up to `most`, and that many lines of net-tokens, in any order, into the marking lent.
+fn lines(
     r: &mut Reader,
     key: &[u8],
     most: u16,
@@ -51,4 +50,23 @@ pub fn block(
     let n = usize::from(r.number(key, 0, most)?);
     *marking = Marking::empty();
     net_tokens(r, z, n, marking)
+}
+
+// The same lines into the marking lent, which has no net-token where one of them is refused.
+pub fn block(
+    r: &mut Reader,
+    key: &[u8],
+    most: u16,
+    z: &PlaceSizes,
+    marking: &mut Marking,
+) -> Result<(), Fault>
+    requires { (most ≤ line_limit) × Roomy (as_sizes z.now) }
+    ensures read { Reads (kept hold_block (read_block key.now (limits most count_limit) (as_sizes z.now) r.old.src.now r.old.at)) r.old r.new (lent marking.new result) }
+    ensures refused { OnErr result (marking.new ≡ no_marking) }
+{
+    let read = lines(r, key, most, z, marking);
+    if read.is_err() {
+        *marking = Marking::empty();
+    }
+    read
 }

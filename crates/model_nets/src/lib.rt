@@ -1,25 +1,30 @@
 // The lines `pre` and `post` of moves and of transitions, and the lines of the object nets.
 #![tactic(auto)]
 
-ghost use Rattle.std.specs.Prelude.{◌≡◌, ◌≤◌, replicate};
+ghost use Rattle.std.specs.Prelude.{◌≡◌, ◌≤◌};
 ghost use Rattle.text.specs.Lines.{many};
 ghost use Rattle.text.specs.Answers.{kept};
 ghost use Rattle.text_reader.specs.Place.{Reads, lent};
 ghost use Rattle.model.specs.Rules.{nth, monotonous};
-ghost use Rattle.model.specs.Held.{hold_net, hold_nets, no_net};
+ghost use Rattle.model.specs.Held.{hold_net, hold_nets};
 ghost use Rattle.model_text.specs.Reading.{read_sides, read_net};
 ghost use Rattle.model_text.specs.Answers.{hold_sides, hold_tables};
 
 use model::{Model, ObjectNet};
 use model_rules::monotonous;
-use model_text::{Sides, Tables};
+use model_text::Sides;
 use text::{Cause, Fault};
 use text_reader::Reader;
 use text_scan::fault_at;
 
 // The two lines of a transition between `size` places, which is monotonous over `nets` nets: a fault of its `post` line where it is not.
 // With no nets that is not asked.
-fn sides(r: &mut Reader, size: usize, nets: usize, types: &[u8; 32]) -> Result<Sides, Fault>
+fn sides(
+    r: &mut Reader,
+    size: usize,
+    nets: usize,
+    types: &[u8; 32],
+) -> Result<Sides<[u8; 32]>, Fault>
     requires { size ≤ 32 }
     ensures { Reads (kept hold_sides (read_sides size (λ t. monotonous nets size (nth types.now) (nth t.pre) (nth t.post)) r.old.src.now r.old.at)) r.old r.new result }
 {
@@ -39,11 +44,11 @@ pub fn tables(
     nets: usize,
     types: &[u8; 32],
     n: usize,
-) -> Result<Tables, Fault>
+) -> Result<Sides<[[u8; 32]; 32]>, Fault>
     requires { (n ≤ 32) × (size ≤ 32) }
     ensures { Reads (kept hold_tables (many (read_sides size (λ t. monotonous nets size (nth types.now) (nth t.pre) (nth t.post)) r.old.src.now) n r.old.at)) r.old r.new result }
 {
-    let mut table = Tables {
+    let mut table = Sides {
         pre: [[0; 32]; 32],
         post: [[0; 32]; 32],
     };
@@ -61,7 +66,7 @@ fn net(r: &mut Reader) -> Result<ObjectNet, Fault>
 {
     let places = usize::from(r.number(b"inner=", 1, Model::INNER)?);
     let transitions = usize::from(r.number(b"steps=", 0, Model::STEPS)?);
-    let Tables { pre, post } = tables(r, places, 0, &[0; 32], transitions)?;
+    let Sides { pre, post } = tables(r, places, 0, &[0; 32], transitions)?;
     Ok(ObjectNet {
         places,
         transitions,
@@ -72,9 +77,10 @@ fn net(r: &mut Reader) -> Result<ObjectNet, Fault>
 
 // The lines of n object nets, which are laid into the model's room for them: in fixed memory, where they are not copied.
 pub fn nets(r: &mut Reader, n: usize, objects: &mut [ObjectNet; 8]) -> Result<(), Fault>
-    requires { (n ≤ 8) × (objects.old ≡ replicate 8 no_net) }
+    requires { n ≤ 8 }
     ensures { Reads (kept hold_nets (many (read_net r.old.src.now) n r.old.at)) r.old r.new (lent objects.new result) }
 {
+    *objects = [ObjectNet::empty(); 8];
     for i in 0..n {
         objects[i] = net(r)?;
     }

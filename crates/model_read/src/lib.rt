@@ -1,11 +1,11 @@
 // The lines of a model, from `eos` to its last event.
 #![tactic(auto)]
 
-ghost use Rattle.std.specs.Prelude.{◌≡◌, ◌≤◌, replicate};
+ghost use Rattle.std.specs.Prelude.{◌≡◌, ◌≤◌, OnErr};
 ghost use Rattle.text.specs.Answers.{kept};
 ghost use Rattle.text_reader.specs.Place.{Reads, lent};
 ghost use Rattle.model.specs.Rules.{nth, monotonous};
-ghost use Rattle.model.specs.Held.{no_net, hold_model};
+ghost use Rattle.model.specs.Held.{no_model, hold_model};
 ghost use Rattle.model_text.specs.Reading.{read_plant};
 ghost use Rattle.model_text.specs.Parts.{read_outline, read_system};
 ghost use Rattle.model_text.specs.Answers.{hold_outline, with_system};
@@ -13,7 +13,7 @@ ghost use Rattle.model_text.specs.Answers.{hold_outline, with_system};
 use model::Model;
 use model_events::events;
 use model_nets::{nets, tables};
-use model_text::{Outline, Tables};
+use model_text::{Outline, Sides};
 use text::Fault;
 use text_reader::Reader;
 
@@ -32,13 +32,13 @@ fn outline(r: &mut Reader) -> Result<Outline, Fault>
     })
 }
 
-// The lines from `moves` to the last object net, into a model that has an outline and no object net.
+// The lines from `moves` to the last object net, into a model that has an outline.
 fn system(r: &mut Reader, m: &mut Model) -> Result<(), Fault>
-    requires { (m.old.nets ≤ 8) × (m.old.places ≤ 32) × (m.old.objects ≡ replicate 8 no_net) }
+    requires { (m.old.nets ≤ 8) × (m.old.places ≤ 32) }
     ensures { Reads (kept (with_system m.old) (read_system m.old.nets m.old.places (λ t. monotonous m.old.nets m.old.places (nth m.old.types) (nth t.pre) (nth t.post)) r.old.src.now r.old.at)) r.old r.new (lent m.new result) }
 {
     let moves = usize::from(r.number(b"moves=", 0, Model::MOVES)?);
-    let Tables { pre, post } = tables(r, m.places, m.nets, &m.types, moves)?;
+    let Sides { pre, post } = tables(r, m.places, m.nets, &m.types, moves)?;
     m.moves = moves;
     m.pre = pre;
     m.post = post;
@@ -46,13 +46,11 @@ fn system(r: &mut Reader, m: &mut Model) -> Result<(), Fault>
     Ok(())
 }
 
-// The lines of a model, in order, into the model lent: the first that is refused ends the reading, and what is in the model then is left
-// open.
-pub fn read_plant(r: &mut Reader, m: &mut Model) -> Result<(), Fault>
+// The lines of a model, in order, into the model lent, whatever stands there: the first that is refused ends the reading.
+fn plant(r: &mut Reader, m: &mut Model) -> Result<(), Fault>
     ensures { Reads (kept hold_model (read_plant r.old.src.now r.old.at)) r.old r.new (lent m.new result) }
 {
     let outline = outline(r)?;
-    *m = Model::empty();
     m.nets = outline.nets;
     m.places = outline.places;
     m.types = outline.types;
@@ -60,4 +58,16 @@ pub fn read_plant(r: &mut Reader, m: &mut Model) -> Result<(), Fault>
     let listed = usize::from(r.number(b"events=", 0, Model::EVENTS)?);
     events(r, listed, m)?;
     Ok(())
+}
+
+// The lines of a model into the model lent, which is the empty model where one of them is refused.
+pub fn read_plant(r: &mut Reader, m: &mut Model) -> Result<(), Fault>
+    ensures read { Reads (kept hold_model (read_plant r.old.src.now r.old.at)) r.old r.new (lent m.new result) }
+    ensures refused { OnErr result (m.new ≡ no_model) }
+{
+    let read = plant(r, m);
+    if read.is_err() {
+        *m = Model::empty();
+    }
+    read
 }

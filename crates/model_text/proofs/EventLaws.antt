@@ -149,13 +149,17 @@ unfolding fill
 laid_is i [] m = refl
 laid_is i (e ∷ l) m = laid_is (suc i) l (lay_event i (hold_event e) m)
 
+-- a model whose room for events is empty
+abbrev pub emptied : Model → Model
+emptied m = with_listed m m.listed (replicate 64 no_event)
+
 -- a model with all of them, and their number
-pub events_held : (m : Model) → m.events ≡ replicate 64 no_event → (f : ℕ → Outcome Event) (n at : ℕ) (old new : Reader) (t : Model)
-    → Reads (kept (filling hold_event lay_event m) (many f n at)) old new (Ok t) → Reads (kept (with_events m) (many f n at)) old new (Ok (with_listed t n t.events))
+pub events_held : (m : Model) (f : ℕ → Outcome Event) (n at : ℕ) (old new : Reader) (t : Model)
+    → Reads (kept (filling hold_event lay_event (emptied m)) (many f n at)) old new (Ok t) → Reads (kept (with_events m) (many f n at)) old new (Ok (with_listed t n t.events))
 unfolding hold_events
-events_held m none f n at old new t k =
-    let q = read_of (filling hold_event lay_event m) (many f n at) t k in
-    let held : t ≡ with_listed m m.listed (fill (put_at hold_event) 0 q.value (replicate 64 no_event)) = q.held ∙ laid_is 0 q.value m ∙ ap (λ (es : List held.Event). with_listed m m.listed (fill (put_at hold_event) 0 q.value es)) none in
+events_held m f n at old new t k =
+    let q = read_of (filling hold_event lay_event (emptied m)) (many f n at) t k in
+    let held : t ≡ with_listed m m.listed (fill (put_at hold_event) 0 q.value (replicate 64 no_event)) = q.held ∙ laid_is 0 q.value (emptied m) in
     let long : length q.value ≡ n = many-long f n at q.value new.at q.is in
     let same : with_listed t n t.events ≡ with_events m q.value =
     ap (λ (x : Model). with_listed x n x.events) held ∙ ap (λ (k : ℕ). with_listed m k (fill (put_at hold_event) 0 q.value (replicate 64 no_event))) (sym long) in
@@ -163,5 +167,5 @@ events_held m none f n at old new t k =
 
 -- or one of them is refused
 pub events_bad : (m : Model) (f : ℕ → Outcome Event) (n at : ℕ) (old new : Reader) (e : Fault)
-    → Reads (kept (filling hold_event lay_event m) (many f n at)) old new (Err e) → Reads (kept (with_events m) (many f n at)) old new (Err e)
-events_bad m f n at old new e k = let r = refused_of (filling hold_event lay_event m) (many f n at) e k in fails (with_events m) (many f n at) e r.is r.same
+    → Reads (kept (filling hold_event lay_event (emptied m)) (many f n at)) old new (Err e) → Reads (kept (with_events m) (many f n at)) old new (Err e)
+events_bad m f n at old new e k = let r = refused_of (filling hold_event lay_event (emptied m)) (many f n at) e k in fails (with_events m) (many f n at) e r.is r.same

@@ -22,7 +22,7 @@ use Rattle.model.specs.Rules.{nth, monotonous}
 use Rattle.model.specs.Held.{hold_net}
 use Rattle.model.specs.declared.ObjectNet as held
 use Rattle.model_text.specs.Answers.{hold_tables}
-use Rattle.model_text.specs.declared.Tables.{Tables}
+use Rattle.model_text.specs.declared.Sides.{Sides}
 use Rattle.model_text.proofs.TransitionLines.{untyped}
 use Rattle.model_text.specs.Reading.{read_sides, read_net}
 use Rattle.model_text.proofs.LineAnswers.{number_in, many-long}
@@ -91,7 +91,7 @@ module _ (old : Reader) where
       pub rows_refused : {new : Reader} (e : Fault) → Reads (kept hold_tables rows) b new (Err e) → Reads (kept hold_net whole) old new (Err e)
       rows_refused e k = behind_n (Err e) (first_refused hold_tables hold_net rows (λ _. make size) e k)
 
-      pub net_read : {new : Reader} (t : Tables) → Reads (kept hold_tables rows) b new (Ok t)
+      pub net_read : {new : Reader} (t : Sides (List (List ℕ))) → Reads (kept hold_tables rows) b new (Ok t)
           → Reads (kept hold_net whole) old new (Ok (record { places = size; transitions = n; pre = t.pre; post = t.post }))
       unfolding hold_net
       net_read {new} t k =

@@ -14,7 +14,7 @@ use Rattle.model.specs.declared.Model.{Model}
 use Rattle.model.specs.declared.ObjectNet as held
 use Rattle.model_text.specs.Answers.{hold_outline, hold_tables, with_system}
 use Rattle.model_text.specs.declared.Outline.{Outline}
-use Rattle.model_text.specs.declared.Tables.{Tables}
+use Rattle.model_text.specs.declared.Sides.{Sides}
 use mathlib.Core.Bool.{Bool, true}
 use native.Mathlib.Omega.{arith}
 use lib.Dec.{leb}
@@ -172,7 +172,7 @@ module _ (m : Model) (fine : Transition → Bool) (old : Reader) where
     pub rows_refused : {new : Reader} (e : Fault) → Reads (kept hold_tables rows) a new (Err e) → Reads (kept (with_system m) system) old new (Err e)
     rows_refused e h = at_moves (Err e) (first_refused hold_tables (with_system m) rows behind_arcs e h)
 
-    module _ {b : Reader} (t : Tables) (second : Reads (kept hold_tables rows) a b (Ok t)) where
+    module _ {b : Reader} (t : Sides (List (List ℕ))) (second : Reads (kept hold_tables rows) a b (Ok t)) where
       abbrev objects_lines : Outcome (List ObjectNet)
       objects_lines = many (read_net b.src.now) m.nets b.at
 

@@ -4,7 +4,7 @@ use mathlib.Core.Path.{◌≡◌, refl, sym, ap, subst, ◌∙◌}
 use mathlib.Core.List.{List}
 use mathlib.Core.Bool.{Bool}
 use native.Mathlib.Omega.{arith}
-use lib.ListN.{length, replicate}
+use lib.ListN.{length}
 use Rattle.text.specs.Bytes.{Text, bytes}
 use Rattle.text.specs.Lines.{Outcome, got, then, many, in_range, read_number}
 use Rattle.std.specs.Prelude.{Result}
@@ -17,7 +17,7 @@ use Rattle.text_reader.proofs.ReadsLaws.{itself, plainly, read_of, first_refused
 use Rattle.text.proofs.Exactly.{then-then}
 use Rattle.eos.specs.Model as eos
 use Rattle.model.specs.Rules.{nth, Frame, frame_of, monotonous, keeps_types}
-use Rattle.model.specs.Held.{no_event, no_model, hold_model}
+use Rattle.model.specs.Held.{hold_model}
 use Rattle.model.specs.Test.{frame_in}
 use Rattle.model.specs.declared.Model.{Model}
 use Rattle.model_text.specs.Reading.{read_event, read_plant, eventless}
@@ -52,18 +52,18 @@ plant_parts s at = sym (simp (then-then, then_of))
 
 -- ---- what is held of the parts
 
--- a model of which its outline is held
-abbrev pub with_outline : Outline → Model
-with_outline a = record {
+-- a model with the outline that is read
+abbrev pub with_outline : Model → Outline → Model
+with_outline m a = record {
   nets = a.nets;
   places = a.places;
-  moves = no_model.moves;
-  listed = no_model.listed;
+  moves = m.moves;
+  listed = m.listed;
   types = a.types;
-  pre = no_model.pre;
-  post = no_model.post;
-  objects = no_model.objects;
-  events = no_model.events;
+  pre = m.pre;
+  post = m.post;
+  objects = m.objects;
+  events = m.events;
 }
 
 module _ (o : parts.Outline) (sound : Sound o) where
@@ -73,9 +73,9 @@ module _ (o : parts.Outline) (sound : Sound o) where
       ≡ read_system o.nets o.places (types_kept o) s x
   system_exact s x = ap (λ (f : eos.Transition → Bool). read_system o.nets o.places f s x) (fine-is o.types o.places sound.long sound.places o.nets)
 
-  module _ (y : parts.System) (bounded : Bounded o.nets y) where
+  module _ (start : Model) (y : parts.System) (bounded : Bounded o.nets y) where
     abbrev pub held : Model
-    held = with_system (with_outline (hold_outline o)) y
+    held = with_system (with_outline start (hold_outline o)) y
 
     -- the events depend on the same
     pub frame_exact : frame_in held ≡ frame_of (eventless o.types y.moves y.nets)
@@ -134,8 +134,10 @@ module _ (old : Reader) where
         let z = outline_sound old.src.now old.at q.value a.at q.is in
         rw q.held (z.nets, z.places)
 
+  -- what comes behind it, into the model lent
+  module _ {a : Reader} (outline : Outline) (first : Reads (kept hold_outline outline_lines) old a (Ok outline)) (start : Model) where
     abbrev begun : Model
-    begun = with_outline outline
+    begun = with_outline start outline
 
     abbrev system_lines : Outcome parts.System
     system_lines = read_system begun.nets begun.places (test begun) a.src.now a.at
@@ -146,7 +148,7 @@ module _ (old : Reader) where
 
     pub system_refused : {new : Reader} (e : Fault) → Reads (kept (with_system begun) system_lines) a new (Err e) → Reads (kept hold_model plant) old new (Err e)
     system_refused e k =
-        at_outline (Err e)
+        at_outline outline first (Err e)
         (λ o sound held.
         first_refused (with_system begun) hold_model (read_system o.nets o.places (types_kept o) a.src.now a.at) (behind_system o) e
         (rw (exact o sound held) at k))
@@ -154,15 +156,15 @@ module _ (old : Reader) where
     module _ {b : Reader} (m : Model) (second : Reads (kept (with_system begun) system_lines) a b (Ok m)) where
       -- what the system is, and what it keeps to
       at_system : {new : Reader} (r : Result Model Fault)
-          → ((o : parts.Outline) (sound : Sound o) (y : parts.System) (bounded : Bounded o.nets y) → m ≡ held o sound y bounded
+          → ((o : parts.Outline) (sound : Sound o) (y : parts.System) (bounded : Bounded o.nets y) → m ≡ held o sound start y bounded
           → Reads (kept hold_model (behind_system o b.src.now y b.at)) b new r)
           → Reads (kept hold_model plant) old new r
       at_system r next =
-          at_outline r
+          at_outline outline first r
           (λ o sound held.
           followed (with_system begun) hold_model (read_system o.nets o.places (types_kept o) a.src.now a.at) (behind_system o) m r
           (rw (exact o sound held) at second)
-          (λ y is k. next o sound y (system_bounded o.nets o.places (types_kept o) a.src.now a.at y b.at is) (k ∙ ap (λ (x : Outline). with_system (with_outline x) y) held)))
+          (λ y is k. next o sound y (system_bounded o.nets o.places (types_kept o) a.src.now a.at y b.at is) (k ∙ ap (λ (x : Outline). with_system (with_outline start x) y) held)))
 
       -- the events depend on what is held
       pub fits : Fitting m
@@ -172,10 +174,7 @@ module _ (old : Reader) where
           let r = read_of (with_system begun) system_lines m second in
           let e = exact q.value sound q.held in
           let bounded = system_bounded q.value.nets q.value.places (types_kept q.value) a.src.now a.at r.value b.at (sym e ∙ r.is) in
-          rw (r.held ∙ ap (λ (x : Outline). with_system (with_outline x) r.value) q.held) (frame_fits q.value sound r.value bounded)
-
-      pub eventless_yet : m.events ≡ replicate 64 no_event
-      eventless_yet = let r = read_of (with_system begun) system_lines m second in ap (λ (x : Model). x.events) r.held
+          rw (r.held ∙ ap (λ (x : Outline). with_system (with_outline start x) r.value) q.held) (frame_fits q.value sound start r.value bounded)
 
       abbrev listed_line : Outcome ℕ
       listed_line = read_number (bytes "events=") (in_range 0 64) b.src.now b.at
@@ -184,11 +183,11 @@ module _ (old : Reader) where
       event_lines s n x = many (read_event (frame_in m) s) n x
 
       -- the number of events and their lines, by what is held
-      listed_exact : (o : parts.Outline) (sound : Sound o) (y : parts.System) (bounded : Bounded o.nets y) → m ≡ held o sound y bounded
+      listed_exact : (o : parts.Outline) (sound : Sound o) (y : parts.System) (bounded : Bounded o.nets y) → m ≡ held o sound start y bounded
           → read_listed (frame_of (eventless o.types y.moves y.nets)) b.src.now b.at ≡ then listed_line (event_lines b.src.now)
       unfolding read_listed
       listed_exact o sound y bounded is =
-          ap (λ (f : Frame). then listed_line (λ n x. many (read_event f b.src.now) n x)) (sym (ap frame_in is ∙ frame_exact o sound y bounded))
+          ap (λ (f : Frame). then listed_line (λ n x. many (read_event f b.src.now) n x)) (sym (ap frame_in is ∙ frame_exact o sound start y bounded))
 
       -- what is read of them is held beside the rest
       at_listed : {new : Reader} (r : Result Model Fault) → Reads (kept (with_events m) (then listed_line (event_lines b.src.now))) b new r → Reads (kept hold_model plant) old new r
@@ -196,7 +195,7 @@ module _ (old : Reader) where
           at_system r
           (λ o sound y bounded is. made o sound y bounded is r (rw (sym (listed_exact o sound y bounded is)) at k))
         where
-          made : (o : parts.Outline) (sound : Sound o) (y : parts.System) (bounded : Bounded o.nets y) → m ≡ held o sound y bounded → (r : Result Model Fault)
+          made : (o : parts.Outline) (sound : Sound o) (y : parts.System) (bounded : Bounded o.nets y) → m ≡ held o sound start y bounded → (r : Result Model Fault)
               → Reads (kept (with_events m) (read_listed (frame_of (eventless o.types y.moves y.nets)) b.src.now b.at)) b new r
               → Reads (kept hold_model (behind_system o b.src.now y b.at)) b new r
           made o sound y bounded is (Err e) k =
@@ -205,7 +204,7 @@ module _ (old : Reader) where
               followed (with_events m) hold_model (read_listed (frame_of (eventless o.types y.moves y.nets)) b.src.now b.at) (λ _. behind_listed o y) t (Ok t) k
               (λ l got is'.
               subst (λ (x : Model). Reads (kept hold_model (behind_listed o y l new.at)) new new (Ok x))
-              (sym (is' ∙ ap (λ (x : Model). with_events x l) is ∙ model-held o sound y bounded l))
+              (sym (is' ∙ ap (λ (x : Model). with_events x l) is ∙ model-held o sound start y bounded l))
               (passes hold_model (behind_listed o y l new.at) (whole o y l) refl refl))
 
       pub listed_refused : {new : Reader} (e : Fault) → Reads listed_line b new (Err e) → Reads (kept hold_model plant) old new (Err e)

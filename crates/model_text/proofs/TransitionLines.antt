@@ -26,7 +26,6 @@ use Rattle.model_text.specs.Reading.{read_sides}
 use Rattle.model_text.specs.Answers.{hold_sides, hold_tables}
 use Rattle.model_text.proofs.LineAnswers.{list_in}
 use Rattle.model_text.specs.declared.Sides.{Sides}
-use Rattle.model_text.specs.declared.Tables.{Tables}
 
 -- what comes behind a transition's `pre` line, and behind its `post` line
 module _ (size : ℕ) (fine : Transition → Bool) where
@@ -48,10 +47,10 @@ unfolding monotonous
 untyped n type = refl
 
 -- the rows of a transition laid in both tables
-abbrev pub lay_sides : ℕ → Sides → Tables → Tables
+abbrev pub lay_sides : ℕ → Sides (List ℕ) → Sides (List (List ℕ)) → Sides (List (List ℕ))
 lay_sides i row t = record { pre = set t.pre i row.pre; post = set t.post i row.post }
 
-abbrev pub no_tables : Tables
+abbrev pub no_tables : Sides (List (List ℕ))
 no_tables = record { pre = replicate 32 no_row; post = replicate 32 no_row }
 
 both_tables : (i : ℕ) (l : List Transition) (a b : List (List ℕ))
@@ -88,7 +87,7 @@ module _ (nets size : ℕ) (type : ℕ → ℕ) (few : size ≤ 32) (old : Reade
         (λ p is held. first_refused padded hold_sides (one (bytes "post=") mid.src.now mid.at) (λ _. judge_sides size (λ t. keeps t.pre t.post) mid.at p) e k)
 
     module _ {new : Reader} (post : List ℕ) (second : Reads (kept padded (one (bytes "post=") mid.src.now mid.at)) mid new (Ok post)) where
-      judged : (r : Result Sides Fault)
+      judged : (r : Result (Sides (List ℕ)) Fault)
           → ((p q : List ℕ) → pre ≡ padded p → post ≡ padded q → keeps pre post ≡ keeps p q → Reads (kept hold_sides (judge_sides size (λ t. keeps t.pre t.post) mid.at p q new.at)) new new r)
           → Reads (kept hold_sides both) old new r
       unfolding read_sides

@@ -9,13 +9,12 @@ use Rattle.model.specs.declared.Act.TheVariants.{Move, Idle}
 use Rattle.model.specs.declared.Model.{Model}
 use Rattle.model_text.specs.Parts as parts
 use Rattle.model_text.specs.declared.Sides.{Sides}
-use Rattle.model_text.specs.declared.Tables.{Tables}
 use Rattle.model_text.specs.declared.Outline.{Outline}
 
-abbrev pub hold_sides : eos.Transition → Sides
+abbrev pub hold_sides : eos.Transition → Sides (List ℕ)
 hold_sides t = record { pre = padded t.pre; post = padded t.post }
 
-abbrev pub hold_tables : List eos.Transition → Tables
+abbrev pub hold_tables : List eos.Transition → Sides (List (List ℕ))
 hold_tables ts = record { pre = tabled pre_of 32 ts; post = tabled post_of 32 ts }
 
 abbrev pub hold_act : eos.Act → Act

@@ -1,18 +1,11 @@
 // How the lines of a model, from `eos` to its last event, are read into a held model.
 #![tactic(auto)]
 
-// The arcs of a transition.
+// The arcs of a transition, a row on each side, or of several, on each side a table with a row for each. Unused room is 0.
 #[derive(Clone, Copy)]
-pub struct Sides {
-    pub pre: [u8; 32],
-    pub post: [u8; 32],
-}
-
-// The arcs of transitions, a row for each. Unused room is 0.
-#[derive(Clone, Copy)]
-pub struct Tables {
-    pub pre: [[u8; 32]; 32],
-    pub post: [[u8; 32]; 32],
+pub struct Sides<T> {
+    pub pre: T,
+    pub post: T,
 }
 
 // How many object nets and places there are, and the type of each place.

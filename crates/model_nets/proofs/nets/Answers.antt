@@ -23,7 +23,7 @@ abbrev none : List ObjectNet
 none = replicate 8 no_net
 
 pub loop-i-init : goal.loop-i-init
-loop-i-init c = rw c.requires.1 (begins hold_net lay one c.args.n c.args.r.now none)
+loop-i-init c = rw c.empty-objects.ensures (begins hold_net lay one c.args.n c.args.r.now none)
 
 pub returns-in_err-objects : goal.returns-in_err-objects
 unfolding hold_nets

@@ -18,15 +18,15 @@ beside_lent m k (Err e) = refl
 
 pub returns-in_err-read_plant : goal.returns-in_err-read_plant
 returns-in_err-read_plant c =
-    rw (handed_on _ c.from_residual.ensures.1) (plant_refused _ _ _ c.in_err-read_plant.ensures)
+    rw (handed_on _ c.from_residual.ensures.1) (plant_refused _ _ _ c.in_err-read_plant.ensures.read)
 
 pub place_sizes-requires : goal.place_sizes-requires
-place_sizes-requires c = plant_held _ _ _ c.in_ok-read_plant.ensures
+place_sizes-requires c = plant_held _ _ _ c.in_ok-read_plant.ensures.read
 
 pub start_lines-requires : goal.start_lines-requires
-start_lines-requires c = sizes_roomy _ (plant_held _ _ _ c.in_ok-read_plant.ensures) _ c.place_sizes.ensures
+start_lines-requires c = sizes_roomy _ (plant_held _ _ _ c.in_ok-read_plant.ensures.read) _ c.place_sizes.ensures
 
 pub returns : goal.returns
 returns c =
     beside_lent _ _ c.start_lines.result
-    ∙ lines-joined _ _ _ c.in_ok-read_plant.ensures _ (rw c.place_sizes.ensures at c.start_lines.ensures)
+    ∙ lines-joined _ _ _ c.in_ok-read_plant.ensures.read _ (rw c.place_sizes.ensures at c.start_lines.ensures)

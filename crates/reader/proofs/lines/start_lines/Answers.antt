@@ -5,7 +5,7 @@ use Rattle.reader.proofs.lines.start_lines.Goals as goal
 
 pub returns-in_err-block : goal.returns-in_err-block
 returns-in_err-block c =
-    rw (handed_on _ c.from_residual.ensures.1) (tokens_refused _ c.args.r.now _ _ c.in_err-block.ensures)
+    rw (handed_on _ c.from_residual.ensures.1) (tokens_refused _ c.args.r.now _ _ c.in_err-block.ensures.read)
 
 pub returns : goal.returns
-returns c = tokens-to_end _ c.args.r.now _ _ c.in_ok-block.ensures _ c.close.ensures
+returns c = tokens-to_end _ c.args.r.now _ _ c.in_ok-block.ensures.read _ c.close.ensures

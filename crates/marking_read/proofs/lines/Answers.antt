@@ -1,10 +1,10 @@
--- `block` reads the number of net-tokens, and then their lines.
+-- `lines` reads the number of net-tokens, and then their lines.
 use native.Mathlib.Omega.{arith}
 use Rattle.text.proofs.Basics.{handed_on}
 use Rattle.marking.specs.Held.{as_sizes}
 use Rattle.marking.specs.Answers.{hold_block}
 use Rattle.marking.proofs.BlockLaws.{block_refused, block_counted, counted_few}
-use Rattle.marking_read.proofs.block.Goals as goal
+use Rattle.marking_read.proofs.lines.Goals as goal
 
 pub returns-in_err-number : goal.returns-in_err-number
 returns-in_err-number c =
