@@ -24,11 +24,12 @@ pub fn net_token(r: &mut Reader, z: &PlaceSizes) -> Result<NetToken, Fault>
     Ok(NetToken::from(line))
 }
 
-// The lines of n net-tokens, put into a marking that has none.
+// The lines of n net-tokens, put into the marking lent, whatever stands there.
 fn net_tokens(r: &mut Reader, z: &PlaceSizes, n: usize, marking: &mut Marking) -> Result<(), Fault>
-    requires { (n ≤ line_limit) × Roomy (as_sizes z.now) × (marking.old ≡ no_marking) }
+    requires { (n ≤ line_limit) × Roomy (as_sizes z.now) }
     ensures { Reads (kept hold_block (many (read_net_token (limits line_limit count_limit) (as_sizes z.now) r.old.src.now) n r.old.at)) r.old r.new (lent marking.new result) }
 {
+    *marking = Marking::empty();
     for _ in 0..n {
         let token = net_token(r, z)?;
         insert(marking, &token);
@@ -48,7 +49,6 @@ fn lines(
     ensures { Reads (kept hold_block (read_block key.now (limits most count_limit) (as_sizes z.now) r.old.src.now r.old.at)) r.old r.new (lent marking.new result) }
 {
     let n = usize::from(r.number(key, 0, most)?);
-    *marking = Marking::empty();
     net_tokens(r, z, n, marking)
 }
 

@@ -15,7 +15,7 @@ pub net_tokens-requires : goal.net_tokens-requires
 net_tokens-requires c =
     let a = c.args in
     let p = c.requires in
-    (omega (arith, c.from-n.ensures, p.0, counted_few hold_block a.key.now a.most (as_sizes a.z.now) a.r.now _ c.in_ok-number.ensures), p.1, c.empty.ensures)
+    (omega (arith, c.from-n.ensures, p.0, counted_few hold_block a.key.now a.most (as_sizes a.z.now) a.r.now _ c.in_ok-number.ensures), p.1)
 
 pub returns : goal.returns
 returns c = let a = c.args in block_counted hold_block a.key.now a.most (as_sizes a.z.now) a.r.now _ c.in_ok-number.ensures _ (rw c.from-n.ensures at c.net_tokens.ensures)

@@ -6,7 +6,7 @@ use Rattle.marking.proofs.BlockLaws.{going_start, going_long, going_kept, going_
 use Rattle.marking_read.proofs.net_tokens.Goals as goal
 
 pub loop-init : goal.loop-init
-loop-init c = rw c.requires.2 (going_start (limits 256 65535) (as_sizes c.args.z.now) c.args.n c.args.r.now)
+loop-init c = rw c.empty.ensures (going_start (limits 256 65535) (as_sizes c.args.z.now) c.args.n c.args.r.now)
 
 pub returns-in_err-token : goal.returns-in_err-token
 returns-in_err-token c =
