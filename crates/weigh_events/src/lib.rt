@@ -10,6 +10,7 @@ ghost use Rattle.weigh.specs.Sums as sums;
 ghost use Rattle.weigh.specs.Sums.{GainRow, Small, move_gain, event_gain, balanced_at, ActIn};
 
 use model::{Act, Event, Model};
+use std::array;
 use weigh::dot;
 
 // What a transition gains by a row of weights: its post weighed, less its pre weighed.
@@ -26,11 +27,7 @@ fn gain(weights: &[i16], pre: &[u8], post: &[u8]) -> i64
 fn gain_row(weights: &[i16; 32], pre: &[[u8; 32]; 32], post: &[[u8; 32]; 32]) -> [i64; 32]
     ensures { GainRow weights.now pre.now post.now result }
 {
-    let mut row = [0i64; 32];
-    for t in 0..32 {
-        row[t] = gain(weights, &pre[t], &post[t]);
-    }
-    row
+    array::from_fn(|t| gain(weights, &pre[t], &post[t]))
 }
 
 // What transitions gain: a row of the moves, and one of each net's transitions.
