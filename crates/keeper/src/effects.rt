@@ -9,7 +9,7 @@ ghost use Rattle.keeper.specs.Parts.{Holds};
 
 use super::HeldWeights;
 use model::Model;
-use weigh_events::{first_unbalanced, gains};
+use weigh_events::Gains;
 
 // The first event whose effect is not 0, by its index.
 pub fn unbalanced(m: &Model, held: &HeldWeights) -> Option<usize>
@@ -20,5 +20,5 @@ pub fn unbalanced(m: &Model, held: &HeldWeights) -> Option<usize>
     ensures within { IfSome result (λ k. k < 64) }
 {
     let listed = &m.events[..m.listed];
-    first_unbalanced(listed, m.nets, &gains(m, &held.rows))
+    Gains::of(m, &held.rows).first_unbalanced(listed)
 }

@@ -1,4 +1,4 @@
--- What transitions gain, as a row is filled and as the rows are laid one after the other.
+-- What transitions gain, as the rows are laid one after the other.
 use Prim.Native.Nat.{ℕ, zero, suc, ◌+◌, ◌≤◌, ◌<◌}
 use mathlib.Core.Path.{◌≡◌, refl, ◌∙◌}
 use mathlib.Core.Bool.{Bool, not, cond}
@@ -19,51 +19,21 @@ use Rattle.model.specs.Held.{no_net, row_at, told}
 use Rattle.model.specs.declared.Model.{Model}
 use Rattle.model.proofs.SlotLaws.{by_index}
 use Rattle.model.proofs.HeldTestLoops.{at_any}
-use Rattle.weigh.specs.Sums.{number_of, gain_of, Small, GainRow, Gains, move_gain}
+use Rattle.weigh.specs.Sums.{Small, GainRow, Gains, move_gain}
 
 by_same : {G : Type 0} (i j : ℕ) → (i ≡ j → G) → ((i ≡ j → ⊥) → G) → G
 by_same i j f g = by_index i j (λ p. g (λ e. omega arith)) (λ p. by_index j i (λ q. g (λ e. omega arith)) (λ q. f (omega arith)))
 
--- ---- a row as it is filled
+-- ---- a row
 
 pub small_none : (n : ℕ) → Small (replicate n (pos 0))
 small_none zero k = omega arith
 small_none (suc n) zero = omega arith
 small_none (suc n) (suc k) = small_none n k
 
-small_set : (row : List ℤ) (i : ℕ) (v : ℤ) → Small row → nat_abs v ≤ 137436856320 → Small (set row i v)
-small_set row i v h p k =
-    by_same k i
-    (λ e. by_index (length row) i (λ q. rw (e, get_or-set_same row i v (pos 0) q) p) (λ q. rw (set_out row i v q) (h k)))
-    (λ d. rw (get_or-set_other row i k v (pos 0) d) (h k))
-
 -- each of its numbers is small
 pub small_all : (row : List ℤ) → Small row → All (λ g. nat_abs g ≤ 137436856320) row
 small_all row h k d p = rw (at_any row k d (pos 0) p) (h k)
-
--- the first t gains stand in it
-pub record Filling (w : List ℤ) (pre post : List (List ℕ)) (t : ℕ) (row : List ℤ) : Type 0 where
-  pub long : length row ≡ 32
-  pub small : Small row
-  pub is : (k : ℕ) → k < t → number_of row k ≡ gain_of w pre post k
-
-module _ (w : List ℤ) (pre post : List (List ℕ)) where
-  pub filling_none : Filling w pre post 0 (replicate 32 (pos 0))
-  filling_none = record { long = refl; small = small_none 32; is = λ k p. absurd (omega arith) }
-
-  pub filling_next : (t : ℕ) (row : List ℤ) → Filling w pre post t row → t < 32 → (v : ℤ) → v ≡ gain_of w pre post t → nat_abs v ≤ 137436856320
-      → Filling w pre post (t + 1) (set row t v)
-  filling_next t row f h v e p = record {
-    long = length-set row t v ∙ f.long;
-    small = small_set row t v f.small p;
-    is = λ k r.
-        by_same k t
-        (λ d. rw (d, get_or-set_same row t v (pos 0) (omega (arith, f.long))) e)
-        (λ d. get_or-set_other row t k v (pos 0) d ∙ f.is k (omega (arith, d)));
-  }
-
-  pub filling_done : (row : List ℤ) → Filling w pre post 32 row → GainRow w pre post row
-  filling_done row f = record { long = f.long; small = f.small; is = f.is }
 
 -- ---- rows laid one after the other
 

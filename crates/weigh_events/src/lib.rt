@@ -6,9 +6,11 @@ ghost use Rattle.eos.specs.Causes.{failing};
 ghost use Rattle.eos.specs.Weights.{dot, is_zero};
 ghost use Rattle.model.specs.Acts.{as_act, index_of, move_of};
 ghost use Rattle.model.specs.Held.{no_event, row_at, told};
-ghost use Rattle.weigh.specs.Sums.{GainRow, Gains, Small, move_gain, event_gain, balanced_at, ActIn};
+ghost use Rattle.weigh.specs.Sums as sums;
+ghost use Rattle.weigh.specs.Sums.{GainRow, Small, move_gain, event_gain, balanced_at, ActIn};
 
 use model::{Act, Event, Model};
+use std::array;
 use weigh::dot;
 
 // What a transition gains by a row of weights: its post weighed, less its pre weighed.
@@ -25,25 +27,16 @@ fn gain(weights: &[i16], pre: &[u8], post: &[u8]) -> i64
 fn gain_row(weights: &[i16; 32], pre: &[[u8; 32]; 32], post: &[[u8; 32]; 32]) -> [i64; 32]
     ensures { GainRow weights.now pre.now post.now result }
 {
-    let mut row = [0i64; 32];
-    for t in 0..32 {
-        row[t] = gain(weights, &pre[t], &post[t]);
-    }
-    row
+    array::from_fn(|t| gain(weights, &pre[t], &post[t]))
 }
 
-// What each move and each net's transitions of a model gain, in the rows of their weights.
-pub fn gains(m: &Model, weights: &[[i16; 32]; 9]) -> [[i64; 32]; 9]
-    requires { m.now.nets ≤ 8 }
-    ensures { Gains m.now weights.now result }
-{
-    let mut table = [[0i64; 32]; 9];
-    table[0] = gain_row(&weights[0], &m.pre, &m.post);
-    for n in 0..m.nets {
-        let net = &m.objects[n];
-        table[n + 1] = gain_row(&weights[n + 1], &net.pre, &net.post);
-    }
-    table
+// What transitions gain: a row of the moves, and one of each net's transitions.
+#[derive(Drop)]
+pub struct Gains {
+    pub nets: usize,
+    pub rows: [[i64; 32]; 9],
+    pub ghost few: { nets ≤ 8 },
+    pub ghost small: { (r : ℕ) → Small (row_at rows r) },
 }
 
 // What an act gains: its move does, and idling gains nothing.
@@ -57,33 +50,47 @@ fn act_gain(act: Act, gains: &[i64; 32]) -> i64
     }
 }
 
-// What an event gains.
-fn event_gain(e: &Event, nets: usize, gains: &[[i64; 32]; 9]) -> i64
-    requires { (nets ≤ 8) × ActIn e.now × ((r : ℕ) → Small (row_at gains.now r)) }
-    ensures { result ≡ event_gain nets e.now gains.now }
-{
-    let mut sum = act_gain(e.act(), &gains[0]);
-    for n in 0..nets {
-        sum += dot(&gains[n + 1], &e.sync[n]);
+impl Gains {
+    // What each move and each net's transitions of a model gain, in the rows of their weights.
+    pub fn of(m: &Model, weights: &[[i16; 32]; 9]) -> Gains
+        requires { m.now.nets ≤ 8 }
+        ensures nets { result.nets ≡ m.now.nets }
+        ensures rows { sums.Gains m.now weights.now result.rows }
+    {
+        let mut rows = [[0i64; 32]; 9];
+        rows[0] = gain_row(&weights[0], &m.pre, &m.post);
+        for n in 0..m.nets {
+            let net = &m.objects[n];
+            rows[n + 1] = gain_row(&weights[n + 1], &net.pre, &net.post);
+        }
+        Gains { nets: m.nets, rows }
     }
-    sum
-}
 
-// Whether an event gains nothing.
-fn balanced(e: &Event, nets: usize, gains: &[[i64; 32]; 9]) -> bool
-    requires { (nets ≤ 8) × ActIn e.now × ((r : ℕ) → Small (row_at gains.now r)) }
-    ensures { result ≡ is_zero (event_gain nets e.now gains.now) }
-{
-    event_gain(e, nets, gains) == 0
-}
+    // What an event gains.
+    fn event_gain(&self, e: &Event) -> i64
+        requires { ActIn e.now }
+        ensures { result ≡ event_gain self.now.nets e.now self.now.rows }
+    {
+        let mut sum = act_gain(e.act(), &self.rows[0]);
+        for n in 0..self.nets {
+            sum += dot(&self.rows[n + 1], &e.sync[n]);
+        }
+        sum
+    }
 
-// The first of the events that gains something, by its index.
-pub fn first_unbalanced(events: &[Event], nets: usize, gains: &[[i64; 32]; 9]) -> Option<usize>
-    requires nets_bound { (nets ≤ 8) × ((r : ℕ) → Small (row_at gains.now r)) }
-    requires by_index { (k : ℕ) → k < length events.now → ActIn (get_or events.now k no_event) }
-    ensures { result ≡ told (failing (length events.now) 0 (balanced_at nets events.now gains.now)) }
-{
-    events
-        .iter()
-        .position(|event| !balanced(event, nets, gains))
+    // Whether an event gains nothing.
+    fn balanced(&self, e: &Event) -> bool
+        requires { ActIn e.now }
+        ensures { result ≡ is_zero (event_gain self.now.nets e.now self.now.rows) }
+    {
+        self.event_gain(e) == 0
+    }
+
+    // The first of the events that gains something, by its index.
+    pub fn first_unbalanced(&self, events: &[Event]) -> Option<usize>
+        requires { (k : ℕ) → k < length events.now → ActIn (get_or events.now k no_event) }
+        ensures { result ≡ told (failing (length events.now) 0 (balanced_at self.now.nets events.now self.now.rows)) }
+    {
+        events.iter().position(|event| !self.balanced(event))
+    }
 }

@@ -11,8 +11,8 @@ use Rattle.keeper.proofs.HeldRows.{Kept}
 use Rattle.keeper.proofs.BalanceLaws.{act_in, event_listed, first-unbalanced, found_within}
 use Rattle.keeper.proofs.effects.unbalanced.Goals as goal
 
-pub gains-requires : goal.gains-requires
-gains-requires c = most-nets _ (held-is _ c.requires.tested)
+pub of-requires : goal.of-requires
+of-requires c = most-nets _ (held-is _ c.requires.tested)
 
 pub shared_ref_as_front-listed : goal.shared_ref_as_front-listed
 shared_ref_as_front-listed c = omega (arith, most-events _ (held-is _ c.requires.tested))
@@ -23,10 +23,7 @@ first_unbalanced-requires c =
     let listed = most-events m (held-is m c.requires.tested) in
     let room = c.requires.room.1 in
     let long : length (take m.listed m.events) ≡ m.listed = length-take-le m.listed m.events (omega arith) in
-    record {
-      nets_bound = (most-nets m (held-is m c.requires.tested), c.gains.ensures.small);
-      by_index = λ k h. rw (event_listed m k (omega arith)) (act_in m c.requires.tested k (omega arith));
-    }
+    λ k h. rw (event_listed m k (omega arith)) (act_in m c.requires.tested k (omega arith))
 
 pub returns : goal.returns
 returns c =
@@ -37,7 +34,7 @@ returns c =
     record {
       first = λ w h.
           let kept : Kept m w = record { held = c.requires.tested; types = search rules; objects = c.requires.room.0; shaped = h.shaped } in
-          let g : Gains m _ c.gains.result = rw (ap (λ (x : HeldWeights). x.rows) h.is) at c.gains.ensures in
-          c.first_unbalanced.ensures ∙ first-unbalanced m w kept c.gains.result g (omega arith);
+          let g : Gains m _ c.of.result.rows = rw (ap (λ (x : HeldWeights). x.rows) h.is) at c.of.ensures.rows in
+          rw c.of.ensures.nets at c.first_unbalanced.ensures ∙ first-unbalanced m w kept c.of.result.rows g (omega arith);
       within = rw c.first_unbalanced.ensures (found_within _ (length (take m.listed m.events)) 64 (omega arith));
     }

@@ -8,7 +8,7 @@ use Rattle.model.specs.Held.{no_net}
 use Rattle.model.specs.declared.ObjectNet.{ObjectNet}
 use Rattle.model.proofs.HeldTestLoops.{at_any}
 use Rattle.weigh.proofs.GainLaws.{laid_none, laid_next, laid_done}
-use Rattle.weigh_events.proofs.gains.Goals as goal
+use Rattle.weigh_events.proofs.Gains.of.Goals as goal
 
 -- what the code reads past the last net
 abbrev outside : ObjectNet
@@ -24,8 +24,8 @@ loop-n-preserved c =
     let same = at_any c.args.m.now.objects l.n outside no_net (omega arith) in
     laid_next _ _ _ _ _ l.invariant (omega arith) (rw (add-one l.n, same) at c.gain_row-in-loop-n.ensures)
 
-pub returns : goal.returns
-returns c =
+pub returns-clause-rows : goal.returns-clause-rows
+returns-clause-rows c =
     let l = c.loop-n in
     let e : l.n ≡ c.args.m.now.nets = omega arith in
     laid_done _ _ _ (rw e at l.invariant)

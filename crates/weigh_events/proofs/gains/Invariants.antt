@@ -1,6 +1,0 @@
--- `gains` meets its contract. The loop's invariant: the row of the moves and those of the first n nets are laid.
-use Rattle.weigh.proofs.GainLaws.{Laid}
-use Rattle.weigh_events.proofs.gains.Given as goal
-
-abbrev pub invariant-loop-n : goal.invariant-loop-n
-invariant-loop-n l = Laid l.m l.weights l.n l.table
