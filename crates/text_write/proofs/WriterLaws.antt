@@ -1,12 +1,13 @@
 -- What the writer of a text leaves, text after text.
+use Prim.Native.Nat.{◌+◌, ◌≤◌}
 use mathlib.Core.Path.{◌≡◌, refl, ◌∙◌}
 use mathlib.Core.List.{[], ◌++◌}
 use native.Mathlib.Nat.{add-zero}
 use lib.ListN.{length}
 use lib.Seq.{length-sets}
 use Rattle.text.specs.Bytes.{Text}
-use Rattle.text.proofs.LaidLaws.{Laid, laid_then}
-use Rattle.text_write.specs.Place.{Lays}
+use Rattle.text.proofs.LaidLaws.{Laid, laid_then, laid_front}
+use Rattle.text_write.specs.Place.{written, Lays}
 use Rattle.text_write.specs.declared.Writer.{Writer}
 
 -- no text
@@ -20,6 +21,10 @@ module _ (text : Text) {old new : Writer} (h : Lays text old new) where
 
   pub laid_by : Laid text old.out.now old.at new.at new.out.now
   laid_by = (h.place, h.bytes)
+
+  -- the text stands behind what stood before the place
+  pub lays_behind : old.at + length text ≤ length old.out.now → written new ≡ written old ++ text
+  lays_behind fits = laid_front text old.out.now old.at laid_by fits
 
 -- one text after another
 pub lays_both : (a b : Text) {old mid new : Writer} → Lays a old mid → Lays b mid new → Lays (a ++ b) old new

@@ -1,9 +1,9 @@
 // Texts that fit, laid into a lent buffer one behind the other.
 #![tactic(auto)]
 
-ghost use Rattle.std.specs.Prelude.{◌≡◌, ◌+◌, ◌≤◌, length, take};
+ghost use Rattle.std.specs.Prelude.{◌≡◌, ◌+◌, ◌≤◌, length};
 ghost use Rattle.text.specs.Printed.{decimal, items_text, end_text, number_text};
-ghost use Rattle.text_write.specs.Place.{Lays};
+ghost use Rattle.text_write.specs.Place.{written, Lays};
 
 use text_scan::stop_of;
 
@@ -84,7 +84,7 @@ impl<'a> Writer<'a> {
     // The bytes up to the place reached.
     pub fn written(&self) -> &[u8]
         requires { self.now.at ≤ length self.now.out.now }
-        ensures { result.now ≡ take self.now.at self.now.out.now }
+        ensures { result.now ≡ written self.now }
     {
         &self.out[..self.at]
     }
