@@ -23,6 +23,11 @@ use Rattle.marking.specs.declared.PlaceSizes.{PlaceSizes}
 use Rattle.reader.specs.Answers.{lay_whole}
 use Rattle.reader.proofs.WriteAnswers.{whole-fits, whole-short}
 
+-- a text that fits, laid over the lent bytes
+pub laid_whole : (text out laid : List ℕ) {after : List ℕ} → after ≡ laid → laid ≡ sets out 0 text → length text ≤ length out
+    → record { answer = Ok (length text); bytes = after } ≡ lay_whole text out
+laid_whole text out laid e l fits = rw (e, l) (whole-fits text out fits)
+
 -- the bytes that an answer names
 needed_in : Result ℕ TooSmall → ℕ
 needed_in (Ok end) = end
@@ -54,14 +59,14 @@ module _ (head block out : List ℕ) {w : Result ℕ TooSmall} {mid : List ℕ} 
       let p = whole_is u in
       omega (arith, ap length p.2 ∙ length-sets out (length head) block, p.0)
 
-  pub held_whole : {end : ℕ} {after : List ℕ} → w ≡ Ok end → after ≡ sets mid 0 head
+  pub held_whole : {end : ℕ} {after : List ℕ} → w ≡ Ok end → (laid : List ℕ) → after ≡ laid → laid ≡ sets mid 0 head
       → record { answer = Ok end; bytes = after } ≡ lay_whole (head ++ block) out
-  held_whole u a =
+  held_whole u laid e a =
       let p = whole_is u in
       let n = length-append head block in
       let l : sets (sets out (length head) block) 0 head ≡ sets out 0 (head ++ block) =
       sets_apart head block out 0 (length head) (omega arith) ∙ sym (sets_append head block out 0 ∙ rw (zero-add (length head))) in
-      rw (p.1, a, p.2, l, ← n) (whole-fits (head ++ block) out (omega (arith, n, p.0)))
+      rw (p.1, e, a, p.2, l, ← n) (whole-fits (head ++ block) out (omega (arith, n, p.0)))
 
   pub held-short : {n : ℕ} → w ≡ Err (record { needed = n }) → record { answer = Err (refusal.TooSmall n); bytes = mid } ≡ lay_whole (head ++ block) out
   held-short u =

@@ -2,10 +2,9 @@
 use Prim.Native.Nat.{ℕ, ◌+◌, ◌^◌, ◌≤◌, ◌<◌}
 use mathlib.Core.Path.{◌≡◌, refl, ap}
 use mathlib.Core.Bool.{Bool, cond}
-use mathlib.Core.List.{List, ◌++◌}
+use mathlib.Core.List.{◌++◌}
 use native.Mathlib.Omega.{arith}
 use lib.ListN.{length, length-append}
-use lib.Seq.{sets}
 use lib.IntN.{ℤ, pos, negsuc, nat_abs}
 use lib.Signed.{◌≤ℤ◌, ◌<ℤ◌}
 use Rattle.std.proofs.lemmas.Int.{ints}
@@ -14,7 +13,9 @@ use Rattle.text.specs.Lists.{stop_of}
 use Rattle.text.specs.Printed.{decimal, signed_text, items_text, end_text, number_text, list_text, weights_text}
 use Rattle.text.proofs.DecimalLaws.{length-below}
 use Rattle.text.proofs.TextLengths.{number-length}
-use Rattle.text.proofs.LaidLaws.{Laid, laid_then}
+use Rattle.text_write.specs.Place.{Lays}
+use Rattle.text_write.specs.declared.Writer.{Writer}
+use Rattle.text_write.proofs.WriterLaws.{lays_both}
 use Rattle.eos.specs.Causes.{Refusal}
 use Rattle.listing.specs.Listing.{pair_text, sum_text, cover_text}
 
@@ -23,9 +24,9 @@ pub long-line : (key : Text) (n : ℕ) → n < 2 ^ 64 → length (number_text ke
 long-line key n h = number-length key 19 n (omega arith)
 
 -- a text laid as a line of at most so many bytes
-pub laid_as : (text line out : List ℕ) (at most : ℕ) {next : ℕ} {after : List ℕ} → text ≡ line → length line ≤ most → Laid line out at next after
-    → (next ≡ at + length text) × (after ≡ sets out at text) × (next ≤ at + most)
-laid_as text line out at most e n l = rw e (l.0, l.1, omega (arith, l.0))
+pub lays_as : (text line : Text) (most : ℕ) {old new : Writer} → text ≡ line → length line ≤ most → Lays line old new
+    → Lays text old new × (new.at ≤ old.at + most)
+lays_as text line most e n l = rw e (l, omega (arith, l.place))
 
 -- ---- a pair
 module _ (key : Text) (r : Refusal) where
@@ -44,11 +45,9 @@ module _ (key : Text) (r : Refusal) where
         long-line (bytes ",") r.beside q,
       )
 
-  pub lay-pair : (out : List ℕ) (at : ℕ) {a b c : ℕ} {k l m : List ℕ} → Laid key out at a k → Laid (decimal r.number) k a b l
-      → Laid (number_text (bytes ",") r.beside) l b c m → Laid (pair_text key r) out at c m
-  lay-pair out at {a} {b} {c} {k} f g h =
-      rw pair_parts (laid_then key (decimal r.number ++ number_text (bytes ",") r.beside) out at f
-      (laid_then (decimal r.number) (number_text (bytes ",") r.beside) k a g h))
+  pub lays_pair : {w a b c : Writer} → Lays key w a → Lays (decimal r.number) a b → Lays (number_text (bytes ",") r.beside) b c → Lays (pair_text key r) w c
+  lays_pair f g h =
+      rw pair_parts (lays_both key (decimal r.number ++ number_text (bytes ",") r.beside) f (lays_both (decimal r.number) (number_text (bytes ",") r.beside) g h))
 
 -- ---- the sum
 

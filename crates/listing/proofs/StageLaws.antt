@@ -1,12 +1,14 @@
 -- A listing, stage by stage: what stands in the head, and what is to come behind it.
-use Prim.Native.Nat.{ℕ, ◌≤◌}
+use Prim.Native.Nat.{◌≤◌}
 use mathlib.Core.Path.{◌≡◌, ap, sym, ◌∙◌}
-use mathlib.Core.List.{List, ◌++◌, append_assoc}
+use mathlib.Core.List.{[], ◌++◌, append_assoc}
 use native.Mathlib.Omega.{arith}
-use lib.ListN.{length, take}
+use lib.ListN.{length}
 use Rattle.text.specs.Bytes.{Text, bytes}
 use Rattle.text.specs.Printed.{number_text}
-use Rattle.text.proofs.LaidLaws.{Laid, laid_then, laid_front}
+use Rattle.text_write.specs.Place.{written, Lays}
+use Rattle.text_write.specs.declared.Writer.{Writer}
+use Rattle.text_write.proofs.WriterLaws.{lays_both, lays_behind}
 use Rattle.eos.specs.Causes.{Refusal}
 use Rattle.model.specs.declared.Model.{Model}
 use Rattle.marking.specs.Held.{tokens_of}
@@ -25,56 +27,57 @@ use Rattle.runner.specs.Answers.{step_pair}
 use Rattle.reader.specs.declared.ReadRefusal.{ReadRefusal}
 
 -- behind what stands in the head, a text is laid
-front : (text head : List ℕ) (at : ℕ) {next : ℕ} {h : List ℕ} → Laid text head at next h → next ≤ length head → take next h ≡ take at head ++ text
-front text head at l n = laid_front text head at l (omega (arith, l.0))
+front : (text : Text) {old new : Writer} → Lays text old new → new.at ≤ length old.out.now → written new ≡ written old ++ text
+front text l n = lays_behind text l (omega (arith, l.place))
 
-module _ (head : List ℕ) (at : ℕ) where
+module _ (old : Writer) where
   -- the run's lines before its net-tokens
   pub run-listed : (m : Model) (k : Marking) (trace : Text) (r : Ran) → r ≡ trace_file m k trace → (p : Refusal) → p ≡ step_pair r.stop
-      → {next end : ℕ} {g h : List ℕ} → Laid (number_text (bytes "fired=") r.fired) head at next g → Laid (pair_text (bytes "stop=") p) g next end h → end ≤ length head
-      → take end h ++ block_text (bytes "held=") (tokens_of (sizes_for m) r.marking) ≡ take at head ++ run_text m (trace_file m k trace)
+      → {mid new : Writer} → Lays (number_text (bytes "fired=") r.fired) old mid → Lays (pair_text (bytes "stop=") p) mid new → new.at ≤ length old.out.now
+      → written new ++ block_text (bytes "held=") (tokens_of (sizes_for m) r.marking) ≡ written old ++ run_text m (trace_file m k trace)
   unfolding run_text
   run-listed m k trace r is p stops a b n =
       let fired = number_text (bytes "fired=") r.fired in
       let stop = pair_text (bytes "stop=") p in
-      rw (front (fired ++ stop) head at (laid_then fired stop head at a b) n, append_assoc, append_assoc, stops, ← is)
+      rw (front (fired ++ stop) (lays_both fired stop a b) n, append_assoc, append_assoc, stops, ← is)
 
   module _ (m : Model) (k : Marking) (weights trace : Text) (o : Result WeightCheck WeightRefusal) (is : o ≡ weights_file m k weights) (p : Refusal) (says : p ≡ weight_pair o) where
     after_is : after_model m k weights trace ≡ with_weights m k trace o
     after_is = ap (with_weights m k trace) (sym is)
 
     -- refused weights end the listing
-    pub weights_end : (e : WeightRefusal) → o ≡ Err e → {next : ℕ} {h : List ℕ} → Laid (pair_text (bytes "weights=") p) head at next h → next ≤ length head
-        → take next h ≡ take at head ++ after_model m k weights trace
+    pub weights_end : (e : WeightRefusal) → o ≡ Err e → {new : Writer} → Lays (pair_text (bytes "weights=") p) old new → new.at ≤ length old.out.now
+        → written new ≡ written old ++ after_model m k weights trace
     unfolding with_weights
     weights_end e r a n =
-        front (pair_text (bytes "weights=") p) head at a n
-        ∙ ap (λ (t : Text). take at head ++ t) (ap (pair_text (bytes "weights=")) (says ∙ ap weight_pair r) ∙ sym (after_is ∙ ap (with_weights m k trace) r))
+        front (pair_text (bytes "weights=") p) a n
+        ∙ ap (λ (t : Text). written old ++ t) (ap (pair_text (bytes "weights=")) (says ∙ ap weight_pair r) ∙ sym (after_is ∙ ap (with_weights m k trace) r))
 
     -- weights that pass, their sum and cover
-    pub weights-listed : (c : WeightCheck) → o ≡ Ok c → {next mid end : ℕ} {f g h : List ℕ} → Laid (pair_text (bytes "weights=") p) head at next f
-        → Laid (sum_text c.sum) f next mid g → Laid (cover_text c.cover) g mid end h → end ≤ length head
-        → take end h ++ run_text m (trace_file m k trace) ≡ take at head ++ after_model m k weights trace
+    pub weights-listed : (c : WeightCheck) → o ≡ Ok c → {f g new : Writer} → Lays (pair_text (bytes "weights=") p) old f → Lays (sum_text c.sum) f g
+        → Lays (cover_text c.cover) g new → new.at ≤ length old.out.now
+        → written new ++ run_text m (trace_file m k trace) ≡ written old ++ after_model m k weights trace
     unfolding with_weights
-    weights-listed c r {next} {mid} {end} {f} a b d n =
-        let key = bytes "weights=" in
-        let text = pair_text key p in
+    weights-listed c r a b d n =
+        let text = pair_text (bytes "weights=") p in
         let sum = sum_text c.sum in
         let cover = cover_text c.cover in
         rw (
-          front (text ++ (sum ++ cover)) head at (laid_then text (sum ++ cover) head at a (laid_then sum cover f next b d)) n,
+          front (text ++ (sum ++ cover)) (lays_both text (sum ++ cover) a (lays_both sum cover b d)) n,
           after_is ∙ ap (with_weights m k trace) r,
           says ∙ ap weight_pair r,
         )
         (simp append_assoc)
 
-module _ (head : List ℕ) (model weights trace : Text) (p : Refusal) {next : ℕ} {h : List ℕ} (a : Laid (pair_text (bytes "model=") p) head 0 next h) (n : next ≤ length head) where
-  -- a refused model ends the listing
-  pub model_end : (e : ReadRefusal) → Err e ≡ model_file model → p ≡ unread_pair e → take next h ≡ listing_text model weights trace
-  unfolding listing_text with_model
-  model_end e is says = front (pair_text (bytes "model=") p) head 0 a n ∙ rw (says, ← is)
+module _ (model weights trace : Text) (p : Refusal) {old new : Writer} (none : written old ≡ []) (a : Lays (pair_text (bytes "model=") p) old new) (n : new.at ≤ length old.out.now) where
+  first : written new ≡ pair_text (bytes "model=") p
+  first = front (pair_text (bytes "model=") p) a n ∙ rw none
 
-  pub model-listed : (r : ModelReading) → Ok r ≡ model_file model → p ≡ pair 0 0 → take next h ++ after_model r.model r.start weights trace ≡ listing_text model weights trace
+  -- a refused model ends the listing
+  pub model_end : (e : ReadRefusal) → Err e ≡ model_file model → p ≡ unread_pair e → written new ≡ listing_text model weights trace
   unfolding listing_text with_model
-  model-listed r is says =
-      ap (λ (t : Text). t ++ after_model r.model r.start weights trace) (front (pair_text (bytes "model=") p) head 0 a n) ∙ rw (says, ← is)
+  model_end e is says = first ∙ rw (says, ← is)
+
+  pub model-listed : (r : ModelReading) → Ok r ≡ model_file model → p ≡ pair 0 0 → written new ++ after_model r.model r.start weights trace ≡ listing_text model weights trace
+  unfolding listing_text with_model
+  model-listed r is says = ap (λ (t : Text). t ++ after_model r.model r.start weights trace) first ∙ rw (says, ← is)

@@ -1,12 +1,13 @@
 // What the program `rackrun` prints for the texts of its three files.
 #![tactic(auto)]
 
-ghost use Rattle.std.specs.Prelude.{◌≡◌, true, ◌++◌, ◌+◌, ◌≤◌, length, take};
+ghost use Rattle.std.specs.Prelude.{◌≡◌, true, ◌++◌, ◌+◌, ◌≤◌, length};
 ghost use Rattle.text.specs.Bytes.{bytes};
 ghost use Rattle.marking.specs.Held.{tokens_of};
 ghost use Rattle.marking.specs.Printed.{block_text};
 ghost use Rattle.marking.specs.Sizes.{sizes_for};
 ghost use Rattle.reader.specs.Answers.{held_both, lay_whole};
+ghost use Rattle.text_write.specs.Place.{written};
 ghost use Rattle.listing.specs.Listing.{trace_file, run_text, after_model, listing_text};
 
 use files::{model_file, trace_file, weights_file};
@@ -17,7 +18,7 @@ use marking_write::write;
 use model::Model;
 use pairs::Pair;
 use reader::{ModelReading, WriteRefusal};
-use text_write::{put_number_line, put_text};
+use text_write::Writer;
 
 mod files;
 mod head;
@@ -29,7 +30,7 @@ fn lay_head(head: &[u8], out: &mut [u8]) -> Result<usize, WriteRefusal>
     if out.len() < head.len() {
         return Err(WriteRefusal::TooSmall { needed: head.len() });
     }
-    put_text(out, 0, head);
+    Writer { out, at: 0 }.text(head);
     Ok(head.len())
 }
 
@@ -40,53 +41,51 @@ fn lay_with_held(head: &[u8], m: &Model, k: &Marking, out: &mut [u8]) -> Result<
         ≡ lay_whole (head.now ++ block_text (bytes "held=") (tokens_of (sizes_for m.now) k.now)) out.old }
 {
     let bytes = write(k, &place_sizes(m), b"held=", out, head.len())?;
-    put_text(out, 0, head);
+    Writer { out, at: 0 }.text(head);
     Ok(bytes)
 }
 
-// The listing from `fired` on, behind the first `at` bytes of its head.
+// The listing from `fired` on, behind its head so far.
 fn after_weights(
     m: Model,
     k: Marking,
     trace: &[u8],
-    head: &mut [u8],
-    at: usize,
+    head: &mut Writer,
     out: &mut [u8],
 ) -> Result<usize, WriteRefusal>
-    requires { (held_both m k ≡ true) × (at + 60 ≤ length head.old) × (length head.old ≤ 1024) }
+    requires { (held_both m k ≡ true) × (head.old.at + 60 ≤ length head.old.out.now) × (length head.old.out.now ≤ 1024) }
     ensures { record { answer = result; bytes = out.new }
-        ≡ lay_whole (take at head.old ++ run_text m (trace_file m k trace.now)) out.old }
+        ≡ lay_whole (written head.old ++ run_text m (trace_file m k trace.now)) out.old }
 {
     let mut after = k;
     let ran = trace_file(&m, &mut after, trace);
     // No From goes from usize to u64, which is as wide.
-    let next = put_number_line(head, at, b"fired=", ran.fired as u64);
-    let end = put_pair(head, next, b"stop=", Pair::from(ran.stop));
-    lay_with_held(&head[..end], &m, &after, out)
+    head.number_line(b"fired=", ran.fired as u64);
+    put_pair(head, b"stop=", Pair::from(ran.stop));
+    lay_with_held(head.written(), &m, &after, out)
 }
 
-// The listing from `weights` on, behind the first `at` bytes of its head.
+// The listing from `weights` on, behind its head so far.
 fn after_model(
     m: Model,
     k: Marking,
     weights: &[u8],
     trace: &[u8],
-    head: &mut [u8],
-    at: usize,
+    head: &mut Writer,
     out: &mut [u8],
 ) -> Result<usize, WriteRefusal>
-    requires { (held_both m k ≡ true) × (at + 128 ≤ length head.old) × (length head.old ≤ 1024) }
+    requires { (held_both m k ≡ true) × (head.old.at + 128 ≤ length head.old.out.now) × (length head.old.out.now ≤ 1024) }
     ensures { record { answer = result; bytes = out.new }
-        ≡ lay_whole (take at head.old ++ after_model m k weights.now trace.now) out.old }
+        ≡ lay_whole (written head.old ++ after_model m k weights.now trace.now) out.old }
 {
     let check = weights_file(m, k, weights);
-    let next = put_pair(head, at, b"weights=", Pair::from(check));
+    put_pair(head, b"weights=", Pair::from(check));
     let Ok(check) = check else {
-        return lay_head(&head[..next], out);
+        return lay_head(head.written(), out);
     };
-    let cover = put_sum(head, next, check.sum);
-    let end = put_cover(head, cover, check.cover);
-    after_weights(m, k, trace, head, end, out)
+    put_sum(head, check.sum);
+    put_cover(head, check.cover);
+    after_weights(m, k, trace, head, out)
 }
 
 // What the program prints for the three texts: written whole, or no byte of it.
@@ -99,15 +98,19 @@ pub fn listing(
     ensures { record { answer = result; bytes = out.new }
         ≡ lay_whole (listing_text model.now weights.now trace.now) out.old }
 {
-    let mut head = [0u8; 192];
+    let mut bytes = [0u8; 192];
+    let mut head = Writer {
+        out: &mut bytes,
+        at: 0,
+    };
     match model_file(model) {
         Ok(ModelReading { model, start }) => {
-            let at = put_pair(&mut head, 0, b"model=", Pair::accepted());
-            after_model(model, start, weights, trace, &mut head, at, out)
+            put_pair(&mut head, b"model=", Pair::accepted());
+            after_model(model, start, weights, trace, &mut head, out)
         }
         Err(refusal) => {
-            let at = put_pair(&mut head, 0, b"model=", Pair::from(refusal));
-            lay_head(&head[..at], out)
+            put_pair(&mut head, b"model=", Pair::from(refusal));
+            lay_head(head.written(), out)
         }
     }
 }

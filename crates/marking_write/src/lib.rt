@@ -1,18 +1,17 @@
-// A held marking written into a lent buffer. Its bytes are counted first: a buffer that is too small is not touched. The functions take the
-// buffer and a position, since a text is laid behind what stands in the buffer already: a struct of both would be taken apart at each call.
+// A held marking written into a lent buffer. Its bytes are counted first: a buffer that is too small is not touched.
 #![tactic(auto)]
 
 ghost use Rattle.std.specs.Prelude.{◌≡◌, true, ◌+◌, ◌*◌, ◌≤◌, length};
-ghost use Rattle.std.proofs.lemmas.List.Edits.{sets};
 ghost use Rattle.text.specs.Printed.{decimal, end_text, texts};
 ghost use Rattle.text.specs.Writing.{lay};
+ghost use Rattle.text_write.specs.Place.{Lays};
 ghost use Rattle.model.specs.Limits.{room_limit};
 ghost use Rattle.marking.specs.Held.{as_sizes, Roomy, tokens_of, held_marking};
 ghost use Rattle.marking.specs.Printed.{held_text, block_text};
 
 use marking::{Marking, NetToken, PlaceSizes};
 use text::TooSmall;
-use text_write::{put_list, put_number, put_number_line, put_text, width};
+use text_write::{Writer, width};
 
 // How many digits a number has.
 fn digits(value: u16) -> usize
@@ -26,7 +25,7 @@ fn list_length(values: &[u16]) -> usize
     requires { length values.now ≤ 32 }
     ensures { (result ≡ length (end_text decimal values.now)) × (result ≤ 192) }
 {
-    if values.len() == 0 {
+    if values.is_empty() {
         return 1;
     }
     let mut bytes = 0;
@@ -57,26 +56,25 @@ fn tokens_length(tokens: &[NetToken], z: &PlaceSizes) -> usize
     bytes
 }
 
-// Lays the line of a net-token. The answer is the position after it.
-fn put_token(out: &mut [u8], at: usize, t: &NetToken, z: &PlaceSizes) -> usize
-    requires { Roomy (as_sizes z.now) × (at + length (held_text (as_sizes z.now) t.now) ≤ length out.old) }
-    ensures { (result ≡ at + length (held_text (as_sizes z.now) t.now)) × (out.new ≡ sets out.old at (held_text (as_sizes z.now) t.now)) }
+// Lays the line of a net-token.
+fn put_token(w: &mut Writer, t: &NetToken, z: &PlaceSizes)
+    requires { Roomy (as_sizes z.now) × (w.old.at + length (held_text (as_sizes z.now) t.now) ≤ length w.old.out.now) }
+    ensures { Lays (held_text (as_sizes z.now) t.now) w.old w.new }
 {
     let counts = &t.counts[..z.size_at(t.place)];
-    let place = put_text(out, at, b"token=");
-    let colon = put_number(out, place, u64::from(t.place));
-    let list = put_text(out, colon, b":");
-    put_list(out, list, counts)
+    w.text(b"token=");
+    w.number(u64::from(t.place));
+    w.text(b":");
+    w.list(counts);
 }
 
 // Lays the lines of net-tokens.
-fn put_tokens(out: &mut [u8], at: usize, tokens: &[NetToken], z: &PlaceSizes)
-    requires { Roomy (as_sizes z.now) × (at + length (texts (held_text (as_sizes z.now)) tokens.now) ≤ length out.old) }
-    ensures { out.new ≡ sets out.old at (texts (held_text (as_sizes z.now)) tokens.now) }
+fn put_tokens(w: &mut Writer, tokens: &[NetToken], z: &PlaceSizes)
+    requires { Roomy (as_sizes z.now) × (w.old.at + length (texts (held_text (as_sizes z.now)) tokens.now) ≤ length w.old.out.now) }
+    ensures { Lays (texts (held_text (as_sizes z.now)) tokens.now) w.old w.new }
 {
-    let mut next = at;
     for t in tokens {
-        next = put_token(out, next, t, z);
+        put_token(w, t, z);
     }
 }
 
@@ -99,7 +97,8 @@ pub fn write(
     if out.len() < end {
         return Err(TooSmall { needed: end });
     }
-    let next = put_number_line(out, at, key, u64::from(count));
-    put_tokens(out, next, tokens, z);
+    let mut w = Writer { out, at };
+    w.number_line(key, u64::from(count));
+    put_tokens(&mut w, tokens, z);
     Ok(end)
 }

@@ -1,22 +1,11 @@
-// Texts that fit, laid into a lent buffer from a position on. A writer answers the position after its text. It takes the buffer and the
-// position, since a text is laid behind what stands in the buffer already: a struct of both would be taken apart at each call.
+// Texts that fit, laid into a lent buffer one behind the other.
 #![tactic(auto)]
 
 ghost use Rattle.std.specs.Prelude.{◌≡◌, ◌+◌, ◌≤◌, length};
-ghost use Rattle.std.proofs.lemmas.List.Edits.{sets};
 ghost use Rattle.text.specs.Printed.{decimal, items_text, end_text, number_text};
+ghost use Rattle.text_write.specs.Place.{written, Lays};
 
 use text_scan::stop_of;
-
-// The bytes of a text.
-pub fn put_text(out: &mut [u8], at: usize, text: &[u8]) -> usize
-    requires { at + length text.now ≤ length out.old }
-    ensures { (result ≡ at + length text.now) × (out.new ≡ sets out.old at text.now) }
-{
-    let end = at + text.len();
-    out[at..end].copy_from_slice(text);
-    end
-}
 
 // How many digits n has.
 pub fn width(n: u64) -> usize
@@ -26,64 +15,77 @@ pub fn width(n: u64) -> usize
     n.max(1).ilog10() as usize + 1
 }
 
-// Lays the digits of n, of which there are `width`, from `at` on: the last digit first.
-fn put_digits(out: &mut [u8], at: usize, n: u64, width: usize)
-    requires { (width ≡ length (decimal n)) × (at + width ≤ length out.old) }
-    ensures { out.new ≡ sets out.old at (decimal n) }
-{
-    let mut v = n;
-    for k in (at..at + width).rev() {
-        // A digit fits: there is no refusal to hand on.
-        out[k] = b'0' + (v % 10) as u8;
-        v /= 10;
+// The writer of a text: the bytes that are lent, and the place that it has reached. Each text laid moves it behind that text.
+#[derive(Drop)]
+pub struct Writer<'a> {
+    pub out: &'a mut [u8],
+    pub at: usize,
+}
+
+impl<'a> Writer<'a> {
+    // The bytes of a text.
+    pub fn text(&mut self, text: &[u8])
+        requires { self.old.at + length text.now ≤ length self.old.out.now }
+        ensures { Lays text.now self.old self.new }
+    {
+        let end = self.at + text.len();
+        self.out[self.at..end].copy_from_slice(text);
+        self.at = end;
     }
-}
 
-// A number in decimal.
-pub fn put_number(out: &mut [u8], at: usize, n: u64) -> usize
-    requires { at + length (decimal n) ≤ length out.old }
-    ensures { (result ≡ at + length (decimal n)) × (out.new ≡ sets out.old at (decimal n)) }
-{
-    let k = width(n);
-    put_digits(out, at, n, k);
-    at + k
-}
-
-// Numbers, each followed by a comma, the last by LF.
-fn put_items(out: &mut [u8], at: usize, values: &[u16]) -> usize
-    requires { at + length (items_text decimal values.now) ≤ length out.old }
-    ensures { (result ≡ at + length (items_text decimal values.now)) × (out.new ≡ sets out.old at (items_text decimal values.now)) }
-{
-    let mut next = at;
-    for (i, value) in values.iter().enumerate() {
-        let n = u64::from(*value);
-        let k = width(n);
-        put_digits(out, next, n, k);
-        out[next + k] = stop_of(values.len() - i - 1);
-        next = next + k + 1;
+    // A number in decimal, its last digit first.
+    pub fn number(&mut self, n: u64)
+        requires { self.old.at + length (decimal n) ≤ length self.old.out.now }
+        ensures { Lays (decimal n) self.old self.new }
+    {
+        let end = self.at + width(n);
+        let mut v = n;
+        for k in (self.at..end).rev() {
+            // A digit fits: there is no refusal to hand on.
+            self.out[k] = b'0' + (v % 10) as u8;
+            v /= 10;
+        }
+        self.at = end;
     }
-    next
-}
 
-// Numbers joined by commas and ended by LF; for no number, LF alone.
-pub fn put_list(out: &mut [u8], at: usize, values: &[u16]) -> usize
-    requires { at + length (end_text decimal values.now) ≤ length out.old }
-    ensures { (result ≡ at + length (end_text decimal values.now))
-        × (out.new ≡ sets out.old at (end_text decimal values.now)) }
-{
-    if values.len() == 0 {
-        return put_text(out, at, b"\n");
+    // Numbers, each followed by a comma, the last by LF.
+    fn items(&mut self, values: &[u16])
+        requires { self.old.at + length (items_text decimal values.now) ≤ length self.old.out.now }
+        ensures { Lays (items_text decimal values.now) self.old self.new }
+    {
+        for (i, value) in values.iter().enumerate() {
+            self.number(u64::from(*value));
+            self.out[self.at] = stop_of(values.len() - i - 1);
+            self.at += 1;
+        }
     }
-    put_items(out, at, values)
-}
 
-// The line of a key and a number.
-pub fn put_number_line(out: &mut [u8], at: usize, key: &[u8], n: u64) -> usize
-    requires { at + length (number_text key.now n) ≤ length out.old }
-    ensures { (result ≡ at + length (number_text key.now n))
-        × (out.new ≡ sets out.old at (number_text key.now n)) }
-{
-    let number = put_text(out, at, key);
-    let end = put_number(out, number, n);
-    put_text(out, end, b"\n")
+    // Numbers joined by commas and ended by LF; for no number, LF alone.
+    pub fn list(&mut self, values: &[u16])
+        requires { self.old.at + length (end_text decimal values.now) ≤ length self.old.out.now }
+        ensures { Lays (end_text decimal values.now) self.old self.new }
+    {
+        if values.is_empty() {
+            return self.text(b"\n");
+        }
+        self.items(values)
+    }
+
+    // The line of a key and a number.
+    pub fn number_line(&mut self, key: &[u8], n: u64)
+        requires { self.old.at + length (number_text key.now n) ≤ length self.old.out.now }
+        ensures { Lays (number_text key.now n) self.old self.new }
+    {
+        self.text(key);
+        self.number(n);
+        self.text(b"\n");
+    }
+
+    // The bytes up to the place reached.
+    pub fn written(&self) -> &[u8]
+        requires { self.now.at ≤ length self.now.out.now }
+        ensures { result.now ≡ written self.now }
+    {
+        &self.out[..self.at]
+    }
 }

@@ -1,35 +1,51 @@
 -- `after_model` meets its contract: the pair of the weights ends the listing, or the sum and the cover stand in the head and the run follows.
-use mathlib.Core.Path.{ap, sym, ◌∙◌}
+use mathlib.Core.Path.{ap, ◌∙◌}
 use borrow.Author.Rules.{rules}
 use native.Mathlib.Omega.{arith}
-use lib.Seq.{length-take-le}
 use mir.Syntax.{w64}
 use Rattle.std.proofs.lemmas.Int.{to_z-of_z}
 use Rattle.text.specs.Bytes.{Text}
+use Rattle.text_write.proofs.WriterLaws.{lays_room}
 use Rattle.reader.specs.Answers.{lay_whole}
 use Rattle.keeper.specs.Answers.{unpassed_pair}
 use Rattle.pairs.proofs.AnswerLaws.{answered}
 use Rattle.listing.proofs.StageLaws.{weights_end, weights-listed}
 use Rattle.listing.proofs.after_model.Goals as goal
 
-pub slice_bounds-lay_head-end-in_default : goal.slice_bounds-lay_head-end-in_default
-slice_bounds-lay_head-end-in_default c = sym (length-take-le _ _ (omega (arith, c.put_pair-next.ensures.2, c.put_pair-next.auto.out)))
+pub written-requires : goal.written-requires
+written-requires c = let p = c.put_pair.ensures in omega (arith, p.1, lays_room _ p.0, c.requires.1)
 
 pub returns-in_default : goal.returns-in_default
 returns-in_default c =
     let a = c.args in
-    c.lay_head.ensures
+    (rw c.written.ensures at c.lay_head.ensures)
     ∙ ap (λ (text : Text). lay_whole text a.out.now)
-    (weights_end a.head.now a.at a.m a.k a.weights.now a.trace.now c.weights_file-check.result c.weights_file-check.ensures _ (answered unpassed_pair _ _ c.from.ensures)
-    _ c.in_default.is (c.put_pair-next.ensures.0, c.put_pair-next.ensures.1) (omega (arith, c.put_pair-next.ensures.2, c.requires.1)))
+    (weights_end a.head.now a.m a.k a.weights.now a.trace.now c.weights_file-check.result c.weights_file-check.ensures _ (answered unpassed_pair _ _ c.from.ensures)
+    _ c.in_default.is c.put_pair.ensures.0 (omega (arith, c.put_pair.ensures.1, c.requires.1)))
+
+pub put_sum-requires : goal.put_sum-requires
+put_sum-requires c = let p = c.put_pair.ensures in omega (arith, p.1, lays_room _ p.0, c.requires.1)
+
+pub put_cover-requires : goal.put_cover-requires
+put_cover-requires c =
+    let p = c.put_pair.ensures in
+    let s = c.put_sum.ensures in
+    omega (arith, p.1, lays_room _ p.0, s.1, lays_room _ s.0, c.requires.1)
+
+pub after_weights-requires : goal.after_weights-requires
+after_weights-requires c =
+    let p = c.put_pair.ensures in
+    let s = c.put_sum.ensures in
+    let v = c.put_cover.ensures in
+    let room = lays_room _ v.0 ∙ lays_room _ s.0 ∙ lays_room _ p.0 in
+    (c.requires.0, omega (arith, p.1, s.1, v.1, room, c.requires.1), omega (arith, room, c.requires.2))
 
 pub returns : goal.returns
 returns c =
     let a = c.args in
-    let sum = rw (to_z-of_z w64 c.in-Ok.check.sum (search rules)) at c.put_sum-cover.ensures in
+    let sum = rw (to_z-of_z w64 c.in-Ok.check.sum (search rules)) at c.put_sum.ensures in
+    let cover = c.put_cover.ensures in
     c.after_weights.ensures
     ∙ ap (λ (text : Text). lay_whole text a.out.now)
-    (weights-listed a.head.now a.at a.m a.k a.weights.now a.trace.now c.weights_file-check.result c.weights_file-check.ensures _ (answered unpassed_pair _ _ c.from.ensures)
-    _ c.in-Ok.is (c.put_pair-next.ensures.0, c.put_pair-next.ensures.1)
-    (sum.0, sum.1) (c.put_cover-end.ensures.0, c.put_cover-end.ensures.1)
-    (omega (arith, c.put_pair-next.ensures.2, sum.2, c.put_cover-end.ensures.2, c.requires.1)))
+    (weights-listed a.head.now a.m a.k a.weights.now a.trace.now c.weights_file-check.result c.weights_file-check.ensures _ (answered unpassed_pair _ _ c.from.ensures)
+    _ c.in-Ok.is c.put_pair.ensures.0 sum.0 cover.0 (omega (arith, c.put_pair.ensures.1, sum.1, cover.1, c.requires.1)))

@@ -1,5 +1,5 @@
 -- `after_weights` meets its contract: the lines before the net-tokens stand in the head, and the rest is laid behind them.
-use Prim.Native.Nat.{◌+◌, ◌≤◌}
+use Prim.Native.Nat.{ℕ, ◌^◌, ◌≤◌, ◌<◌}
 use mathlib.Core.Path.{◌≡◌, ap, sym, subst, ◌∙◌}
 use mathlib.Core.Bool.{true}
 use native.Mathlib.Omega.{arith}
@@ -7,6 +7,7 @@ use lib.ListN.{length}
 use lib.Seq.{length-take-le}
 use Rattle.text.specs.Bytes.{Text, bytes}
 use Rattle.text.specs.Printed.{number_text}
+use Rattle.text_write.proofs.WriterLaws.{lays_room}
 use Rattle.marking.proofs.SizedLaws.{marking_sized}
 use Rattle.reader.specs.Answers.{held_both, lay_whole}
 use Rattle.listing.proofs.ThreeFiles.{trace_held}
@@ -16,7 +17,7 @@ use Rattle.pairs.proofs.AnswerLaws.{answered}
 use Rattle.runner.specs.Answers.{unfired_pair}
 use Rattle.runner_trace.specs.Running.{Ran, ran_to}
 use Rattle.listing.proofs.after_weights.Goals as goal
-use Rattle.listing.proofs.after_weights.Goals.{After-put_pair-end, After-trace_file-ran}
+use Rattle.listing.proofs.after_weights.Goals.{After-put_pair, After-trace_file-ran}
 
 -- the marking that the run leaves is held
 held : (c : After-trace_file-ran) → held_both c.args.m c.trace_file-ran.new.k ≡ true
@@ -25,40 +26,44 @@ held c =
     subst (λ (r : Ran). held_both c.args.m r.marking ≡ true) (sym c.trace_file-ran.ensures)
     (trace_held c.args.m c.args.k c.args.trace.now (record { held = c.requires.0; long = long }))
 
+-- the line of the steps fired
+fired : (n : ℕ) → n < 2 ^ 64 → length (number_text (bytes "fired=") n) ≤ 27
+fired n h = long-line (bytes "fired=") n h
+
+pub number_line-requires : goal.number_line-requires
+number_line-requires c = omega (arith, fired c.trace_file-ran.result.fired (omega arith), c.requires.1)
+
+pub put_pair-requires : goal.put_pair-requires
+put_pair-requires c =
+    let l = c.number_line.ensures in
+    omega (arith, fired c.trace_file-ran.result.fired (omega arith), l.place, lays_room _ l, c.requires.1)
+
 -- the lines end within the head, whose length stays
-ends : (c : After-put_pair-end) →
-    let h = c.args.head.now in
-    (c.put_pair-end.result ≤ length h) × (length c.put_pair-end.new.out ≡ length h) × (length h ≤ 1024)
-ends c = let fired-fits : (let a = c.args in (a.at + length (number_text (bytes "fired=") c.trace_file-ran.result.fired) ≤ a.at + 27)) = omega (arith, long-line (bytes "fired=") c.trace_file-ran.result.fired (omega arith)) in
-    let e = c.put_pair-end.auto.out ∙ c.put_number_line-next.auto.out in
-    (omega (arith, fired-fits, c.put_number_line-next.ensures.0, c.put_pair-end.ensures.2, c.requires.1), e, c.requires.2)
+ends : (c : After-put_pair) →
+    let h = c.args.head.now.out.now in
+    let w = c.put_pair.new.w in
+    (w.at ≤ length h) × (length w.out.now ≡ length h) × (length h ≤ 1024)
+ends c =
+    let l = c.number_line.ensures in
+    let p = c.put_pair.ensures in
+    (omega (arith, fired c.trace_file-ran.result.fired (omega arith), l.place, p.1, c.requires.1), lays_room _ p.0 ∙ lays_room _ l, c.requires.2)
 
-pub put_number_line-next-requires : goal.put_number_line-next-requires
-put_number_line-next-requires c = let fired-fits : (let a = c.args in (a.at + length (number_text (bytes "fired=") c.trace_file-ran.result.fired) ≤ a.at + 27)) = omega (arith, long-line (bytes "fired=") c.trace_file-ran.result.fired (omega arith)) in
-    omega (arith, fired-fits, c.requires.1)
-
-pub put_pair-end-requires : goal.put_pair-end-requires
-put_pair-end-requires c = let fired-fits : (let a = c.args in (a.at + length (number_text (bytes "fired=") c.trace_file-ran.result.fired) ≤ a.at + 27)) = omega (arith, long-line (bytes "fired=") c.trace_file-ran.result.fired (omega arith)) in
-    omega (arith, fired-fits, c.put_number_line-next.ensures.0, c.put_number_line-next.auto.out, c.requires.1)
-
-pub slice_bounds-lay_with_held-end : goal.slice_bounds-lay_with_held-end
-slice_bounds-lay_with_held-end c = omega (arith, ends (goal.at.slice_bounds-lay_with_held-end c).After-put_pair-end)
-
-pub slice_bounds-lay_with_held-end-2 : goal.slice_bounds-lay_with_held-end-2
-slice_bounds-lay_with_held-end-2 c = let e = ends (goal.at.slice_bounds-lay_with_held-end-2 c).After-put_pair-end in sym (length-take-le _ _ (omega (arith, e)))
+pub written-requires : goal.written-requires
+written-requires c = omega (arith, ends (goal.at.written-requires c).After-put_pair)
 
 pub lay_with_held-requires : goal.lay_with_held-requires
 lay_with_held-requires c =
-    let e = ends (goal.at.lay_with_held-requires c).After-put_pair-end in (
+    let e = ends (goal.at.lay_with_held-requires c).After-put_pair in
+    let w = c.put_pair.new.w in (
       held (goal.at.lay_with_held-requires c).After-trace_file-ran,
-      omega (arith, e, length-take-le c.put_pair-end.result c.put_pair-end.new.out (omega (arith, e))),
+      omega (arith, e, ap length c.written.ensures, length-take-le w.at w.out.now (omega (arith, e))),
     )
 
 pub returns : goal.returns
 returns c =
     let a = c.args in
-    c.lay_with_held.ensures
+    (rw c.written.ensures at c.lay_with_held.ensures)
     ∙ ap (λ (text : Text). lay_whole text a.out.now)
-    (run-listed a.head.now a.at a.m a.k a.trace.now (ran_to c.trace_file-ran.result c.trace_file-ran.new.k) c.trace_file-ran.ensures _
+    (run-listed a.head.now a.m a.k a.trace.now (ran_to c.trace_file-ran.result c.trace_file-ran.new.k) c.trace_file-ran.ensures _
     (answered unfired_pair _ _ c.from.ensures)
-    c.put_number_line-next.ensures (c.put_pair-end.ensures.0, c.put_pair-end.ensures.1) (ends (goal.at.returns c).After-put_pair-end).0)
+    c.number_line.ensures c.put_pair.ensures.0 (ends (goal.at.returns c).After-put_pair).0)

@@ -1,11 +1,12 @@
 use mathlib.Core.Path.{ap}
 use native.Mathlib.Omega.{arith}
+use borrow.Author.Rules.{rules}
 use lib.ListN.{length}
 use Rattle.text.proofs.PrintedLaws.{length-items, items_over, end_none, end_some}
 use Rattle.marking_write.proofs.list_length.Goals as goal
 
-pub returns-then-values-eq0 : goal.returns-then-values-eq0
-returns-then-values-eq0 c = (omega (arith, ap length (end_none c.args.values.now c.if-values-eq0.true)), omega arith)
+pub returns-then-is_empty : goal.returns-then-is_empty
+returns-then-is_empty c = (omega (arith, ap length (end_none c.args.values.now (search (rules, c.if-is_empty.ensures)))), omega arith)
 
 pub overflow_add-bytes : goal.overflow_add-bytes
 overflow_add-bytes c = omega (arith, c.digits.ensures.1)
@@ -20,5 +21,5 @@ loop-value-preserved c =
 pub returns : goal.returns
 returns c =
     let a = c.args in
-    let e = ap length (end_some a.values.now c.if-values-eq0.false) in
+    let e = ap length (end_some a.values.now (search (rules, c.if-is_empty.ensures))) in
     (omega (arith, e, ap length (items_over a.values.now c.loop-value.value-index (omega arith))), omega arith)

@@ -1,5 +1,5 @@
--- `put_tokens` meets its contract. The loop's invariant: the lines still to come end where all lines end, and laid over the buffer as it is
--- now they give all lines laid over the buffer as it was.
+-- `put_tokens` meets its contract. The loop's invariant: the lines still to come end where all lines end, and laid over the bytes as they are
+-- now they give all lines laid over the bytes as they were.
 use Prim.Native.Nat.{◌+◌}
 use mathlib.Core.Path.{◌≡◌}
 use lib.ListN.{length}
@@ -12,6 +12,10 @@ use Rattle.marking_write.proofs.put_tokens.Given as goal
 
 abbrev pub invariant-loop-t : goal.invariant-loop-t
 invariant-loop-t l =
-    (l.next + length (texts_from (held_text (as_sizes l.z)) l.tokens l.t-index) ≡ l.at + length (texts (held_text (as_sizes l.z)) l.tokens))
-    × (length l.out ≡ length l.initial.out)
-    × (sets l.out l.next (texts_from (held_text (as_sizes l.z)) l.tokens l.t-index) ≡ sets l.initial.out l.at (texts (held_text (as_sizes l.z)) l.tokens))
+    let f = held_text (as_sizes l.z) in
+    let old = l.initial.w in
+    let new = l.w in
+    (new.at + length (texts_from f l.tokens l.t-index) ≡ old.at + length (texts f l.tokens))
+    × (length new.out.now ≡ length old.out.now)
+    × (sets new.out.now new.at (texts_from f l.tokens l.t-index) ≡ sets old.out.now old.at (texts f l.tokens))
+    × (new.out.ghost_name ≡ old.out.ghost_name)

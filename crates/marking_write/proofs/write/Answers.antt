@@ -1,12 +1,14 @@
 -- `write` meets its contract: the bytes are counted, and where they fit the two parts of the text are laid.
-use Prim.Native.Nat.{◌+◌, ◌≤◌}
+use Prim.Native.Nat.{ℕ, ◌+◌, ◌≤◌}
 use mathlib.Core.Path.{◌≡◌, ap, ◌∙◌}
 use mathlib.Core.List.{List}
 use native.Mathlib.Omega.{arith}
+use borrow.Author.Rules.{rules}
 use lib.ListN.{length}
 use lib.Seq.{sets}
 use Rattle.text.specs.Printed.{number_text, texts}
-use Rattle.text.proofs.LaidLaws.{number_line_length, lay-whole, lay-short}
+use Rattle.text.proofs.LaidLaws.{Laid, number_line_length, lay-whole, lay-short}
+use Rattle.text_write.proofs.WriterLaws.{lays_room, laid_by}
 use Rattle.marking.specs.declared.NetToken.{NetToken}
 use Rattle.marking.specs.Held.{as_sizes, tokens_of}
 use Rattle.marking.specs.Printed.{held_text, block_text}
@@ -14,7 +16,7 @@ use Rattle.marking.proofs.KeptLaws.{length-held}
 use Rattle.marking.proofs.HoldMarking.{held-few, held_tested}
 use Rattle.marking.proofs.WriteLaws.{text_length, text_laid}
 use Rattle.marking_write.proofs.write.Goals as goal
-use Rattle.marking_write.proofs.write.Goals.{After-from, After-tokens_length, After-held-tokens}
+use Rattle.marking_write.proofs.write.Goals.{After-number_line, After-tokens_length, After-held-tokens}
 
 pub held-tokens-requires : goal.held-tokens-requires
 held-tokens-requires c = held-few _ (as_sizes c.args.z.now) c.args.k.now c.requires.0
@@ -58,19 +60,24 @@ returns-then-out-end c =
     let e = counted (goal.at.returns-then-out-end c).After-tokens_length in
     lay-short (block_text a.key.now (tokens_of (as_sizes a.z.now) a.k.now)) a.out.now a.at (omega (arith, e)) (omega (arith, e))
 
--- the bytes of its first line
-first : (c : After-from) → length (number_text c.args.key.now c.from.result) ≡ length (number_text c.args.key.now c.args.k.now.len)
-first c = ap (λ n. length (number_text c.args.key.now n)) c.from.ensures
+-- its first line
+first : (c : After-number_line) → Laid (number_text c.args.key.now c.args.k.now.len) c.args.out.now c.args.at c.number_line.new.self.at c.number_line.new.self.out.now
+first c = laid_by _ (rw c.from.ensures at c.number_line.ensures)
 
-pub put_number_line-next-requires : goal.put_number_line-next-requires
-put_number_line-next-requires c =
+pub number_line-requires : goal.number_line-requires
+number_line-requires c =
     let a = c.args in
-    omega (arith, first (goal.at.put_number_line-next-requires c).After-from, number_line_length a.key.now a.k.now.len, c.digits.ensures.0)
+    rw c.from.ensures (omega (arith, number_line_length a.key.now a.k.now.len, c.digits.ensures.0))
 
 pub put_tokens-requires : goal.put_tokens-requires
 put_tokens-requires c =
     let a = c.args in
-    (c.requires.1, omega (arith, first (goal.at.put_tokens-requires c).After-from, number_line_length a.key.now a.k.now.len, c.digits.ensures.0, c.tokens_length.ensures.0, c.put_number_line-next.ensures.0))
+    let l = first (goal.at.put_tokens-requires c).After-number_line in
+    (c.requires.1, omega (arith, number_line_length a.key.now a.k.now.len, c.digits.ensures.0, c.tokens_length.ensures.0, l.0, lays_room _ c.number_line.ensures))
+
+-- what is left of the lent bytes
+left : (l : List ℕ) {m n : List ℕ} → m ≡ l → l ≡ n → m ≡ n
+left l p q = p ∙ q
 
 pub returns : goal.returns
 returns c =
@@ -78,6 +85,7 @@ returns c =
     let z = as_sizes a.z.now in
     let e = counted (goal.at.returns c).After-tokens_length in
     lay-whole (block_text a.key.now (tokens_of z a.k.now)) a.out.now a.at (omega (arith, e)) (omega (arith, e))
-    (text_laid z a.k.now c.held-tokens.ensures.room c.requires.0 a.key.now a.out.now a.at (rw c.from.ensures at c.put_number_line-next.ensures)
-    (c.put_tokens.ensures
-    ∙ ap (λ (l : List NetToken). sets c.put_number_line-next.new.out c.put_number_line-next.result (texts (held_text z) l)) c.held-tokens.ensures.tokens))
+    (left c.put_tokens.new.w.out.now (search rules)
+    (text_laid z a.k.now c.held-tokens.ensures.room c.requires.0 a.key.now a.out.now a.at (first (goal.at.returns c).After-number_line)
+    (c.put_tokens.ensures.bytes
+    ∙ ap (λ (l : List NetToken). sets c.number_line.new.self.out.now c.number_line.new.self.at (texts (held_text z) l)) c.held-tokens.ensures.tokens)))

@@ -1,35 +1,41 @@
 -- `put_pair` meets its contract: the parts of the line, one after the other.
-use Prim.Native.Nat.{ℕ}
-use mathlib.Core.Path.{ap}
 use native.Mathlib.Omega.{arith}
-use lib.ListN.{length}
 use Rattle.text.specs.Printed.{decimal}
 use Rattle.text.specs.Bytes.{bytes}
 use Rattle.text.proofs.DecimalLaws.{length-below}
+use Rattle.text_write.specs.Place.{Lays}
+use Rattle.text_write.proofs.WriterLaws.{lays_room}
 use Rattle.pairs.specs.Pairs.{refusal_of}
-use Rattle.listing.proofs.ListingLines.{long-line, pair-length, lay-pair}
+use Rattle.listing.proofs.ListingLines.{long-line, pair-length, lays_pair}
 use Rattle.listing.proofs.head.put_pair.Goals as goal
+use Rattle.listing.proofs.head.put_pair.Goals.{After-number}
 
-pub put_number-comma-requires : goal.put_number-comma-requires
-put_number-comma-requires c =
+pub number-requires : goal.number-requires
+number-requires c =
     let a = c.args in
-    omega (arith, ap (λ (n : ℕ). length (decimal n)) c.from.ensures, length-below 2 a.p.number (omega arith), c.put_text-number.ensures.0)
+    rw c.from.ensures (omega (arith, length-below 2 a.p.number (omega arith), c.text.ensures.place, lays_room _ c.text.ensures))
 
-pub put_number_line-requires : goal.put_number_line-requires
-put_number_line-requires c =
+-- the digits of its number
+number : (c : After-number) → Lays (decimal c.args.p.number) c.text.new.self c.number.new.self
+number c = rw c.from.ensures at c.number.ensures
+
+pub number_line-requires : goal.number_line-requires
+number_line-requires c =
     let a = c.args in
+    let n = number (goal.at.number_line-requires c).After-number in
     omega (
       arith,
-      ap (λ (n : ℕ). length (decimal n)) c.from.ensures,
       length-below 2 a.p.number (omega arith),
       long-line (bytes ",") a.p.beside (omega arith),
-      c.put_text-number.ensures.0,
-      c.put_number-comma.ensures.0,
+      c.text.ensures.place,
+      lays_room _ c.text.ensures,
+      n.place,
+      lays_room _ n,
     )
 
 pub returns : goal.returns
 returns c =
     let a = c.args in
-    let l = lay-pair a.key.now (refusal_of a.p) a.out.now a.at c.put_text-number.ensures (rw c.from.ensures at c.put_number-comma.ensures) c.put_number_line.ensures in
-    let n = pair-length a.key.now (refusal_of a.p) (omega arith) (omega arith) in
-    (l.0, l.1, omega (arith, l.0, n))
+    let r = refusal_of a.p in
+    let l = lays_pair a.key.now r c.text.ensures (number (goal.at.returns c).After-number) c.number_line.ensures in
+    (l, omega (arith, l.place, pair-length a.key.now r (omega arith) (omega arith)))

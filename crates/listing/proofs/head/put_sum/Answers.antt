@@ -4,22 +4,22 @@ use borrow.Author.Rules.{rules}
 use mir.Syntax.{w64}
 use Rattle.std.proofs.lemmas.Int.{ints, to_z-of_z}
 use Rattle.text.specs.Bytes.{bytes}
-use Rattle.listing.proofs.ListingLines.{long-line, laid_as, sum_below, sum-above}
+use Rattle.listing.proofs.ListingLines.{long-line, lays_as, sum_below, sum-above}
 use Rattle.listing.proofs.head.put_sum.Goals as goal
 
-pub put_number_line-requires : goal.put_number_line-requires
-put_number_line-requires c = omega (arith, long-line (bytes "sum=-") c.unsigned_abs.result (omega arith))
+pub number_line-requires : goal.number_line-requires
+number_line-requires c = omega (arith, long-line (bytes "sum=-") c.unsigned_abs.result (omega arith))
 
 pub returns-then-sum-lt0 : goal.returns-then-sum-lt0
 returns-then-sum-lt0 c =
     let a = c.args in
     let n = c.unsigned_abs.result in
     let value = rw (to_z-of_z w64 a.sum (search rules)) at c.unsigned_abs.ensures.value in
-    laid_as _ _ a.out.now a.at 26 (sum_below a.sum n value (omega (arith, ints, c.if-sum-lt0.true))) (long-line (bytes "sum=-") n (omega arith))
-    c.put_number_line.ensures
+    lays_as _ _ 26 (sum_below a.sum n value (omega (arith, ints, c.if-sum-lt0.true))) (long-line (bytes "sum=-") n (omega arith))
+    c.number_line.ensures
 
-pub put_number_line-requires-2 : goal.put_number_line-requires-2
-put_number_line-requires-2 c = omega (arith, long-line (bytes "sum=") c.unsigned_abs-2.result (omega arith))
+pub number_line-requires-2 : goal.number_line-requires-2
+number_line-requires-2 c = omega (arith, long-line (bytes "sum=") c.unsigned_abs-2.result (omega arith))
 
 pub returns : goal.returns
 returns c =
@@ -27,4 +27,4 @@ returns c =
     let n = c.unsigned_abs-2.result in
     let long = long-line (bytes "sum=") n (omega arith) in
     let value = rw (to_z-of_z w64 a.sum (search rules)) at c.unsigned_abs-2.ensures.value in
-    laid_as _ _ a.out.now a.at 26 (sum-above a.sum n value (omega (arith, ints, c.if-sum-lt0.false))) (omega (arith, long)) c.put_number_line-2.ensures
+    lays_as _ _ 26 (sum-above a.sum n value (omega (arith, ints, c.if-sum-lt0.false))) (omega (arith, long)) c.number_line-2.ensures
