@@ -1,5 +1,5 @@
-// The lines of a weight file: `inv=1` and the outer weights, a line for each net, and nothing after them. Each asks that the lent model is held: as
-// a fact of a struct around the model it was tried, and the type no longer told how long the model's arrays are.
+// The lines of a weight file: `inv=1` and the outer weights, a line for each net, and nothing after them. Each asks that the lent model is held, which
+// who asks knows by `admitted`: a struct around the model was tried, and its type does not tell how long the model's arrays are.
 ghost use Rattle.std.specs.Prelude.{◌≡◌, true, length};
 ghost use Rattle.text.specs.Repeat.{many_at};
 ghost use Rattle.text.specs.Answers.{kept, accepted};
