@@ -26,7 +26,7 @@ pub fn put_sum(w: &mut Writer, sum: i64)
     if sum < 0 {
         return w.number_line(b"sum=-", sum.unsigned_abs());
     }
-    w.number_line(b"sum=", sum.unsigned_abs());
+    w.number_line(b"sum=", sum.unsigned_abs())
 }
 
 // The same for the cover.

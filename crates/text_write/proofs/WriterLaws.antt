@@ -1,8 +1,7 @@
 -- What the writer of a text leaves, text after text.
 use Prim.Native.Nat.{◌+◌, ◌≤◌}
-use mathlib.Core.Path.{◌≡◌, refl, ◌∙◌}
-use mathlib.Core.List.{[], ◌++◌}
-use native.Mathlib.Nat.{add-zero}
+use mathlib.Core.Path.{◌≡◌, ◌∙◌}
+use mathlib.Core.List.{◌++◌}
 use lib.ListN.{length}
 use lib.Seq.{length-sets}
 use Rattle.text.specs.Bytes.{Text}
@@ -10,15 +9,12 @@ use Rattle.text.proofs.LaidLaws.{Laid, laid_then, laid_front}
 use Rattle.text_write.specs.Place.{written, Lays}
 use Rattle.text_write.specs.declared.Writer.{Writer}
 
--- no text
-pub lays_none : (w : Writer) → Lays [] w w
-lays_none w = record { place = rw add-zero; bytes = refl; lent = refl }
-
 module _ (text : Text) {old new : Writer} (h : Lays text old new) where
   -- as many bytes as before
   pub lays_room : length new.out.now ≡ length old.out.now
   lays_room = rw h.bytes (length-sets old.out.now old.at text)
 
+  -- over the bytes themselves
   pub laid_by : Laid text old.out.now old.at new.at new.out.now
   laid_by = (h.place, h.bytes)
 
