@@ -1,4 +1,5 @@
 // The calls of the engine for C, as include/furzepenny.h declares them: each export is the call of `capi` of that name, with its clauses.
+// No crate can stand on a static library, so each call stands twice.
 #![tactic(auto)]
 
 ghost use Rattle.std.specs.Prelude.{◌≡◌};

@@ -1,5 +1,5 @@
 // The public surface: what an integrator calls, and what the calls take and answer. None of the calls has a precondition; the contract
-// of each is an equation with a definition, named beside it.
+// of each is an equation with a definition, named beside it. A model and its marking are two, as C has them.
 #![tactic(auto)]
 
 // The held model and the held marking.

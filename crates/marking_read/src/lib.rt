@@ -52,7 +52,7 @@ fn lines(
     net_tokens(r, z, n, marking)
 }
 
-// The same lines into the marking lent, which has no net-token where one of them is refused.
+// The same lines into the marking lent, in fixed memory; it has no net-token where one of them is refused.
 pub fn block(
     r: &mut Reader,
     key: &[u8],

@@ -60,7 +60,7 @@ fn plant(r: &mut Reader, m: &mut Model) -> Result<(), Fault>
     Ok(())
 }
 
-// The lines of a model into the model lent, which is the empty model where one of them is refused.
+// The lines of a model into the model lent, in fixed memory, where it is not copied; the empty model where one of them is refused.
 pub fn read_plant(r: &mut Reader, m: &mut Model) -> Result<(), Fault>
     ensures read { Reads (kept hold_model (read_plant r.old.src.now r.old.at)) r.old r.new (lent m.new result) }
     ensures refused { OnErr result (m.new ≡ no_model) }

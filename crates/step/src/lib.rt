@@ -1,4 +1,5 @@
-// A step: its lines, what its event asks and gives, why it is turned down (01's causes 8 to 12 over its net-tokens and the marking's), and the marking after it. Definitions and laws.
+// A step: its lines, what its event asks and gives, why it is turned down (01's causes 8 to 12 over its net-tokens and the marking's), and the
+// marking after it. Definitions and laws.
 #![tactic(auto)]
 
 ghost use Rattle.std.specs.Prelude.{◌≡◌};

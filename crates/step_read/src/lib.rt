@@ -18,7 +18,7 @@ use step::{StepLines, TakeLines};
 use text::Fault;
 use text_reader::Reader;
 
-// The lines of n net-tokens, laid one after the other from the first on, and lent as they are laid.
+// The lines of n net-tokens, laid one after the other from the first on, where a marking's are put in order, and lent as they are laid.
 fn net_tokens<'a>(
     r: &mut Reader,
     z: &PlaceSizes,

@@ -61,7 +61,8 @@ fn counted(
     Ok(Parsed { value, end })
 }
 
-// The line of key, a place from 1 to `places` and its counts up to hi; `sizes` says for each place how many.
+// The line of key, a place from 1 to `places` and its counts up to hi; `sizes` says for each place how many. Texts know no held thing, so the two
+// are handed over one by one.
 pub fn token_line(
     s: &[u8],
     at: usize,

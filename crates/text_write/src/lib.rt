@@ -1,4 +1,4 @@
-// Texts that fit, laid into a lent buffer one behind the other.
+// Texts that fit, laid into a lent buffer one behind the other: in fixed memory a text is counted first, and laid whole or no byte of it.
 #![tactic(auto)]
 
 ghost use Rattle.std.specs.Prelude.{◌≡◌, ◌+◌, ◌≤◌, length};
