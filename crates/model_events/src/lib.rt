@@ -1,12 +1,12 @@
 // The lines of the events.
 #![tactic(auto)]
 
-ghost use Rattle.std.specs.Prelude.{◌≡◌, ◌≤◌, ◌<◌, get_or};
+ghost use Rattle.std.specs.Prelude.{◌≡◌, ◌≤◌, ◌<◌, get_or, OnErr, replicate};
 ghost use Rattle.text.specs.Lines.{many};
 ghost use Rattle.text.specs.Repeat.{many_at};
 ghost use Rattle.text.specs.Answers.{kept, padded};
 ghost use Rattle.text_reader.specs.Place.{Reads, lent};
-ghost use Rattle.model.specs.Held.{row, tabled, hold_event, no_net};
+ghost use Rattle.model.specs.Held.{row, tabled, hold_event, no_event, no_net};
 ghost use Rattle.model.specs.Test.{frame_in};
 ghost use Rattle.model_text.specs.Reading.{read_idle, read_move, read_act, read_sync, read_event};
 ghost use Rattle.model_text.specs.Answers.{Fitting, hold_act, with_events};
@@ -102,8 +102,8 @@ impl Frame<'_> {
     }
 }
 
-// The lines of n events, which are laid into the model's room for them, as the object nets are.
-pub fn events(r: &mut Reader, n: usize, m: &mut Model) -> Result<(), Fault>
+// The lines of n events, which are laid into the model's room for them.
+fn lines(r: &mut Reader, n: usize, m: &mut Model) -> Result<(), Fault>
     requires fitting { Fitting m.old }
     requires few { n ≤ 64 }
     ensures { Reads (kept (with_events m.old) (many (read_event (frame_in m.old) r.old.src.now) n r.old.at)) r.old r.new (lent m.new result) }
@@ -114,4 +114,18 @@ pub fn events(r: &mut Reader, n: usize, m: &mut Model) -> Result<(), Fault>
     }
     m.listed = n;
     Ok(())
+}
+
+// The same, as the object nets are; there is no event where one of the lines is refused.
+pub fn events(r: &mut Reader, n: usize, m: &mut Model) -> Result<(), Fault>
+    requires fitting { Fitting m.old }
+    requires few { n ≤ 64 }
+    ensures read { Reads (kept (with_events m.old) (many (read_event (frame_in m.old) r.old.src.now) n r.old.at)) r.old r.new (lent m.new result) }
+    ensures refused { OnErr result (m.new.events ≡ replicate 64 no_event) }
+{
+    let read = lines(r, n, m);
+    if read.is_err() {
+        m.events = [Event::empty(); 64];
+    }
+    read
 }

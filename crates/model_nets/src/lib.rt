@@ -1,12 +1,12 @@
 // The lines `pre` and `post` of moves and of transitions, and the lines of the object nets.
 #![tactic(auto)]
 
-ghost use Rattle.std.specs.Prelude.{◌≡◌, ◌≤◌};
+ghost use Rattle.std.specs.Prelude.{◌≡◌, ◌≤◌, OnErr, replicate};
 ghost use Rattle.text.specs.Lines.{many};
 ghost use Rattle.text.specs.Answers.{kept};
 ghost use Rattle.text_reader.specs.Place.{Reads, lent};
 ghost use Rattle.model.specs.Rules.{nth, monotonous};
-ghost use Rattle.model.specs.Held.{hold_net, hold_nets};
+ghost use Rattle.model.specs.Held.{hold_net, hold_nets, no_net};
 ghost use Rattle.model_text.specs.Reading.{read_sides, read_net};
 ghost use Rattle.model_text.specs.Answers.{hold_sides, hold_tables};
 
@@ -75,8 +75,8 @@ fn net(r: &mut Reader) -> Result<ObjectNet, Fault>
     })
 }
 
-// The lines of n object nets, which are laid into the model's room for them: in fixed memory, where they are not copied.
-pub fn nets(r: &mut Reader, n: usize, objects: &mut [ObjectNet; 8]) -> Result<(), Fault>
+// The lines of n object nets, which are laid into the model's room for them.
+fn lines(r: &mut Reader, n: usize, objects: &mut [ObjectNet; 8]) -> Result<(), Fault>
     requires { n ≤ 8 }
     ensures { Reads (kept hold_nets (many (read_net r.old.src.now) n r.old.at)) r.old r.new (lent objects.new result) }
 {
@@ -85,4 +85,17 @@ pub fn nets(r: &mut Reader, n: usize, objects: &mut [ObjectNet; 8]) -> Result<()
         objects[i] = net(r)?;
     }
     Ok(())
+}
+
+// The same, in fixed memory, where they are not copied; there is no net where one of the lines is refused.
+pub fn nets(r: &mut Reader, n: usize, objects: &mut [ObjectNet; 8]) -> Result<(), Fault>
+    requires { n ≤ 8 }
+    ensures read { Reads (kept hold_nets (many (read_net r.old.src.now) n r.old.at)) r.old r.new (lent objects.new result) }
+    ensures refused { OnErr result (objects.new ≡ replicate 8 no_net) }
+{
+    let read = lines(r, n, objects);
+    if read.is_err() {
+        *objects = [ObjectNet::empty(); 8];
+    }
+    read
 }

@@ -108,6 +108,19 @@ impl Value for i16 {
     }
 }
 
+// Every number that is read has room in it.
+impl Value for i32 {
+    ghost SIGNED = { true };
+
+    const SIGNED: bool = true;
+
+    ghost held = { λ v. v };
+
+    fn held(value: i32) -> i32 {
+        value
+    }
+}
+
 // A lent buffer is too small for a text: so many bytes are needed.
 #[derive(Clone, Copy, PartialEq, Eq, Debug)]
 pub struct TooSmall {

@@ -28,8 +28,8 @@ events-requires-clause-few c =
 pub returns-in_err-events : goal.returns-in_err-events
 returns-in_err-events c =
     rw (handed_on _ c.from_residual-in_err-events.ensures.1)
-    (events_read c.args.r.now _ c.in_ok-outline.ensures c.args.m.now _ c.in_ok-system.ensures _ c.in_ok-number.ensures _ (rw c.from-listed.ensures at c.in_err-events.ensures))
+    (events_read c.args.r.now _ c.in_ok-outline.ensures c.args.m.now _ c.in_ok-system.ensures _ c.in_ok-number.ensures _ (rw c.from-listed.ensures at c.in_err-events.ensures.read))
 
 pub returns : goal.returns
 returns c =
-    events_read c.args.r.now _ c.in_ok-outline.ensures c.args.m.now _ c.in_ok-system.ensures _ c.in_ok-number.ensures _ (rw c.from-listed.ensures at c.in_ok-events.ensures)
+    events_read c.args.r.now _ c.in_ok-outline.ensures c.args.m.now _ c.in_ok-system.ensures _ c.in_ok-number.ensures _ (rw c.from-listed.ensures at c.in_ok-events.ensures.read)

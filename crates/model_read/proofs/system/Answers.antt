@@ -29,9 +29,9 @@ returns-in_err-pre c =
 pub returns-in_err-nets : goal.returns-in_err-nets
 returns-in_err-nets c =
     let m = c.args.m.now in
-    rw (handed_on _ c.from_residual-in_err-nets.ensures.1) (objects_refused m (fine m) c.args.r.now _ c.in_ok-number.ensures _ (rw c.from-moves.ensures at c.in_ok-pre.ensures) _ c.in_err-nets.ensures)
+    rw (handed_on _ c.from_residual-in_err-nets.ensures.1) (objects_refused m (fine m) c.args.r.now _ c.in_ok-number.ensures _ (rw c.from-moves.ensures at c.in_ok-pre.ensures) _ c.in_err-nets.ensures.read)
 
 pub returns : goal.returns
 returns c =
     let m = c.args.m.now in
-    rw c.from-moves.ensures (system_read m (fine m) c.args.r.now _ c.in_ok-number.ensures _ (rw c.from-moves.ensures at c.in_ok-pre.ensures) _ c.in_ok-nets.ensures)
+    rw c.from-moves.ensures (system_read m (fine m) c.args.r.now _ c.in_ok-number.ensures _ (rw c.from-moves.ensures at c.in_ok-pre.ensures) _ c.in_ok-nets.ensures.read)

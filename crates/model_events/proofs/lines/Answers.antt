@@ -14,8 +14,8 @@ use Rattle.model.specs.Test.{frame_in}
 use Rattle.model.specs.declared.Model.{Model}
 use Rattle.model_text.specs.Reading.{read_event}
 use Rattle.model_text.proofs.EventLaws.{lay_event, emptied, events_held, events_bad}
-use Rattle.model_events.proofs.events.Goals as goal
-use Rattle.model_events.proofs.events.Goals.{At-loop-i}
+use Rattle.model_events.proofs.lines.Goals as goal
+use Rattle.model_events.proofs.lines.Goals.{At-loop-i}
 
 -- the reading of one event, by its index
 abbrev one : Model → Text → ℕ → ℕ → Outcome eos.Event

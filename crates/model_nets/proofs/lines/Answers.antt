@@ -10,7 +10,7 @@ use Rattle.eos.specs.Model as eos
 use Rattle.model.specs.Held.{hold_net, hold_nets, no_net}
 use Rattle.model.specs.declared.ObjectNet.{ObjectNet}
 use Rattle.model_text.specs.Reading.{read_net}
-use Rattle.model_nets.proofs.nets.Goals as goal
+use Rattle.model_nets.proofs.lines.Goals as goal
 
 -- the reading of one net, by its index, and where it is laid
 abbrev one : Text → ℕ → ℕ → Outcome eos.ObjectNet
