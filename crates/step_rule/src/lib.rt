@@ -54,7 +54,7 @@ fn inner_sides(m: &Model, sync: &[[u8; 32]; 8], pre: &mut [[u64; 32]; 8], post: 
 }
 
 // What the firing rule asks of a step of event e, which is one of the held model's, into room for it: an answer of 4 KB is copied, which makes
-// a run slower by half (tried). The arrays of the model that is lent have their room, and bytes in it.
+// a run slower by a third to two thirds (tried). The arrays of the model that is lent have their room, and bytes in it.
 pub fn rule_of(m: &Model, e: usize, rule: &mut Rule)
     requires { (held_model m.now ≡ true) × (e < m.now.listed) }
     ensures made { rule.new ≡ hold_rule (model_of m.now) e }
