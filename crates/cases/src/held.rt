@@ -11,9 +11,13 @@ fn models(rt: &impl Print, hand: &Hand) -> io::Result<()> {
     marking(rt, &held, b"start=0\n")?;
     held.model.pre[31][31] = 0;
     held.model.types[1] = 0;
-    print!(rt; "held move that loses a type: ")?;
+    print!(rt; "held idling at a black place: ")?;
     marking(rt, &held, b"start=0\n")?;
     held.model.types[1] = 1;
+    held.model.post[0][1] = 0;
+    print!(rt; "held move that gives none of its net: ")?;
+    marking(rt, &held, b"start=0\n")?;
+    held.model.post[0][1] = 1;
     held.model.places = 33;
     print!(rt; "33 held places: ")?;
     marking(rt, &held, b"start=0\n")

@@ -10,5 +10,6 @@ pub mod FirstLaws
 pub mod WeightLaws
 pub mod BoundLaws
 pub mod RunLaws
+pub mod LeavingLaws
 pub mod SpreadLaws
 pub mod Cases

@@ -2,6 +2,7 @@ pub mod Multiset
 pub mod Vector
 pub mod Model
 pub mod Firing
+pub mod Leaving
 pub mod Causes
 pub mod Weights
 pub mod Run

@@ -70,7 +70,7 @@ unfolding model_file model_reading
 model-small s =
     by_test (leb (length s) file_longest)
     (λ t. by_test (leb (length s) longest)
-    (λ u. rw (t, model_file, u, model_reading) (loaded-small s (leb-true (length s) file_longest t) (read_model s) (model_faults Digit (lit< tt) s (lit< tt) (lit< tt) (lit< tt))))
+    (λ u. rw (t, model_file, u, model_reading) (loaded-small s (leb-true (length s) file_longest t) (read_model s) (model_faults Digit (lit< tt) s (lit< tt) (lit< tt))))
     (λ u. rw (t, model_file, u, model_reading) (omega arith, omega arith)))
     (λ t. rw (t, model_file) (omega arith, omega arith))
 

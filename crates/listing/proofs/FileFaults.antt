@@ -40,10 +40,10 @@ module _ (P : ℕ → Type 0) (two : P 2) (s : Text) where
         then_faults P (many_at (read_inner m s) 0 (length m.nets) x₂) _ (many_at_faults P (read_inner m s) (inner_faults m) 0 (length m.nets) x₂)
         (λ i x₃. end_faults (record { outward = o; inward = i }) x₃)))
 
-    pub model_faults : P 4 → P 5 → Faults P (read_model s)
+    pub model_faults : P 5 → Faults P (read_model s)
     unfolding read_model_at read_lines
-    model_faults four five =
+    model_faults five =
         then_faults P (read_lines s 0) (read_end s)
-        (then_faults P (read_plant s 0) _ (plant_faults P two three four five s 0)
+        (then_faults P (read_plant s 0) _ (plant_faults P two three five s 0)
         (λ m x. then_faults P (read_block (bytes "start=") bounds (sizes_of m) s x) _ (block_faults P two three bounds (sizes_of m) s (bytes "start=") x) (λ μ y. tt)))
         end_faults

@@ -9,7 +9,7 @@ use Rattle.std.specs.Prelude.{Result, Ok, Err}
 use Rattle.text.specs.Bytes.{Text, bytes}
 use Rattle.text.specs.Lines.{cause_number}
 use Rattle.text.specs.declared.Cause.{Cause}
-use Rattle.text.specs.declared.Cause.TheVariants.{Syntax, Range, Typing, Idling}
+use Rattle.text.specs.declared.Cause.TheVariants.{Syntax, Range, Idling}
 use Rattle.eos.specs.Causes.{Refusal}
 use Rattle.model.specs.declared.Model.{Model}
 use Rattle.marking.specs.declared.Marking.{Marking}
@@ -35,7 +35,6 @@ pair_then key r rest = pair_text key r ++ elim (accepted r) [ true ↦ rest | fa
 cause_refused : (c : Cause) (n : ℕ) → accepted (pair (cause_number c) n) ≡ false
 cause_refused Syntax n = refl
 cause_refused Range n = refl
-cause_refused Typing n = refl
 cause_refused Idling n = refl
 
 unread_refused : (e : ReadRefusal) → accepted (unread_pair e) ≡ false

@@ -1,6 +1,6 @@
 -- What passes the test of a held model stands for a right model.
 use Prim.Native.Nat.{ℕ, ◌≤◌, ◌<◌}
-use mathlib.Core.Path.{◌≡◌, ap, ◌∙◌, fun_ext}
+use mathlib.Core.Path.{◌≡◌, ap, ◌∙◌}
 use mathlib.Core.List.{List, []}
 use mathlib.Core.Bool.{true}
 use native.Mathlib.Omega.{arith}
@@ -12,7 +12,7 @@ use lib.Seq.{get_or-take, length-take-le}
 use Rattle.text.specs.Lines.{in_range, every}
 use Rattle.text.proofs.TestLaws.{and_both, and_eqb, within-is, every_of, every_at_of}
 use Rattle.eos.specs.Model as eos
-use Rattle.model.specs.Rules.{nth, byte, list_of, frame_of, monotonous, right_sides, keeps_types, right_move, own_net, takes_part, right_net, right_sync, right_event, right_model}
+use Rattle.model.specs.Rules.{nth, byte, list_of, frame_of, right_sides, own_net, takes_part, right_net, right_sync, right_event, right_model}
 use Rattle.model.specs.Acts.{act_of}
 use Rattle.model.specs.Held.{no_net, no_event, Bytes, SizedNet, SizedModel, row_at, row_in, listed, sides_in, net_of, sync_in, event_of, model_of}
 use Rattle.model.specs.Test.{frame_in}
@@ -20,13 +20,12 @@ use Rattle.model.specs.declared.ObjectNet.{ObjectNet}
 use Rattle.model.specs.declared.Event.{Event}
 use Rattle.model.specs.declared.Model.{Model}
 use Rattle.model.proofs.RuleLaws.{is-net, is-event, Right, is_right}
-use Rattle.model.proofs.PaddedRows.{nth-taken}
 use Rattle.model.proofs.SlotLaws.{listed_at, length-listed}
-use Rattle.model.proofs.TableLaws.{length-row, nth-row, empty-row}
+use Rattle.model.proofs.TableLaws.{length-row, empty-row}
 use Rattle.model.proofs.HoldHeld.{frame_same}
-use Rattle.model.proofs.UsedLaws.{type-below, types-empty, net_used, event_used}
+use Rattle.model.proofs.UsedLaws.{type-below, net_used, event_used}
 use Rattle.model.proofs.HeldBack.{held_again}
-use Rattle.model.proofs.HeldTests.{Held, most-nets, most-places, most-moves, most-events, moves_are, EventIn, part_same}
+use Rattle.model.proofs.HeldTests.{Held, most-nets, most-places, most-moves, most-events, EventIn, part_same}
 use Rattle.model.proofs.HeldActs.{act-is}
 
 -- n numbers of a row of bytes
@@ -82,17 +81,8 @@ module _ (m : Model) (sized : SizedModel m) (held : Held m) where
   types_long = length-take-le m.places m.types (omega (arith, places, sized.types))
 
   -- ---- moves
-  move_right : (i : ℕ) → i < m.moves → right_move m.nets types_in (side i) ≡ true
-  unfolding right_move keeps_types
-  move_right i p =
-      let h = moves_are m held.moves in
-      let few = most-moves m held in
-      let a = fun_ext (nth-taken m.places m.types (types-empty m held sized.types)) in
-      let b = nth-row 32 m.moves (λ i. m.places) m.pre h.pre few i p in
-      let c = nth-row 32 m.moves (λ i. m.places) m.post h.post few i p in
-      let k : keeps_types m.nets types_in (side i) ≡ true = (λ j. monotonous m.nets (types_long j) (a j) (b j) (c j)) ∙ h.typed i p in
-      and_both (right_sides (length types_in) (side i)) (keeps_types m.nets types_in (side i))
-      (rw types_long (sides_right m.places m.pre m.post sized.pre sized.post places i (omega arith))) k
+  move_right : (i : ℕ) → i < m.moves → right_sides (length types_in) (side i) ≡ true
+  move_right i p = rw types_long (sides_right m.places m.pre m.post sized.pre sized.post places i (omega (arith, most-moves m held)))
 
   -- ---- events
   steps : (i : ℕ) → i < m.nets → (net i).transitions ≤ 32
@@ -135,9 +125,9 @@ module _ (m : Model) (sized : SizedModel m) (held : Held m) where
             let q : i < m.places = omega (arith, types_long) in
             rw (get_or-take m.places m.types i 0 q) (type-below m held i q)));
         moves-few = rw b held.moves-few;
-        moves = rw a (every_of (right_move m.nets types_in) (listed side 0 m.moves) eos.no_transition (λ i p.
+        moves = every_of (right_sides (length types_in)) (listed side 0 m.moves) eos.no_transition (λ i p.
             let q : i < m.moves = omega (arith, b) in
-            rw (listed_at side m.moves i eos.no_transition q) (move_right i q)));
+            rw (listed_at side m.moves i eos.no_transition q) (move_right i q));
         nets = every_of right_net (listed (λ i. net_of (net i)) 0 m.nets) eos.no_net (λ i p.
             let q : i < m.nets = omega (arith, a) in
             let u = net_used m held i q in

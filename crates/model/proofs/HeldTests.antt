@@ -12,7 +12,7 @@ use Rattle.text.specs.Answers.{padded}
 use Rattle.model.specs.Rules.{Frame, takes_part}
 use Rattle.model.specs.Acts.{held_act, own_in}
 use Rattle.model.specs.Held.{row_at}
-use Rattle.model.specs.Test.{empty, empty_past, used_of, held_types, held_moves, held_nets, frame_in, held_event, held_events, held_model, counts_are, type_at, sizes_are, net_at, event_at, move_at}
+use Rattle.model.specs.Test.{empty, empty_past, used_of, held_types, held_moves, held_nets, frame_in, held_event, held_events, held_model, counts_are, type_at, sizes_are, net_at, event_at}
 use Rattle.model.specs.declared.ObjectNet.{ObjectNet}
 use Rattle.model.specs.declared.Event.{Event}
 use Rattle.model.specs.declared.Model.{Model}
@@ -113,28 +113,20 @@ pub events_of_lem : (m : Model) → ((k : ℕ) → k < 64 → event_test m k ≡
 unfolding held_events
 events_of_lem m h = below_of 64 (event_test m) h
 
--- the typing of a move
-abbrev pub move_test : Model → ℕ → Bool
-move_test m = move_at m.nets m.places m.types m.pre m.post
-
 -- the parts of the test of moves
 pub record Moves (m : Model) : Type 0 where
   pub pre : empty_past 32 (used_of m.moves m.places) m.pre ≡ true
   pub post : empty_past 32 (used_of m.moves m.places) m.post ≡ true
-  pub typed : (i : ℕ) → i < m.moves → move_test m i ≡ true
 
--- the moves by their test
-pub moves_are : (m : Model) → held_moves m ≡ true → Moves m
-unfolding held_moves
-moves_are m h =
-    let a = and_true (empty_past 32 (used_of m.moves m.places) m.pre) _ h in
-    let b = and_true (empty_past 32 (used_of m.moves m.places) m.post) _ a.1 in
-    record { pre = a.0; post = b.0; typed = below_at m.moves (move_test m) b.1 }
-
--- and from its parts
+-- the moves pass by the parts of their test
 pub are_moves : (m : Model) → Moves m → held_moves m ≡ true
 unfolding held_moves
-are_moves m h = rw (h.pre, h.post) (below_of m.moves (move_test m) h.typed)
+are_moves m h = rw h.pre h.post
+
+-- and the parts by the test
+pub moves_are : (m : Model) → held_moves m ≡ true → Moves m
+unfolding held_moves
+moves_are m h = let a = and_true (empty_past 32 (used_of m.moves m.places) m.pre) _ h in record { pre = a.0; post = a.1 }
 
 -- whether net n takes part as it has to
 abbrev pub part_test : Frame → Event → ℕ → Bool

@@ -11,7 +11,7 @@ use Rattle.text.specs.Lines.{in_range}
 use Rattle.text.specs.Repeat.{fill}
 use Rattle.text.proofs.TestLaws.{and_both, within-is, every-at}
 use Rattle.eos.specs.Model as eos
-use Rattle.model.specs.Rules.{nth, frame_of, right_sides, keeps_types, own_net, right_model}
+use Rattle.model.specs.Rules.{nth, frame_of, right_sides, own_net, right_model}
 use Rattle.model.specs.Held.{pre_of, post_of, row, tabled, hold_net, hold_event, no_net, no_event, hold_events, hold_model, row_at}
 use Rattle.model.specs.Test.{empty, empty_past, used_of, held_types, held_moves, held_net, held_nets, held_events, frame_in, held_event, empty_event, held_model}
 use Rattle.model.proofs.RuleLaws.{sides_long, RightNet, net-is, RightEvent, sync_at, Right, right_is, few-nets, few-places, few-moves, few-events, few-steps, right_type, right_move_lem, right_net_lem, right_event_lem}
@@ -19,7 +19,7 @@ use Rattle.model.proofs.PaddedRows.{nth-padded, nth_padded_all, empty-padded}
 use Rattle.model.proofs.SlotLaws.{cond_below, cond_from, by_index}
 use Rattle.model.proofs.TableLaws.{tabled-row, tabled_past}
 use Rattle.model.proofs.HoldModel.{net-at, net_past, event-at, event_past, steps-at}
-use Rattle.model.proofs.HeldTests.{is_held, types_of, count_test, nets_of_lem, events_of_lem, move_test, are_moves, in_event, part_same}
+use Rattle.model.proofs.HeldTests.{is_held, types_of, count_test, nets_of_lem, events_of_lem, are_moves, in_event, part_same}
 use Rattle.model.proofs.HeldActs.{act_same, own_same}
 
 -- the events of what a model is held as depend on what the model's depend on
@@ -75,27 +75,13 @@ module _ (d : eos.Model) (right : Right d) where
 
   move-long : (i : ℕ) → i < length d.moves
       → (length (get_or d.moves i eos.no_transition).pre ≡ length d.types) × (length (get_or d.moves i eos.no_transition).post ≡ length d.types)
-  move-long i h = sides_long (length d.types) (get_or d.moves i eos.no_transition) (right_move_lem d right i h).sides
-
-  move_passes : (i : ℕ) → i < length d.moves → move_test (hold_model d) i ≡ true
-  unfolding hold_model keeps_types
-  move_passes i h =
-      let t = get_or d.moves i eos.no_transition in
-      let long = move-long i h in
-      rw (
-        nth_padded_all d.types places,
-        tabled-row pre_of eos.no_transition refl 32 d.moves moves i (omega (arith, moves)),
-        tabled-row post_of eos.no_transition refl 32 d.moves moves i (omega (arith, moves)),
-        nth_padded_all t.pre (omega (arith, places)),
-        nth_padded_all t.post (omega (arith, places)),
-      ) (right_move_lem d right i h).keeps
+  move-long i h = sides_long (length d.types) (get_or d.moves i eos.no_transition) (right_move_lem d right i h)
 
   moves_pass : held_moves (hold_model d) ≡ true
   unfolding hold_model
   moves_pass = are_moves (hold_model d) (record {
     pre = sides_past pre_of refl (length d.types) d.moves places moves (λ i p. (move-long i p).0);
     post = sides_past post_of refl (length d.types) d.moves places moves (λ i p. (move-long i p).1);
-    typed = move_passes;
   })
 
   net_pass : (k : ℕ) → k < length d.nets → (n : eos.ObjectNet) → RightNet n

@@ -99,7 +99,7 @@ module _ (d : eos.Model) (right : Right d) where
       let nets = few-nets d right in
       let places = few-places d right in
       let p = take-padded d.types places in
-      let q = sides_back (length d.types) d.moves places (few-moves d right) (λ i h. (right_move_lem d right i h).sides) in
+      let q = sides_back (length d.types) d.moves places (few-moves d right) (right_move_lem d right) in
       let r = listed-is (λ i. net_of (get_or (hold_nets d.nets) i no_net)) d.nets eos.no_net (λ i h.
       ap net_of (net-at d.nets i nets h) ∙ net_of_hold (get_or d.nets i eos.no_net) (right_net_lem d right i h)) in
       let s = listed-is (λ i. event_of (length d.nets) (hold_nets d.nets) (get_or (hold_events d.events) i no_event)) d.events eos.no_event (λ i h.
@@ -154,8 +154,8 @@ module _ (d : eos.Model) (right : Right d) where
       let events = few-events d right in
       record {
         types = length-padded d.types;
-        pre = table_bytes pre_of eos.no_transition refl 32 d.moves moves (λ i p. (n, places, (sides_are n _ (right_move_lem d right i p).sides).0));
-        post = table_bytes post_of eos.no_transition refl 32 d.moves moves (λ i p. (n, places, (sides_are n _ (right_move_lem d right i p).sides).1));
+        pre = table_bytes pre_of eos.no_transition refl 32 d.moves moves (λ i p. (n, places, (sides_are n _ (right_move_lem d right i p)).0));
+        post = table_bytes post_of eos.no_transition refl 32 d.moves moves (λ i p. (n, places, (sides_are n _ (right_move_lem d right i p)).1));
         objects = nets-long d.nets;
         nets = λ i p.
             by_index (length d.nets) i

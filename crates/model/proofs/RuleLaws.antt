@@ -12,7 +12,7 @@ use Rattle.text.specs.Repeat.{every_at}
 use Rattle.text.proofs.Basics.{and_true}
 use Rattle.text.proofs.TestLaws.{eqb_and, and_eqb, within-is, every-at, every_at-at}
 use Rattle.eos.specs.Model.{Transition, ObjectNet, Event, Model, places, no_transition, no_net, no_event}
-use Rattle.model.specs.Rules.{byte, list_of, frame_of, Frame, own_net, takes_part, right_sides, keeps_types, right_move, right_net, right_act, right_sync, right_event, right_model}
+use Rattle.model.specs.Rules.{byte, list_of, frame_of, Frame, own_net, takes_part, right_sides, right_net, right_act, right_sync, right_event, right_model}
 
 -- n numbers, each in the range
 pub list_is : (n : ℕ) (range : ℕ → Bool) (l : List ℕ) → list_of n range l ≡ true → (length l ≡ n) × (every range l ≡ true)
@@ -44,15 +44,6 @@ net-is n h =
 pub is-net : (n : ObjectNet) → RightNet n → right_net n ≡ true
 unfolding right_net
 is-net n r = rw (r.size, r.few) r.sides
-
-pub record RightMove (nets : ℕ) (types : List ℕ) (t : Transition) : Type 0 where
-  pub sides : right_sides (length types) t ≡ true
-  pub keeps : keeps_types nets types t ≡ true
-
--- a move by its rules
-pub move-is : (nets : ℕ) (types : List ℕ) (t : Transition) → right_move nets types t ≡ true → RightMove nets types t
-unfolding right_move
-move-is nets types t h = let p = and_true (right_sides (length types) t) (keeps_types nets types t) h in record { sides = p.0; keeps = p.1 }
 
 pub record RightSync (f : Frame) (own n : ℕ) (v : List ℕ) : Type 0 where
   pub long : length v ≡ f.steps n
@@ -96,7 +87,7 @@ pub record Right (m : Model) : Type 0 where
   pub places-few : in_range 1 32 (places m) ≡ true
   pub types : every (λ d. leb d (length m.nets)) m.types ≡ true
   pub moves-few : in_range 0 32 (length m.moves) ≡ true
-  pub moves : every (right_move (length m.nets) m.types) m.moves ≡ true
+  pub moves : every (right_sides (places m)) m.moves ≡ true
   pub nets : every right_net m.nets ≡ true
   pub events-few : in_range 0 64 (length m.events) ≡ true
   pub events : every (right_event (frame_of m)) m.events ≡ true
@@ -109,7 +100,7 @@ right_is m h =
     let b = and_true (in_range 1 32 (places m)) _ a.1 in
     let c = and_true (every (λ d. leb d (length m.nets)) m.types) _ b.1 in
     let d = and_true (in_range 0 32 (length m.moves)) _ c.1 in
-    let e = and_true (every (right_move (length m.nets) m.types) m.moves) _ d.1 in
+    let e = and_true (every (right_sides (places m)) m.moves) _ d.1 in
     let f = and_true (every right_net m.nets) _ e.1 in
     let g = and_true (in_range 0 64 (length m.events)) _ f.1 in
     record { nets-few = a.0; places-few = b.0; types = c.0; moves-few = d.0; moves = e.0; nets = f.0; events-few = g.0; events = g.1 }
@@ -142,10 +133,8 @@ module _ (m : Model) (right : Right m) where
   right_type i h = leb-true (get_or m.types i 0) (length m.nets) (every-at (λ d. leb d (length m.nets)) m.types i 0 right.types h)
 
   -- a move
-  pub right_move_lem : (i : ℕ) → i < length m.moves → RightMove (length m.nets) m.types (get_or m.moves i no_transition)
-  right_move_lem i h =
-      move-is (length m.nets) m.types (get_or m.moves i no_transition)
-      (every-at (right_move (length m.nets) m.types) m.moves i no_transition right.moves h)
+  pub right_move_lem : (i : ℕ) → i < length m.moves → right_sides (places m) (get_or m.moves i no_transition) ≡ true
+  right_move_lem i h = every-at (right_sides (places m)) m.moves i no_transition right.moves h
 
   -- a net
   pub right_net_lem : (i : ℕ) → i < length m.nets → right_net (get_or m.nets i no_net) ≡ true

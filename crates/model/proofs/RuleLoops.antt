@@ -2,15 +2,15 @@
 use Prim.Native.Nat.{ℕ, zero, suc, ◌+◌, ◌-◌}
 use mathlib.Core.Path.{◌≡◌, refl, ap, sym, ◌∙◌}
 use mathlib.Core.List.{List, [], ◌∷◌}
-use mathlib.Core.Bool.{Bool, true, false, not, ◌&&◌, ◌||◌, beq}
+use mathlib.Core.Bool.{Bool, true, false, not, ◌&&◌, beq}
 use native.Mathlib.Omega.{arith}
 use native.Mathlib.Nat.{add-zero}
 use lib.Dec.{eqb}
 use lib.ListN.{length, get_or}
-use Rattle.std.specs.List.{list_all, list_any, range_with_len, enumerate_from}
+use Rattle.std.specs.List.{list_all, range_with_len, enumerate_from}
 use Rattle.text.specs.Lines.{every}
 use Rattle.eos.specs.Firing.{all_below}
-use Rattle.model.specs.Rules.{some_below, takes_part}
+use Rattle.model.specs.Rules.{takes_part}
 
 -- ---- numbers from 0 on
 
@@ -19,18 +19,9 @@ and_across true b c = refl
 and_across false true c = refl
 and_across false false c = refl
 
-or_across : (a b c : Bool) → (a || (b || c)) ≡ (b || (a || c))
-or_across false b c = refl
-or_across true true c = refl
-or_across true false c = refl
-
 all_first : (n : ℕ) (f : ℕ → Bool) → all_below (suc n) f ≡ (f 0 && all_below n (λ k. f (suc k)))
 all_first zero f = refl
 all_first (suc n) f = ap (λ (b : Bool). f (suc n) && b) (all_first n f) ∙ and_across (f (suc n)) (f 0) (all_below n (λ k. f (suc k)))
-
-some_first : (n : ℕ) (f : ℕ → Bool) → some_below (suc n) f ≡ (f 0 || some_below n (λ k. f (suc k)))
-some_first zero f = refl
-some_first (suc n) f = ap (λ (b : Bool). f (suc n) || b) (some_first n f) ∙ or_across (f (suc n)) (f 0) (some_below n (λ k. f (suc k)))
 
 all_from : (n i : ℕ) (f : ℕ → Bool) (g : ℕ → Bool) → ((k : ℕ) → f (i + k) ≡ g k) → list_all f (range_with_len i n) ≡ all_below n g
 all_from zero i f g h = refl
@@ -39,18 +30,8 @@ all_from (suc n) i f g h =
     let rest = all_from n (i + 1) f (λ k. g (suc k)) (λ k. let e : i + 1 + k ≡ i + suc k = omega arith in rw e (h (suc k))) in
     rw (first, rest) (sym (all_first n g))
 
-some_from : (n i : ℕ) (f : ℕ → Bool) (g : ℕ → Bool) → ((k : ℕ) → f (i + k) ≡ g k) → list_any f (range_with_len i n) ≡ some_below n g
-some_from zero i f g h = refl
-some_from (suc n) i f g h =
-    let first : f i ≡ g 0 = rw (add-zero i) at (h 0) in
-    let rest = some_from n (i + 1) f (λ k. g (suc k)) (λ k. let e : i + 1 + k ≡ i + suc k = omega arith in rw e (h (suc k))) in
-    rw (first, rest) (sym (some_first n g))
-
 pub all_same : (n : ℕ) (f g : ℕ → Bool) → ((k : ℕ) → f k ≡ g k) → list_all f (range_with_len 0 n) ≡ all_below n g
 all_same n f g h = all_from n 0 f g (λ k. let e : 0 + k ≡ k = omega arith in ap f e ∙ h k)
-
-pub some_in_range : (n : ℕ) (f : ℕ → Bool) → list_any f (range_with_len 0 n) ≡ some_below n f
-some_in_range n f = some_from n 0 f f (λ k. let e : 0 + k ≡ k = omega arith in ap f e)
 
 array_from : {A : Type 0} (d : A) (f : ℕ → A → Bool) (l : List A) (i : ℕ) (g : ℕ → Bool) → ((k : ℕ) → f (i + k) (get_or l k d) ≡ g k)
     → list_all (λ (p : ℕ × A). f p.0 p.1) (enumerate_from i l) ≡ all_below (length l) g

@@ -1,10 +1,9 @@
--- 01's rules for a model ("Files", and the causes 3, 4 and 5 of its table): ranges, monotonous typing, idling events.
-use Rattle.std.specs.Prelude.{ℕ, zero, suc, Bool, true, false, ◌&&◌, ◌||◌, not, List, leb, ltb, eqb, length, get_or}
+-- 01's rules for a model ("Files", and the causes 3 and 5 of its table): ranges, idling events.
+use Rattle.std.specs.Prelude.{ℕ, zero, suc, Bool, true, ◌&&◌, not, List, leb, ltb, eqb, length, get_or}
 use Rattle.std.specs.Bool.{beq}
 use Rattle.text.specs.Lines.{in_range, every}
 use Rattle.text.specs.Repeat.{every_at}
 use Rattle.eos.specs.Model.{Transition, ObjectNet, Act, move, idle, Event, Model, places, net, type_of}
-use Rattle.eos.specs.Firing.{all_below}
 
 -- an arc or a count of a transition
 abbrev pub byte : ℕ → Bool
@@ -13,11 +12,6 @@ byte v = leb v 255
 -- n numbers, each in the range
 abbrev pub list_of : ℕ → (ℕ → Bool) → List ℕ → Bool
 list_of n range l = eqb (length l) n && every range l
-
--- the test holds at some number below n
-abbrev pub some_below : ℕ → (ℕ → Bool) → Bool
-some_below zero f = false
-some_below (suc n) f = f n || some_below n f
 
 -- the number at index i, 0 past the end
 abbrev pub nth : List ℕ → ℕ → ℕ
@@ -41,24 +35,9 @@ frame_of m = record {
   steps = λ n. length (net m n).transitions;
 }
 
--- one of the first n places is of this type and has an arc in the side
-unfoldable pub touches : ℕ → (ℕ → ℕ) → ℕ → (ℕ → ℕ) → Bool
-touches n type d side = some_below n (λ p. eqb (type p) d && ltb 0 (side p))
-
--- 000, monotonous typing: each object net among the types of the preset is among those of the postset. Black tokens are free of this
-unfoldable pub monotonous : ℕ → ℕ → (ℕ → ℕ) → (ℕ → ℕ) → (ℕ → ℕ) → Bool
-monotonous nets n type pre post = all_below nets (λ k. not (touches n type (suc k) pre) || touches n type (suc k) post)
-
 -- the two sides of a transition between `size` places
 unfoldable pub right_sides : ℕ → Transition → Bool
 right_sides size t = list_of size byte t.pre && list_of size byte t.post
-
--- cause 4
-unfoldable pub keeps_types : ℕ → List ℕ → Transition → Bool
-keeps_types nets types t = monotonous nets (length types) (nth types) (nth t.pre) (nth t.post)
-
-unfoldable pub right_move : ℕ → List ℕ → Transition → Bool
-right_move nets types t = right_sides (length types) t && keeps_types nets types t
 
 unfoldable pub right_net : ObjectNet → Bool
 right_net n = in_range 1 32 n.size && (in_range 0 32 (length n.transitions) && every (right_sides n.size) n.transitions)
@@ -88,6 +67,6 @@ right_event f e = right_act f e.act && (eqb (length e.sync) f.nets && every_at (
 unfoldable pub right_model : Model → Bool
 right_model m =
     in_range 0 8 (length m.nets) && (in_range 1 32 (places m) && (every (λ d. leb d (length m.nets)) m.types
-    && (in_range 0 32 (length m.moves) && (every (right_move (length m.nets) m.types) m.moves
+    && (in_range 0 32 (length m.moves) && (every (right_sides (places m)) m.moves
     && (every right_net m.nets
     && (in_range 0 64 (length m.events) && every (right_event (frame_of m)) m.events))))))

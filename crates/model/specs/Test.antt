@@ -1,9 +1,9 @@
--- The test of a held model (01's cause 14): counts in range, unused room 0, and the rules on types, moves and events, each looked up
--- where it is held.
+-- The test of a held model (01's cause 14): counts in range, unused room 0, and the rules on types and events, each looked up where it is
+-- held.
 use Rattle.std.specs.Prelude.{ℕ, Bool, cond, ◌&&◌, List, leb, eqb, ltb, drop, get_or}
 use Rattle.text.specs.Lines.{in_range, every}
 use Rattle.eos.specs.Firing.{all_below}
-use Rattle.model.specs.Rules.{nth, Frame, monotonous, takes_part}
+use Rattle.model.specs.Rules.{nth, Frame, takes_part}
 use Rattle.model.specs.Acts.{held_act, own_in}
 use Rattle.model.specs.Held.{no_net, no_event, row_at}
 use Rattle.model.specs.declared.ObjectNet.{ObjectNet}
@@ -42,14 +42,8 @@ type_at nets places types p = cond (ltb p places) (leb (nth types p) nets) (eqb 
 unfoldable pub held_types : Model → Bool
 held_types m = all_below 32 (type_at m.nets m.places m.types)
 
--- monotonous typing of move i
-abbrev pub move_at : ℕ → ℕ → List ℕ → List (List ℕ) → List (List ℕ) → ℕ → Bool
-move_at nets places types pre post i = monotonous nets places (nth types) (nth (row_at pre i)) (nth (row_at post i))
-
 unfoldable pub held_moves : Model → Bool
-held_moves m =
-    empty_past 32 (used_of m.moves m.places) m.pre && (empty_past 32 (used_of m.moves m.places) m.post
-    && all_below m.moves (move_at m.nets m.places m.types m.pre m.post))
+held_moves m = empty_past 32 (used_of m.moves m.places) m.pre && empty_past 32 (used_of m.moves m.places) m.post
 
 -- ---- object nets
 

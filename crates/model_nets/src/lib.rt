@@ -5,68 +5,49 @@ ghost use Rattle.std.specs.Prelude.{◌≡◌, ◌≤◌, OnErr, replicate};
 ghost use Rattle.text.specs.Lines.{many};
 ghost use Rattle.text.specs.Answers.{kept};
 ghost use Rattle.text_reader.specs.Place.{Reads, lent};
-ghost use Rattle.model.specs.Rules.{nth, monotonous};
 ghost use Rattle.model.specs.Held.{hold_net, hold_nets, no_net};
 ghost use Rattle.model_text.specs.Reading.{read_sides, read_net};
 ghost use Rattle.model_text.specs.Answers.{hold_sides, hold_tables};
 
 use model::{Model, ObjectNet};
-use model_rules::monotonous;
 use model_text::Sides;
-use text::{Cause, Fault};
+use text::Fault;
 use text_reader::Reader;
-use text_scan::fault_at;
 
-// The two lines of a transition between `size` places, which is monotonous over `nets` nets: a fault of its `post` line where it is not.
-// With no nets that is not asked.
-fn sides(
-    r: &mut Reader,
-    size: usize,
-    nets: usize,
-    types: &[u8; 32],
-) -> Result<Sides<[u8; 32]>, Fault>
+// The two lines of a transition between `size` places.
+fn sides(r: &mut Reader, size: usize) -> Result<Sides<[u8; 32]>, Fault>
     requires { size ≤ 32 }
-    ensures { Reads (kept hold_sides (read_sides size (λ t. monotonous nets size (nth types.now) (nth t.pre) (nth t.post)) r.old.src.now r.old.at)) r.old r.new result }
+    ensures { Reads (kept hold_sides (read_sides size r.old.src.now r.old.at)) r.old r.new result }
 {
     let pre = r.list(b"pre=", size, Model::ARC)?;
-    let line = r.at;
     let post = r.list(b"post=", size, Model::ARC)?;
-    if !monotonous(nets, size, types, &pre, &post) {
-        return Err(fault_at(Cause::Typing, line));
-    }
     Ok(Sides { pre, post })
 }
 
 // The lines of n transitions, each at its row of the tables.
-pub fn tables(
-    r: &mut Reader,
-    size: usize,
-    nets: usize,
-    types: &[u8; 32],
-    n: usize,
-) -> Result<Sides<[[u8; 32]; 32]>, Fault>
+pub fn tables(r: &mut Reader, size: usize, n: usize) -> Result<Sides<[[u8; 32]; 32]>, Fault>
     requires { (n ≤ 32) × (size ≤ 32) }
-    ensures { Reads (kept hold_tables (many (read_sides size (λ t. monotonous nets size (nth types.now) (nth t.pre) (nth t.post)) r.old.src.now) n r.old.at)) r.old r.new result }
+    ensures { Reads (kept hold_tables (many (read_sides size r.old.src.now) n r.old.at)) r.old r.new result }
 {
     let mut table = Sides {
         pre: [[0; 32]; 32],
         post: [[0; 32]; 32],
     };
     for i in 0..n {
-        let Sides { pre, post } = sides(r, size, nets, types)?;
+        let Sides { pre, post } = sides(r, size)?;
         table.pre[i] = pre;
         table.post[i] = post;
     }
     Ok(table)
 }
 
-// The lines of an object net. Its transitions have no types to keep.
+// The lines of an object net.
 fn net(r: &mut Reader) -> Result<ObjectNet, Fault>
     ensures { Reads (kept hold_net (read_net r.old.src.now r.old.at)) r.old r.new result }
 {
     let places = usize::from(r.number(b"inner=", 1, Model::INNER)?);
     let transitions = usize::from(r.number(b"steps=", 0, Model::STEPS)?);
-    let Sides { pre, post } = tables(r, places, 0, &[0; 32], transitions)?;
+    let Sides { pre, post } = tables(r, places, transitions)?;
     Ok(ObjectNet {
         places,
         transitions,

@@ -4,7 +4,6 @@
 ghost use Rattle.std.specs.Prelude.{◌≡◌, ◌≤◌, OnErr};
 ghost use Rattle.text.specs.Answers.{kept};
 ghost use Rattle.text_reader.specs.Place.{Reads, lent};
-ghost use Rattle.model.specs.Rules.{nth, monotonous};
 ghost use Rattle.model.specs.Held.{no_model, hold_model};
 ghost use Rattle.model_text.specs.Reading.{read_plant};
 ghost use Rattle.model_text.specs.Parts.{read_outline, read_system};
@@ -35,10 +34,10 @@ fn outline(r: &mut Reader) -> Result<Outline, Fault>
 // The lines from `moves` to the last object net, into a model that has an outline.
 fn system(r: &mut Reader, m: &mut Model) -> Result<(), Fault>
     requires { (m.old.nets ≤ 8) × (m.old.places ≤ 32) }
-    ensures { Reads (kept (with_system m.old) (read_system m.old.nets m.old.places (λ t. monotonous m.old.nets m.old.places (nth m.old.types) (nth t.pre) (nth t.post)) r.old.src.now r.old.at)) r.old r.new (lent m.new result) }
+    ensures { Reads (kept (with_system m.old) (read_system m.old.nets m.old.places r.old.src.now r.old.at)) r.old r.new (lent m.new result) }
 {
     let moves = usize::from(r.number(b"moves=", 0, Model::MOVES)?);
-    let Sides { pre, post } = tables(r, m.places, m.nets, &m.types, moves)?;
+    let Sides { pre, post } = tables(r, m.places, moves)?;
     m.moves = moves;
     m.pre = pre;
     m.post = post;

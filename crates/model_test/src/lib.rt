@@ -1,4 +1,4 @@
-// The test of a held model: counts in range, unused room 0, and the rules on types, moves and events.
+// The test of a held model: counts in range, unused room 0, and the rules on types and events.
 #![tactic(auto)]
 
 ghost use Rattle.std.specs.Prelude.{◌≡◌, ◌&&◌, cond, ℕ, ◌≤◌, eqb, leb, ltb, length, drop, get_or};
@@ -6,11 +6,11 @@ ghost use Rattle.text.specs.Lines.{in_range, every};
 ghost use Rattle.eos.specs.Firing.{all_below};
 ghost use Rattle.model.specs.Rules.{nth};
 ghost use Rattle.model.specs.Held.{no_net, no_event};
-ghost use Rattle.model.specs.Test.{empty, empty_past, used_of, held_moves, held_event, empty_event, held_model, used_in, type_at, move_at, sizes_are, net_is, net_at, counts_are, frame_with, part_at, event_is, event_at};
+ghost use Rattle.model.specs.Test.{empty, empty_past, used_of, held_moves, held_event, empty_event, held_model, used_in, type_at, sizes_are, net_is, net_at, counts_are, frame_with, part_at, event_is, event_at};
 
 use model::{Event, Model, ObjectNet};
 use model_acts::{act_held, own_net};
-use model_rules::{monotonous, takes_part};
+use model_rules::takes_part;
 use std::array;
 
 // Whether s is nothing but 0. It is looked at to its end, which is faster than to stop at the first number that is not.
@@ -70,20 +70,11 @@ fn types_held(nets: usize, places: usize, types: &[u8; 32]) -> bool
         .all(|(p, t)| type_held(nets, places, p, *t))
 }
 
-// Whether each move keeps to monotonous typing.
-fn typing_held(m: &Model) -> bool
-    requires { (m.now.nets ≤ 8) × (m.now.places ≤ 32) × (m.now.moves ≤ 32) }
-    ensures { result ≡ all_below m.now.moves (move_at m.now.nets m.now.places m.now.types m.now.pre m.now.post) }
-{
-    (0..m.moves).all(|i| monotonous(m.nets, m.places, &m.types, &m.pre[i], &m.post[i]))
-}
-
 fn moves_held(m: &Model) -> bool
-    requires { (m.now.nets ≤ 8) × (m.now.places ≤ 32) × (m.now.moves ≤ 32) }
+    requires { m.now.moves ≤ 32 }
     ensures { result ≡ held_moves m.now }
 {
-    empty_behind(&m.pre, m.moves, m.places)
-        && (empty_behind(&m.post, m.moves, m.places) && typing_held(m))
+    empty_behind(&m.pre, m.moves, m.places) && empty_behind(&m.post, m.moves, m.places)
 }
 
 fn in_range(lo: usize, hi: usize, v: usize) -> bool

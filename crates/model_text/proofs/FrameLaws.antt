@@ -1,6 +1,6 @@
 -- The frame that the code makes of what it holds is the frame of what was read.
 use Prim.Native.Nat.{ℕ, zero, suc, ◌≤◌}
-use mathlib.Core.Path.{◌≡◌, refl, ap, sym, ◌∙◌, fun_ext}
+use mathlib.Core.Path.{◌≡◌, refl, sym, fun_ext}
 use mathlib.Core.List.{List, [], ◌∷◌}
 use mathlib.Core.Bool.{Bool, true}
 use native.Mathlib.Omega.{arith}
@@ -11,7 +11,7 @@ use Rattle.text.specs.Lines.{every}
 use Rattle.text.specs.Answers.{padded}
 use Rattle.text.proofs.Basics.{and_true}
 use Rattle.eos.specs.Model as eos
-use Rattle.model.specs.Rules.{nth, Frame, frame_of, monotonous, keeps_types}
+use Rattle.model.specs.Rules.{nth, Frame, frame_of}
 use Rattle.model.specs.Held.{no_net, hold_nets}
 use Rattle.model.proofs.PaddedRows.{nth-padded}
 use Rattle.model_text.specs.Reading.{eventless}
@@ -41,13 +41,6 @@ frame_same p q k n m t u x y a b c d = rw (a, b, c, d)
 module _ (types : List ℕ) (places : ℕ) (long : length types ≡ places) (few : places ≤ 32) where
   types-nth : nth (padded types) ≡ nth types
   types-nth = fun_ext (nth-padded types (omega (arith, long, few)))
-
-  -- the rule on types, of what is held
-  pub fine-is : (nets : ℕ) → (λ t. monotonous nets places (nth (padded types)) (nth t.pre) (nth t.post)) ≡ keeps_types nets types
-  unfolding keeps_types
-  fine-is nets =
-      ap (λ (f : ℕ → ℕ). λ (t : eos.Transition). monotonous nets places f (nth t.pre) (nth t.post)) types-nth
-      ∙ ap (λ (p : ℕ). λ (t : eos.Transition). monotonous nets p (nth types) (nth t.pre) (nth t.post)) (sym long)
 
   pub frame_is : (moves : List eos.Transition) (l : List eos.ObjectNet) (nets : ℕ) → length l ≡ nets → nets ≤ 8
       → record { places = places; moves = length moves; nets = nets; type = nth (padded types); steps = λ n. (get_or (hold_nets l) n no_net).transitions }

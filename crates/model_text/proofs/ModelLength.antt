@@ -107,7 +107,7 @@ module _ (m : Model) (right : Right m) where
       let l₃ = short (bytes "places=") (places m) (omega arith) in
       let l₄ = row-length (bytes "type=") m.types size (λ i p. omega (arith, right_type m right i p)) in
       let l₅ = short (bytes "moves=") (length m.moves) (omega arith) in
-      let l₆ = texts-length sides_text no_transition 267 m.moves 32 moves (λ i p. sides_length (places m) _ size (right_move_lem m right i p).sides) in
+      let l₆ = texts-length sides_text no_transition 267 m.moves 32 moves (λ i p. sides_length (places m) _ size (right_move_lem m right i p)) in
       let l₇ = texts-length net_text no_net 8564 m.nets 8 nets (λ i p. net-length _ (right_net_lem m right i p)) in
       let l₈ = short (bytes "events=") (length m.events) (omega arith) in
       let l₉ = texts-length event_text no_event 1082 m.events 64 events (λ i p. event-length _ (right_event_lem m right i p)) in

@@ -1,8 +1,7 @@
 -- The lines of a transition and of an object net are accepted exactly where they are printed and right.
 use Prim.Native.Nat.{ℕ}
-use mathlib.Core.Path.{◌≡◌, refl, ap, sym, subst, fun_ext}
-use mathlib.Core.Bool.{Bool, true, ◌&&◌}
-use mathlib.Core.Bool as B
+use mathlib.Core.Path.{refl, ap, sym}
+use mathlib.Core.Bool.{true, ◌&&◌}
 use lib.Dec.{eqb}
 use lib.ListN.{length}
 use Rattle.text.specs.Bytes.{Text, bytes}
@@ -17,32 +16,21 @@ use Rattle.eos.specs.Model.{Transition, ObjectNet}
 use Rattle.model.specs.Rules.{byte, list_of, right_sides, right_net}
 use Rattle.model_text.specs.Reading.{read_sides, read_net}
 use Rattle.model_text.specs.Printed.{sides_text, net_text}
-use Rattle.text.specs.declared.Cause.TheVariants.{Syntax, Typing}
+use Rattle.text.specs.declared.Cause.TheVariants.{Syntax}
 
 -- the two lines of a transition
-pub sides_exactly : (size : ℕ) (fine : Transition → Bool) (s : Text) → Exactly s (read_sides size fine s) sides_text (λ t. right_sides size t && fine t)
-unfolding read_sides sides_text right_sides
-sides_exactly size fine s =
+pub sides_exactly : (size : ℕ) (s : Text) → Exactly s (read_sides size s) sides_text (right_sides size)
+unfolding read_sides sides_text right_sides need
+sides_exactly size s =
     exactly_by (first_makes (list_exactly (bytes "pre=") size byte s)
-    (λ p. last_makes (list_exactly (bytes "post=") size byte s) (λ q. fine (record { pre = p; post = q })) Typing (λ q. record { pre = p; post = q })
-    (λ t. t.post) (λ q h. refl))
+    (λ p. last_makes (list_exactly (bytes "post=") size byte s) (λ q. true) Syntax (λ q. record { pre = p; post = q }) (λ t. t.post) (λ q h. refl))
     (λ t. t.pre) (λ p t h r. ap (λ (t : Transition). t.pre) r.2))
-    (λ t h. rw (h.0, h.1.0) h.1.1)
-    (λ t h.
-    let p = and_true (right_sides size t) (fine t) h in
-    let q = and_true (list_of size byte t.pre) (list_of size byte t.post) p.0 in
-    (q.0, (q.1, p.1, refl)))
+    (λ t h. rw (h.0, h.1.0))
+    (λ t h. let q = and_true (list_of size byte t.pre) (list_of size byte t.post) h in (q.0, (q.1, refl, refl)))
 
--- of a transition that has no further rule
-pub plain_exactly : (size : ℕ) (s : Text) → Exactly s (read_sides size (λ t. true) s) sides_text (right_sides size)
-plain_exactly size s =
-    let e : (λ t. right_sides size t && true) ≡ right_sides size = fun_ext λ t. B.and-true (right_sides size t) in
-    subst (Exactly s (read_sides size (λ t. true) s) sides_text) e (sides_exactly size (λ t. true) s)
-
--- the lines of such transitions
-steps_exactly : (size n : ℕ) (s : Text)
-    → Exactly s (many (read_sides size (λ t. true) s) n) (texts sides_text) (λ ts. eqb (length ts) n && every (right_sides size) ts)
-steps_exactly size n s = many_exactly s (read_sides size (λ t. true) s) sides_text (right_sides size) (plain_exactly size s) n
+-- the lines of n transitions
+steps_exactly : (size n : ℕ) (s : Text) → Exactly s (many (read_sides size s) n) (texts sides_text) (λ ts. eqb (length ts) n && every (right_sides size) ts)
+steps_exactly size n s = many_exactly s (read_sides size s) sides_text (right_sides size) (sides_exactly size s) n
 
 -- the lines of an object net
 pub net_exactly : (s : Text) → Exactly s (read_net s) net_text right_net

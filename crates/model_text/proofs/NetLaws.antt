@@ -18,12 +18,10 @@ use Rattle.text_reader.specs.declared.Reader.{Reader}
 use Rattle.text_reader.proofs.ReadsLaws.{itself, plainly, read_of, first_refused, followed, passes}
 use Rattle.text.proofs.Exactly.{then-got, got-is}
 use Rattle.eos.specs.Model.{Transition, ObjectNet}
-use Rattle.model.specs.Rules.{nth, monotonous}
 use Rattle.model.specs.Held.{hold_net}
 use Rattle.model.specs.declared.ObjectNet as held
 use Rattle.model_text.specs.Answers.{hold_tables}
 use Rattle.model_text.specs.declared.Sides.{Sides}
-use Rattle.model_text.proofs.TransitionLines.{untyped}
 use Rattle.model_text.specs.Reading.{read_sides, read_net}
 use Rattle.model_text.proofs.LineAnswers.{number_in, many-long}
 
@@ -33,10 +31,10 @@ unfolding read_net
 net-few s at m next e =
     let a = then-got (read_number (bytes "inner=") (in_range 1 32) s at) _ m next e in
     let b = then-got (read_number (bytes "steps=") (in_range 0 32) s a.next) _ m next a.rest in
-    let c = then-got (many (read_sides a.value (λ t. true) s) b.value b.next) _ m next b.rest in
+    let c = then-got (many (read_sides a.value s) b.value b.next) _ m next b.rest in
     let k = got-is c.rest in
     let n = number_in (bytes "steps=") 0 32 s a.next b.value b.next b.first in
-    let l = many-long (read_sides a.value (λ t. true) s) b.value b.next c.value c.next c.first in
+    let l = many-long (read_sides a.value s) b.value b.next c.value c.next c.first in
     rw (← k.0) (le-leb (length c.value) 32 (omega (arith, n.1, l)))
 
 -- ---- the lines of a net
@@ -46,7 +44,7 @@ abbrev make : ℕ → List Transition → ℕ → Outcome ObjectNet
 make size ts x₃ = got (record { size = size; transitions = ts }) x₃
 
 abbrev behind_steps : ℕ → Text → ℕ → ℕ → Outcome ObjectNet
-behind_steps size s n x₂ = then (many (read_sides size (λ t. true) s) n x₂) (make size)
+behind_steps size s n x₂ = then (many (read_sides size s) n x₂) (make size)
 
 abbrev behind_inner : Text → ℕ → ℕ → Outcome ObjectNet
 behind_inner s size x₁ = then (read_number (bytes "steps=") (in_range 0 32) s x₁) (behind_steps size s)
@@ -76,9 +74,9 @@ module _ (old : Reader) where
     pub steps_refused : {new : Reader} (e : Fault) → Reads steps a new (Err e) → Reads (kept hold_net whole) old new (Err e)
     steps_refused e k = behind_size (Err e) (first_refused itself hold_net steps (behind_steps size) e (plainly k))
 
-    module _ {b : Reader} (n : ℕ) (second : Reads steps a b (Ok n)) (type : ℕ → ℕ) where
+    module _ {b : Reader} (n : ℕ) (second : Reads steps a b (Ok n)) where
       abbrev rows : Outcome (List Transition)
-      rows = many (read_sides size (λ t. monotonous 0 size type (nth t.pre) (nth t.post)) b.src.now) n b.at
+      rows = many (read_sides size b.src.now) n b.at
 
       pub steps_few : n ≤ 32
       steps_few = let q = read_of itself steps n (plainly second) in omega (arith, q.held, (number_in (bytes "steps=") 0 32 a.src.now a.at q.value b.at q.is).1)
@@ -86,7 +84,7 @@ module _ (old : Reader) where
       behind_n : {new : Reader} (r : Result held.ObjectNet Fault) → Reads (kept hold_net (then rows (make size))) b new r → Reads (kept hold_net whole) old new r
       behind_n r k =
           behind_size r
-          (followed itself hold_net steps (behind_steps size) n r (plainly second) (λ v is same. rw (← same) (rw (untyped size type) at k)))
+          (followed itself hold_net steps (behind_steps size) n r (plainly second) (λ v is same. rw (← same) k))
 
       pub rows_refused : {new : Reader} (e : Fault) → Reads (kept hold_tables rows) b new (Err e) → Reads (kept hold_net whole) old new (Err e)
       rows_refused e k = behind_n (Err e) (first_refused hold_tables hold_net rows (λ _. make size) e k)

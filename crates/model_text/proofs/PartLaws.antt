@@ -15,7 +15,7 @@ use Rattle.model.specs.declared.ObjectNet as held
 use Rattle.model_text.specs.Answers.{hold_outline, hold_tables, with_system}
 use Rattle.model_text.specs.declared.Outline.{Outline}
 use Rattle.model_text.specs.declared.Sides.{Sides}
-use mathlib.Core.Bool.{Bool, true}
+use mathlib.Core.Bool.{true}
 use native.Mathlib.Omega.{arith}
 use lib.Dec.{leb}
 use lib.ListN.{length}
@@ -54,16 +54,16 @@ pub record Bounded (nets : ℕ) (y : parts.System) : Type 0 where
   pub long : length y.nets ≡ nets
   pub few : every (λ m. leb (length m.transitions) 32) y.nets ≡ true
 
-pub system_bounded : (nets places : ℕ) (fine : Transition → Bool) (s : Text) (at : ℕ) (y : parts.System) (next : ℕ)
-    → read_system nets places fine s at ≡ got y next → Bounded nets y
+pub system_bounded : (nets places : ℕ) (s : Text) (at : ℕ) (y : parts.System) (next : ℕ)
+    → read_system nets places s at ≡ got y next → Bounded nets y
 unfolding read_system
-system_bounded nets places fine s at y next e =
+system_bounded nets places s at y next e =
     let a = then-got (read_number (bytes "moves=") (in_range 0 32) s at) _ y next e in
-    let b = then-got (many (read_sides places fine s) a.value a.next) _ y next a.rest in
+    let b = then-got (many (read_sides places s) a.value a.next) _ y next a.rest in
     let c = then-got (many (read_net s) nets b.next) _ y next b.rest in
     let k = got-is c.rest in
     let n = number_in (bytes "moves=") 0 32 s at a.value a.next a.first in
-    let l = many-long (read_sides places fine s) a.value a.next b.value b.next b.first in
+    let l = many-long (read_sides places s) a.value a.next b.value b.next b.first in
     rw (← k.0) (record {
       moves = omega (arith, n.1, l);
       long = many-long (read_net s) nets b.next c.value c.next c.first;
@@ -141,9 +141,9 @@ module _ (old : Reader) where
 abbrev make_system : List Transition → List ObjectNet → ℕ → Outcome parts.System
 make_system l o x₃ = got (record { moves = l; nets = o }) x₃
 
-module _ (m : Model) (fine : Transition → Bool) (old : Reader) where
+module _ (m : Model) (old : Reader) where
   abbrev system : Outcome parts.System
-  system = read_system m.nets m.places fine old.src.now old.at
+  system = read_system m.nets m.places old.src.now old.at
 
   abbrev moves_line : Outcome ℕ
   moves_line = read_number (bytes "moves=") (in_range 0 32) old.src.now old.at
@@ -152,7 +152,7 @@ module _ (m : Model) (fine : Transition → Bool) (old : Reader) where
   behind_arcs s l x₂ = then (many (read_net s) m.nets x₂) (make_system l)
 
   abbrev behind_moves : Text → ℕ → ℕ → Outcome parts.System
-  behind_moves s k x₁ = then (many (read_sides m.places fine s) k x₁) (behind_arcs s)
+  behind_moves s k x₁ = then (many (read_sides m.places s) k x₁) (behind_arcs s)
 
   pub moves_refused : {new : Reader} (e : Fault) → Reads moves_line old new (Err e) → Reads (kept (with_system m) system) old new (Err e)
   unfolding read_system
@@ -160,7 +160,7 @@ module _ (m : Model) (fine : Transition → Bool) (old : Reader) where
 
   module _ {a : Reader} (k : ℕ) (first : Reads moves_line old a (Ok k)) where
     abbrev rows : Outcome (List Transition)
-    rows = many (read_sides m.places fine a.src.now) k a.at
+    rows = many (read_sides m.places a.src.now) k a.at
 
     pub moves_few : k ≤ 32
     moves_few = let q = read_of itself moves_line k (plainly first) in omega (arith, q.held, (number_in (bytes "moves=") 0 32 old.src.now old.at q.value a.at q.is).1)
@@ -182,7 +182,7 @@ module _ (m : Model) (fine : Transition → Bool) (old : Reader) where
       at_rows r next =
           at_moves r
           (followed hold_tables (with_system m) rows behind_arcs t r second
-          (λ l is held. next l (sym (many-long (read_sides m.places fine a.src.now) k a.at l b.at is)) held))
+          (λ l is held. next l (sym (many-long (read_sides m.places a.src.now) k a.at l b.at is)) held))
 
       pub objects_refused : {new : Reader} (e : Fault) → Reads (kept hold_nets objects_lines) b new (Err e) → Reads (kept (with_system m) system) old new (Err e)
       objects_refused e h = at_rows (Err e) (λ l long held. first_refused hold_nets (with_system m) objects_lines (λ _. make_system l) e h)

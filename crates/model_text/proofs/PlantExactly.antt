@@ -10,7 +10,7 @@ use Rattle.text.proofs.Exactly.{Exactly, many_exactly}
 use Rattle.text.proofs.LinesExactly.{number_exactly, list_exactly, head_exactly}
 use Rattle.text.proofs.ChainExactly.{exactly_by, first_makes, last_makes}
 use Rattle.eos.specs.Model.{Model, places}
-use Rattle.model.specs.Rules.{frame_of, keeps_types, right_move, right_net, right_model}
+use Rattle.model.specs.Rules.{frame_of, right_net, right_model}
 use Rattle.model.proofs.RuleLaws.{right_is, is_right}
 use Rattle.model_text.specs.Reading.{read_net, eventless, read_plant}
 use Rattle.model_text.specs.Printed.{sides_text, net_text, event_text, plant_text}
@@ -20,7 +20,7 @@ use Rattle.text.specs.declared.Cause.TheVariants.{Syntax}
 
 -- the lines from `eos` to the last event
 pub plant_exactly : (s : Text) → Exactly s (read_plant s) plant_text right_model
-unfolding read_plant plant_text right_model right_move need
+unfolding read_plant plant_text right_model need
 plant_exactly s =
     exactly_by
     (first_makes (head_exactly (bytes "eos=1\n") s)
@@ -28,7 +28,7 @@ plant_exactly s =
     (λ n. first_makes (number_exactly (bytes "places=") (in_range 1 32) s)
     (λ p. first_makes (list_exactly (bytes "type=") p (λ d. leb d n) s)
     (λ types. first_makes (number_exactly (bytes "moves=") (in_range 0 32) s)
-    (λ k. first_makes (many_exactly s _ sides_text _ (sides_exactly p (keeps_types n types) s) k)
+    (λ k. first_makes (many_exactly s _ sides_text _ (sides_exactly p s) k)
     (λ moves. first_makes (many_exactly s (read_net s) net_text right_net (net_exactly s) n)
     (λ nets. first_makes (number_exactly (bytes "events=") (in_range 0 64) s)
     (λ e. last_makes (many_exactly s _ event_text _ (event_exactly (frame_of (eventless types moves nets)) s) e)

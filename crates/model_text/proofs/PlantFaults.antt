@@ -1,6 +1,5 @@
--- The lines of a model are refused with 2, 3, 4 or 5 alone.
+-- The lines of a model are refused with 2, 3 or 5 alone.
 use Prim.Native.Nat.{ℕ, pred}
-use mathlib.Core.Bool.{Bool, true}
 use lib.Dec.{leb}
 use lib.ListN.{drop}
 use Rattle.text.specs.Bytes.{Text, bytes, starts}
@@ -8,19 +7,18 @@ use Rattle.text.specs.Lines.{many, in_range, read_number, read_list, read_head}
 use Rattle.text.specs.Repeat.{many_at}
 use Rattle.text.proofs.Basics.{by_test}
 use Rattle.text.proofs.FaultLaws.{Faults, then_faults, need_faults, many_faults, many_at_faults, head_faults, number_faults, list_faults}
-use Rattle.eos.specs.Model.{Transition}
-use Rattle.model.specs.Rules.{byte, Frame, frame_of, keeps_types, own_net, takes_part}
+use Rattle.model.specs.Rules.{byte, Frame, frame_of, own_net, takes_part}
 use Rattle.model_text.specs.Reading.{read_sides, read_net, read_idle, read_move, read_act, read_sync, read_event, eventless, read_plant}
-use Rattle.text.specs.declared.Cause.TheVariants.{Typing, Idling}
+use Rattle.text.specs.declared.Cause.TheVariants.{Idling}
 
-module _ (P : ℕ → Type 0) (two : P 2) (three : P 3) (four : P 4) (five : P 5) (s : Text) where
-  sides_faults : (size : ℕ) (fine : Transition → Bool) (at : ℕ) → Faults P (read_sides size fine s at)
+module _ (P : ℕ → Type 0) (two : P 2) (three : P 3) (five : P 5) (s : Text) where
+  sides_faults : (size at : ℕ) → Faults P (read_sides size s at)
   unfolding read_sides
-  sides_faults size fine at =
+  sides_faults size at =
       then_faults P (read_list (bytes "pre=") size byte s at) _ (list_faults P two three (bytes "pre=") size byte s at)
       (λ p x₁.
       then_faults P (read_list (bytes "post=") size byte s x₁) _ (list_faults P two three (bytes "post=") size byte s x₁)
-      (λ q x₂. need_faults P (fine (record { pre = p; post = q })) Typing x₁ _ four tt))
+      (λ q x₂. tt))
 
   net_faults : (at : ℕ) → Faults P (read_net s at)
   unfolding read_net
@@ -29,7 +27,7 @@ module _ (P : ℕ → Type 0) (two : P 2) (three : P 3) (four : P 4) (five : P 5
       (λ size x₁.
       then_faults P (read_number (bytes "steps=") (in_range 0 32) s x₁) _ (number_faults P two three (bytes "steps=") (in_range 0 32) s x₁)
       (λ n x₂.
-      then_faults P (many (read_sides size (λ t. true) s) n x₂) _ (many_faults P (read_sides size (λ t. true) s) (sides_faults size (λ t. true)) n x₂) (λ ts x₃. tt)))
+      then_faults P (many (read_sides size s) n x₂) _ (many_faults P (read_sides size s) (sides_faults size) n x₂) (λ ts x₃. tt)))
 
   module _ (f : Frame) where
     idle_faults : (at : ℕ) → Faults P (read_idle f s at)
@@ -73,8 +71,7 @@ module _ (P : ℕ → Type 0) (two : P 2) (three : P 3) (four : P 4) (five : P 5
       (λ p x₃. then_faults P (read_list (bytes "type=") p (λ d. leb d n) s x₃) _ (list_faults P two three (bytes "type=") p (λ d. leb d n) s x₃)
       (λ types x₄. then_faults P (read_number (bytes "moves=") (in_range 0 32) s x₄) _ (line (bytes "moves=") (in_range 0 32) s x₄)
       (λ k x₅.
-      let move = read_sides p (keeps_types n types) s in
-      then_faults P (many move k x₅) _ (many_faults P move (sides_faults p (keeps_types n types)) k x₅)
+      then_faults P (many (read_sides p s) k x₅) _ (many_faults P (read_sides p s) (sides_faults p) k x₅)
       (λ moves x₆. then_faults P (many (read_net s) n x₆) _ (many_faults P (read_net s) net_faults n x₆)
       (λ nets x₇. then_faults P (read_number (bytes "events=") (in_range 0 64) s x₇) _ (line (bytes "events=") (in_range 0 64) s x₇)
       (λ e x₈.

@@ -2,21 +2,20 @@
 use Prim.Native.Nat.{ℕ, ◌≤◌}
 use mathlib.Core.Path.{◌≡◌, refl, sym, ap, subst, ◌∙◌}
 use mathlib.Core.List.{List}
-use mathlib.Core.Bool.{Bool}
 use native.Mathlib.Omega.{arith}
 use lib.ListN.{length}
 use Rattle.text.specs.Bytes.{Text, bytes}
 use Rattle.text.specs.Lines.{Outcome, got, then, many, in_range, read_number}
 use Rattle.std.specs.Prelude.{Result}
 use Rattle.std.specs.declared.result.Result.TheVariants.{Ok, Err}
-use Rattle.text.specs.Answers.{kept, padded}
+use Rattle.text.specs.Answers.{kept}
 use Rattle.text.specs.declared.Fault.{Fault}
 use Rattle.text_reader.specs.Place.{Reads}
 use Rattle.text_reader.specs.declared.Reader.{Reader}
 use Rattle.text_reader.proofs.ReadsLaws.{itself, plainly, read_of, first_refused, followed, passes}
 use Rattle.text.proofs.Exactly.{then-then}
 use Rattle.eos.specs.Model as eos
-use Rattle.model.specs.Rules.{nth, Frame, frame_of, monotonous, keeps_types}
+use Rattle.model.specs.Rules.{Frame, frame_of}
 use Rattle.model.specs.Held.{hold_model}
 use Rattle.model.specs.Test.{frame_in}
 use Rattle.model.specs.declared.Model.{Model}
@@ -27,7 +26,7 @@ use Rattle.model_text.specs.Parts.{read_outline, read_system, read_listed}
 use Rattle.model_text.specs.Answers.{hold_outline, with_system, with_events, Fitting}
 use Rattle.model_text.specs.declared.Outline.{Outline}
 use Rattle.model_text.proofs.PartLaws.{Sound, outline_sound, Bounded, system_bounded}
-use Rattle.model_text.proofs.FrameLaws.{step-few, fine-is, frame_is}
+use Rattle.model_text.proofs.FrameLaws.{step-few, frame_is}
 
 -- ---- the three parts in a row are the lines of a model
 
@@ -35,17 +34,13 @@ then_of : {A B : Type 0} (a : A) (x : ℕ) (f : A → ℕ → Outcome B) → the
 unfolding then
 then_of a x f = refl
 
--- the test of a move
-abbrev pub types_kept : parts.Outline → eos.Transition → Bool
-types_kept o = keeps_types o.nets o.types
-
 -- the model of its parts
 abbrev pub whole : parts.Outline → parts.System → List eos.Event → eos.Model
 whole o y l = record { types = o.types; moves = y.moves; nets = y.nets; events = l }
 
 pub plant_parts : (s : Text) (at : ℕ) → read_plant s at
     ≡ then (read_outline s at) λ o x₁.
-    then (read_system o.nets o.places (types_kept o) s x₁) λ y x₂.
+    then (read_system o.nets o.places s x₁) λ y x₂.
     then (read_listed (frame_of (eventless o.types y.moves y.nets)) s x₂) λ l x₃. got (whole o y l) x₃
 unfolding read_plant read_outline read_system read_listed
 plant_parts s at = sym (simp (then-then, then_of))
@@ -67,12 +62,6 @@ with_outline m a = record {
 }
 
 module _ (o : parts.Outline) (sound : Sound o) where
-  -- the moves are put to the same test
-  pub system_exact : (s : Text) (x : ℕ)
-      → read_system o.nets o.places (λ t. monotonous o.nets o.places (nth (padded o.types)) (nth t.pre) (nth t.post)) s x
-      ≡ read_system o.nets o.places (types_kept o) s x
-  system_exact s x = ap (λ (f : eos.Transition → Bool). read_system o.nets o.places f s x) (fine-is o.types o.places sound.long sound.places o.nets)
-
   module _ (start : Model) (y : parts.System) (bounded : Bounded o.nets y) where
     abbrev pub held : Model
     held = with_system (with_outline start (hold_outline o)) y
@@ -102,11 +91,7 @@ abbrev behind_system : parts.Outline → Text → parts.System → ℕ → Outco
 behind_system o s y x₂ = then (read_listed (frame_of (eventless o.types y.moves y.nets)) s x₂) (behind_listed o y)
 
 abbrev behind_outline : Text → parts.Outline → ℕ → Outcome eos.Model
-behind_outline s o x₁ = then (read_system o.nets o.places (types_kept o) s x₁) (behind_system o s)
-
--- the test of a move, over what is held
-abbrev test : Model → eos.Transition → Bool
-test m t = monotonous m.nets m.places (nth m.types) (nth t.pre) (nth t.post)
+behind_outline s o x₁ = then (read_system o.nets o.places s x₁) (behind_system o s)
 
 module _ (old : Reader) where
   abbrev outline_lines : Outcome parts.Outline
@@ -140,18 +125,17 @@ module _ (old : Reader) where
     begun = with_outline start outline
 
     abbrev system_lines : Outcome parts.System
-    system_lines = read_system begun.nets begun.places (test begun) a.src.now a.at
+    system_lines = read_system begun.nets begun.places a.src.now a.at
 
-    -- the same lines, by the test of what was read
-    exact : (o : parts.Outline) → Sound o → outline ≡ hold_outline o → system_lines ≡ read_system o.nets o.places (types_kept o) a.src.now a.at
-    exact o sound held = rw held (system_exact o sound a.src.now a.at)
+    -- the same lines, by what was read
+    exact : (o : parts.Outline) → outline ≡ hold_outline o → system_lines ≡ read_system o.nets o.places a.src.now a.at
+    exact o held = rw held refl
 
     pub system_refused : {new : Reader} (e : Fault) → Reads (kept (with_system begun) system_lines) a new (Err e) → Reads (kept hold_model plant) old new (Err e)
     system_refused e k =
         at_outline outline first (Err e)
         (λ o sound held.
-        first_refused (with_system begun) hold_model (read_system o.nets o.places (types_kept o) a.src.now a.at) (behind_system o) e
-        (rw (exact o sound held) at k))
+        first_refused (with_system begun) hold_model (read_system o.nets o.places a.src.now a.at) (behind_system o) e (rw (exact o held) at k))
 
     module _ {b : Reader} (m : Model) (second : Reads (kept (with_system begun) system_lines) a b (Ok m)) where
       -- what the system is, and what it keeps to
@@ -162,9 +146,9 @@ module _ (old : Reader) where
       at_system r next =
           at_outline outline first r
           (λ o sound held.
-          followed (with_system begun) hold_model (read_system o.nets o.places (types_kept o) a.src.now a.at) (behind_system o) m r
-          (rw (exact o sound held) at second)
-          (λ y is k. next o sound y (system_bounded o.nets o.places (types_kept o) a.src.now a.at y b.at is) (k ∙ ap (λ (x : Outline). with_system (with_outline start x) y) held)))
+          followed (with_system begun) hold_model (read_system o.nets o.places a.src.now a.at) (behind_system o) m r
+          (rw (exact o held) at second)
+          (λ y is k. next o sound y (system_bounded o.nets o.places a.src.now a.at y b.at is) (k ∙ ap (λ (x : Outline). with_system (with_outline start x) y) held)))
 
       -- the events depend on what is held
       pub fits : Fitting m
@@ -172,8 +156,8 @@ module _ (old : Reader) where
           let q = read_of hold_outline outline_lines outline first in
           let sound = outline_sound old.src.now old.at q.value a.at q.is in
           let r = read_of (with_system begun) system_lines m second in
-          let e = exact q.value sound q.held in
-          let bounded = system_bounded q.value.nets q.value.places (types_kept q.value) a.src.now a.at r.value b.at (sym e ∙ r.is) in
+          let e = exact q.value q.held in
+          let bounded = system_bounded q.value.nets q.value.places a.src.now a.at r.value b.at (sym e ∙ r.is) in
           rw (r.held ∙ ap (λ (x : Outline). with_system (with_outline start x) r.value) q.held) (frame_fits q.value sound start r.value bounded)
 
       abbrev listed_line : Outcome ℕ

@@ -1,5 +1,5 @@
 -- The reading of a model in three parts, as the code goes: its outline, its moves and object nets, its events.
-use Rattle.std.specs.Prelude.{ℕ, Bool, List, leb}
+use Rattle.std.specs.Prelude.{ℕ, List, leb}
 use Rattle.text.specs.Bytes.{Text, bytes}
 use Rattle.text.specs.Lines.{Outcome, got, then, many, in_range, read_number, read_list, read_head}
 use Rattle.eos.specs.Model.{Transition, ObjectNet, Event}
@@ -23,11 +23,11 @@ read_outline s at =
     then (read_number (bytes "places=") (in_range 1 32) s x₂) λ p x₃.
     then (read_list (bytes "type=") p (λ d. leb d n) s x₃) λ types x₄. got (record { nets = n; places = p; types = types }) x₄
 
--- the lines from `moves` to the last object net; a move is put to the test `fine`
-unfoldable pub read_system : ℕ → ℕ → (Transition → Bool) → Text → ℕ → Outcome System
-read_system nets places fine s at =
+-- the lines from `moves` to the last object net
+unfoldable pub read_system : ℕ → ℕ → Text → ℕ → Outcome System
+read_system nets places s at =
     then (read_number (bytes "moves=") (in_range 0 32) s at) λ k x₁.
-    then (many (read_sides places fine s) k x₁) λ moves x₂.
+    then (many (read_sides places s) k x₁) λ moves x₂.
     then (many (read_net s) nets x₂) λ objects x₃. got (record { moves = moves; nets = objects }) x₃
 
 -- the lines from `events` to the last event

@@ -1,24 +1,23 @@
 -- What a model's text says, up to its `start` line.
-use Rattle.std.specs.Prelude.{ℕ, pred, Bool, true, false, List, [], leb, drop}
+use Rattle.std.specs.Prelude.{ℕ, pred, true, false, List, [], leb, drop}
 use Rattle.text.specs.Bytes.{Text, bytes, starts}
 use Rattle.text.specs.Lines.{Outcome, got, then, need, many, in_range, read_number, read_list, read_head}
 use Rattle.text.specs.Repeat.{many_at}
 use Rattle.eos.specs.Model.{Transition, ObjectNet, Act, move, idle, Event, Model}
-use Rattle.model.specs.Rules.{byte, Frame, frame_of, keeps_types, own_net, takes_part}
-use Rattle.text.specs.declared.Cause.TheVariants.{Typing, Idling}
+use Rattle.model.specs.Rules.{byte, Frame, frame_of, own_net, takes_part}
+use Rattle.text.specs.declared.Cause.TheVariants.{Idling}
 
--- the lines `pre` and `post` of a transition between `size` places; what is not fine is 4 at its `post` line
-unfoldable pub read_sides : ℕ → (Transition → Bool) → Text → ℕ → Outcome Transition
-read_sides size fine s at =
+-- the lines `pre` and `post` of a transition between `size` places
+unfoldable pub read_sides : ℕ → Text → ℕ → Outcome Transition
+read_sides size s at =
     then (read_list (bytes "pre=") size byte s at) λ p x₁.
-    then (read_list (bytes "post=") size byte s x₁) λ q x₂.
-    need (fine (record { pre = p; post = q })) Typing x₁ (got (record { pre = p; post = q }) x₂)
+    then (read_list (bytes "post=") size byte s x₁) λ q x₂. got (record { pre = p; post = q }) x₂
 
 unfoldable pub read_net : Text → ℕ → Outcome ObjectNet
 read_net s at =
     then (read_number (bytes "inner=") (in_range 1 32) s at) λ size x₁.
     then (read_number (bytes "steps=") (in_range 0 32) s x₁) λ n x₂.
-    then (many (read_sides size (λ t. true) s) n x₂) λ ts x₃. got (record { size = size; transitions = ts }) x₃
+    then (many (read_sides size s) n x₂) λ ts x₃. got (record { size = size; transitions = ts }) x₃
 
 -- `idle=` and a place, which is no place of black tokens (5), or `event=` and a move; both are numbered from 1
 unfoldable pub read_idle : Frame → Text → ℕ → Outcome Act
@@ -51,7 +50,7 @@ read_plant s at =
     then (read_number (bytes "places=") (in_range 1 32) s x₂) λ p x₃.
     then (read_list (bytes "type=") p (λ d. leb d n) s x₃) λ types x₄.
     then (read_number (bytes "moves=") (in_range 0 32) s x₄) λ k x₅.
-    then (many (read_sides p (keeps_types n types) s) k x₅) λ moves x₆.
+    then (many (read_sides p s) k x₅) λ moves x₆.
     then (many (read_net s) n x₆) λ nets x₇.
     then (read_number (bytes "events=") (in_range 0 64) s x₇) λ e x₈.
     then (many (read_event (frame_of (eventless types moves nets)) s) e x₈) λ events x₉.

@@ -47,12 +47,11 @@ two_three n (inl e) = (omega arith, omega arith)
 two_three n (inr (inl e)) = (omega arith, omega arith)
 two_three n (inr (inr e)) = absurd e
 
-two_five : (n : ℕ) → Among (2 ∷ 3 ∷ 4 ∷ 5 ∷ []) n → (2 ≤ n) × (n ≤ 5)
+two_five : (n : ℕ) → Among (2 ∷ 3 ∷ 5 ∷ []) n → (2 ≤ n) × (n ≤ 5)
 two_five n (inl e) = (omega arith, omega arith)
 two_five n (inr (inl e)) = (omega arith, omega arith)
 two_five n (inr (inr (inl e))) = (omega arith, omega arith)
-two_five n (inr (inr (inr (inl e)))) = (omega arith, omega arith)
-two_five n (inr (inr (inr (inr e)))) = absurd e
+two_five n (inr (inr (inr e))) = absurd e
 
 six-seven : (n : ℕ) → Among (6 ∷ 7 ∷ []) n → (6 ≤ n) × (n ≤ 12)
 six-seven n (inl e) = (omega arith, omega arith)
@@ -88,7 +87,7 @@ module _ (s : Text) where
   pub model_caused : (most : ℕ) (r : Refusal) → Caused model_numbers most s true (read_model s) untested r
   model_caused most r = record {
     unheld = λ h. absurd (true≢false h);
-    lines = model_faults (Among model_numbers.lines) (inl refl) s (inr (inl refl)) (inr (inr (inl refl))) (inr (inr (inr (inl refl))));
+    lines = model_faults (Among model_numbers.lines) (inl refl) s (inr (inl refl)) (inr (inr (inl refl)));
     tests_are = λ a c e. untested_none a c e;
     low = two_five;
     high = λ n h. absurd h;

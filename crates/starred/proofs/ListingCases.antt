@@ -13,7 +13,7 @@ use Rattle.text.specs.Printed.{decimal_of, decimal, signed_text, items_text, end
 use Rattle.eos.specs.Firing.{outer, inner, outer_of, inner_of, outer_taken, outer_given, inner_taken, inner_given}
 use Rattle.eos.specs.Causes.{first, unless, at, causes, refusal}
 use Rattle.eos.specs.Weights.{value, weigh, effect, covers, weight_refusal}
-use Rattle.model.specs.Rules.{touches, monotonous, keeps_types, takes_part, right_act}
+use Rattle.model.specs.Rules.{takes_part, right_act}
 use Rattle.model.specs.Acts.{held_act}
 use Rattle.model.specs.Held.{hold_model, hold_net, hold_nets, hold_event, hold_events, tabled, model_of, net_of, event_of}
 use Rattle.model.specs.Test.{empty_past, held_types, held_moves, held_net, held_nets, held_event, empty_event, held_events, held_model}
@@ -48,10 +48,10 @@ pub listing-cases :
     × (listing_text model (bytes "inv=1\nouter=1,0\ninner=1,1\n") trace ≡ bytes "model=0,0\nweights=7,1\n")
     × (listing_text model (bytes "inv=1\nouter=-1,-1\ninner=0,0\n") (bytes "") ≡ bytes "model=0,0\nweights=0,0\nsum=-2\ncover=0\nfired=0\nstop=2,1\nheld=2\ntoken=1:0,0\ntoken=1:1,0\n")
 unfolding listing_text with_model with_weights run_text cover_text sum_text pair_text trace_file weights_file model_file model_reading loaded read_model_at read_lines read_end
-    read_plant read_event read_sync read_act read_move read_idle read_net read_sides keeps_types
+    read_plant read_event read_sync read_act read_move read_idle read_net read_sides
     weight_checking weights_or weighed judged_weights turned_or weight_refusal read_weights_at read_inner read_weights effect value weigh covers
-    running run_where_held headed run_from onward held_in held_model held_types held_moves held_nets held_net held_events held_event empty_event held_act right_act empty_past monotonous
-    touches takes_part held_tokens held_token hold_model hold_net hold_nets hold_event hold_events tabled fill padded hold_marking model_of net_of event_of tokens_of sizes_in
+    running run_where_held headed run_from onward held_in held_model held_types held_moves held_nets held_net held_events held_event empty_event held_act right_act empty_past
+    takes_part held_tokens held_token hold_model hold_net hold_nets hold_event hold_events tabled fill padded hold_marking model_of net_of event_of tokens_of sizes_in
     tried read_then step_judged read_taking read_step read_block read_net_token read_token token_at counts_at read_head read_number read_list behind lines.judged many many_at need then list_end
     items item prepended ended stop_of number number_of digits plainly negated signed starts newlines refusal causes first unless at outer_taken outer_given inner_taken
     inner_given outer inner outer_of inner_of block_text net_token_text number_text list_text weights_text token_text texts end_text items_text signed_text decimal decimal_of

@@ -12,7 +12,7 @@ use Rattle.eos.specs.Firing.{outer, inner, outer_of, inner_of, outer_taken, oute
 use Rattle.eos.specs.Causes.{first, unless, at, causes, refusal}
 use Rattle.eos.specs.Weights.{value, weigh, effect, covers, weight_refusal}
 use Rattle.eos.specs.Spread.{binomial, spread}
-use Rattle.model.specs.Rules.{touches, monotonous, keeps_types, takes_part, right_act}
+use Rattle.model.specs.Rules.{takes_part, right_act}
 use Rattle.model.specs.Acts.{held_act}
 use Rattle.model.specs.Held.{hold_model, hold_net, hold_nets, hold_event, hold_events, tabled, model_of, net_of, event_of}
 use Rattle.model.specs.Test.{empty_past, held_types, held_moves, held_net, held_nets, held_event, empty_event, held_events, held_model}
@@ -38,7 +38,7 @@ lined = tt
 
 -- models, markings, steps, weight files
 unfoldable pub read : Unit {0}
-unfolding keeps_types monotonous touches takes_part read_sides read_net read_idle read_move read_act read_sync read_event read_plant read_net_token read_block read_end
+unfolding takes_part read_sides read_net read_idle read_move read_act read_sync read_event read_plant read_net_token read_block read_end
     read_lines read_model_at read_taking read_step read_inner read_weights_at
 read = tt
 

@@ -1,7 +1,7 @@
--- The table of 01's starred cases: the definitions give each row its outcome.
+-- The table of 01's starred cases: the definitions give each row its outcome. So they do of the worked cases of 02.
 use mathlib.Core.Path.{◌≡◌, refl, ap₂}
 use mathlib.Core.List.{List, [], ◌∷◌, ◌++◌, map}
-use Rattle.starred.specs.Table.{once_read, checked, step_outcome, counted, check_for, step_on, step_for, outcome_of, Case, listed_weighings, listed_steps, insides, new_racks, full_hall_weighing, spread_cases, rows}
+use Rattle.starred.specs.Table.{once_read, checked, step_outcome, counted, check_for, step_on, step_for, outcome_of, Case, listed_weighings, listed_steps, insides, new_racks, full_hall_weighing, spread_cases, leaving_racks, rows}
 use Rattle.starred.proofs.Opened.{opened}
 
 -- each of the rows is given its outcome
@@ -51,3 +51,11 @@ table =
     (gives_more listed_weighings _ weighings_give
     (gives_more listed_steps _ steps_give (gives_more insides _ insides_give (gives_more new_racks _ racks_give (gives_more full_hall_weighing _ hall_gives spreads_give))))
     ).each
+
+leaving_gives : Gives leaving_racks
+unfolding evaluated
+leaving_gives = record { each = refl }
+
+-- a rack that is emptied leaves, and one with a token more does not
+pub leaving-cases : map (λ (r : Case). outcome_of r.input) leaving_racks ≡ map (λ (r : Case). r.outcome) leaving_racks
+leaving-cases = leaving_gives.each

@@ -1,4 +1,4 @@
--- The starred cases of 01 ("Edges") as a table: what is lent to the calls, and what comes of it.
+-- The starred cases of 01 ("Edges") as a table, and worked cases of 02: what is lent to the calls, and what comes of it.
 use Rattle.std.specs.Prelude.{ℕ, ℤ, pos, Bool, true, false, List, [], ◌∷◌, ◌++◌, replicate, Ok, Err}
 use Rattle.std.specs.Prelude as code
 use Rattle.text.specs.Bytes.{Text, bytes}
@@ -149,6 +149,19 @@ full_hall_weighing = (weights full_hall (bytes "inv=1\nouter=2\ninner=1\n") give
 -- "Spread: (0,0) is 1, (3,0) is 0, (2,3) is 6"
 abbrev pub spread_cases : List Case
 spread_cases = (spread 0 0 gives of_spread fine 1) ∷ (spread 3 0 gives of_spread fine 0) ∷ (spread 2 3 gives of_spread fine 6) ∷ []
+
+-- 02, K2: racks are scrapped by a move whose post has no place; the inner pre is 1,1
+abbrev pub scrapping : Text
+scrapping =
+    bytes "eos=1\nnets=1\nplaces=1\ntype=1\nmoves=1\npre=1\npost=0\n" ++ bytes "inner=2\nsteps=1\npre=1,1\npost=0,0\n"
+    ++ bytes "events=1\nevent=1\nsync=1\n" ++ bytes "start=2\ntoken=1:1,1\ntoken=1:1,2\n"
+
+-- "such a rack leaves only when the event's own pre empties what was taken": one that it empties leaves, one with a token more is 10, net 1
+abbrev pub leaving_racks : List Case
+leaving_racks =
+    (step scrapping (bytes "start=2\ntoken=1:1,1\ntoken=1:1,2\n") (bytes "fire=1\ntake=1\ntoken=1:1,1\ngive=0\n") gives of_step fine (bytes "start=1\ntoken=1:1,2\n"))
+    ∷ (step scrapping (bytes "start=1\ntoken=1:1,2\n") (bytes "fire=1\ntake=1\ntoken=1:1,2\ngive=0\n") gives of_step (pair 10 1) (bytes "start=1\ntoken=1:1,2\n"))
+    ∷ []
 
 -- all starred cases
 abbrev pub rows : List Case

@@ -45,7 +45,7 @@ module _ (side : Transition → List ℕ) (s : Side side) where
   module _ (m : Model) (right : right_model m ≡ true) where
     act-long : (a : Act) → right_act (frame_of m) a ≡ true → length (of_act side m a) ≡ places m
     unfolding right_act
-    act-long (move k) h = s (places m) (get_or m.moves k no_transition) (right_move_lem m (right_is m right) k (ltb-true k (length m.moves) h)).sides
+    act-long (move k) h = s (places m) (get_or m.moves k no_transition) (right_move_lem m (right_is m right) k (ltb-true k (length m.moves) h))
     act-long (idle p) h = length-one p (places m) (ltb-true p (places m) (and_true (ltb p (places m)) _ h).0)
 
     pub outer_side_long : (e : ℕ) → e < length m.events → length (outer_of side m (event m e)) ≡ places m

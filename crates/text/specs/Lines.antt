@@ -4,7 +4,7 @@ use Rattle.text.specs.Bytes.{Text, lf, starts, line_at}
 use Rattle.text.specs.Number.{Read, missing, found, number, signed, item}
 use Rattle.text.specs.Lists.{list_end}
 use Rattle.text.specs.declared.Cause.{Cause}
-use Rattle.text.specs.declared.Cause.TheVariants.{Syntax, Range, Typing, Idling}
+use Rattle.text.specs.declared.Cause.TheVariants.{Syntax, Range, Idling}
 use Rattle.text.specs.declared.Fault.{Fault}
 use Rattle.text.specs.declared.Spot.{Spot}
 
@@ -13,11 +13,10 @@ pub data Outcome (A : Type 0) : Type 0 where
   got : A → ℕ → Outcome A
   bad : Fault → Outcome A
 
--- the number of a cause in 01's table
+-- the number of a cause in 01's table; 4 was that of a rule which 02 takes back (K2)
 abbrev pub cause_number : Cause → ℕ
 cause_number Syntax = 2
 cause_number Range = 3
-cause_number Typing = 4
 cause_number Idling = 5
 
 -- the cause, and where the line at fault begins; its first byte stands for the byte at fault

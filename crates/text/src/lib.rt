@@ -13,13 +13,12 @@ pub struct Parsed<T> {
     pub end: usize,
 }
 
-// Why a line is refused: it is not of the form that is wanted there, a number is out of its range, a move takes racks of a net and gives
-// none, or an event idles at a place without a net, with another net or with no transition.
+// Why a line is refused: it is not of the form that is wanted there, a number is out of its range, or an event idles at a place without a
+// net, with another net or with no transition.
 #[derive(Clone, Copy, PartialEq, Eq, Debug)]
 pub enum Cause {
     Syntax,
     Range,
-    Typing,
     Idling,
 }
 
@@ -31,7 +30,6 @@ impl Cause {
         match self {
             Cause::Syntax => 2,
             Cause::Range => 3,
-            Cause::Typing => 4,
             Cause::Idling => 5,
         }
     }

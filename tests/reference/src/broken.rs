@@ -32,6 +32,8 @@ deviations! {
     InnerPreRackByRack: "the inner pre is tested rack by rack";
     InsidesNotCompared: "taken places are occupied, insides are not compared";
     FreshRackFilled: "a rack of a net that pre lacks arrives with tokens no sync made";
+    LeavesWithTokens: "a rack of a net that post lacks leaves with tokens in it";
+    LeavesOnlyEmpty: "a rack of a net that post lacks has to be empty before its move";
     EqualTakenAsOne: "equal taken racks are looked for as one";
     InnerPreNotTested: "the inner pre is not tested";
     InnerPreNotUsedUp: "the inner pre is not used up";
@@ -95,13 +97,13 @@ deviations! {
     CountsOneFewer: "a count of 65,535 is too large";
     SliceOneShorter: "1,048,576 bytes are too many";
     SliceOneLonger: "1,048,577 bytes are read";
-    MovesNotMonotonous: "a move need not be monotonous";
-    BlackTokensMonotonous: "a move must be monotonous in black tokens too";
+    LeavingMovesAreFour: "a move that gives none of a net that it takes is 4";
     IdlingAtBlackPlaces: "idling at a type 0 place is read";
     IdlingWithAnotherNet: "idling engages another net";
     IdlingWithoutTransitions: "idling with all counts 0 is read";
     RefusedReadingGivesNothing: "a refused reading leaves the model that stood there";
     // Held models and markings.
+    LeavingMovesNotHeld: "a held model with a move that gives none of a net that it takes is 14";
     UnusedRoomOfModel: "unused room of a held model is not tested";
     UnusedRoomOfMarking: "unused room of a held marking is not tested";
     InsideRoomNotTested: "counts past the net's inner places are not tested";

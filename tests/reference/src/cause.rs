@@ -6,8 +6,8 @@ pub const TOO_LONG: usize = 1;
 pub const SYNTAX: usize = 2;
 /// A number out of range.
 pub const RANGE: usize = 3;
-/// A move that is not monotonous.
-pub const NOT_MONOTONOUS: usize = 4;
+/// Given to nothing: it was a rule's that was taken back.
+pub const RETIRED: usize = 4;
 /// Idling at a black place, or with counts that are no idling.
 pub const IDLING: usize = 5;
 /// All weights are 0.

@@ -5,7 +5,7 @@ use std::mem::size_of;
 use crate::broken::{broken, Broken};
 use crate::marking::{Marking, Row};
 use crate::model::{
-    Mode, Model, ObjectNet, Transition, EVENTS, INNER, MOVES, NETS, PLACES, TOKENS, TRANSITIONS,
+    loses_a_net, Mode, Model, ObjectNet, Transition, EVENTS, INNER, MOVES, NETS, PLACES, TOKENS, TRANSITIONS,
 };
 
 const ARCS: usize = 32 * 32;
@@ -138,7 +138,7 @@ pub fn model_of(held: &HeldModel) -> Option<Model> {
     let moves = transitions(&held.pre, &held.post, held.moves, held.places);
     let nets = held.objects[..held.nets].iter().map(object_net).collect::<Option<_>>()?;
     let mut model = Model { types, moves, nets, events: Vec::new() };
-    if !model.moves.iter().all(|transition| model.monotonous(transition)) {
+    if broken(Broken::LeavingMovesNotHeld) && model.moves.iter().any(|each| loses_a_net(&model.types, each)) {
         return None;
     }
     for event in &held.events[..held.listed] {

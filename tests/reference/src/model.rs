@@ -1,7 +1,7 @@
 //! Models: the system net, the object nets, the events, and their reading.
 
 use crate::broken::{broken, Broken};
-use crate::cause::{within, Refusal, IDLING, NOT_MONOTONOUS, SYNTAX};
+use crate::cause::{within, Refusal, IDLING, RETIRED, SYNTAX};
 use crate::marking::{read_start, Marking};
 use crate::text::{value_of, Reader};
 
@@ -97,11 +97,6 @@ impl Model {
         Event { mode, sync, outer_pre, outer_post, inner_pre, inner_post }
     }
 
-    /// Whether each net that types a place of pre also types a place of post.
-    pub fn monotonous(&self, Transition { pre, post }: &Transition) -> bool {
-        monotonous(&self.types, pre, post)
-    }
-
     /// Whether these counts of a net cannot stand in an event of this mode: idling engages its own net, and
     /// no other.
     pub fn idling_fault(&self, mode: Mode, net: usize, counts: &[u8]) -> bool {
@@ -145,11 +140,10 @@ fn summed(net: &ObjectNet, counts: &[u8], arcs: fn(&Transition) -> &Vec<u8>) -> 
     sums
 }
 
-fn monotonous(types: &[u8], pre: &[u8], post: &[u8]) -> bool {
+/// Broken: whether a net types a place of pre and none of post.
+pub fn loses_a_net(types: &[u8], Transition { pre, post }: &Transition) -> bool {
     let has = |arcs: &[u8], net: u8| types.iter().zip(arcs).any(|(&t, &arc)| t == net && arc > 0);
-    let free = |net: u8| net == 0 && !broken(Broken::BlackTokensMonotonous);
-    types.iter().all(|&net| free(net) || !has(pre, net) || has(post, net))
-        || broken(Broken::MovesNotMonotonous)
+    types.iter().any(|&net| net != 0 && has(pre, net) && !has(post, net))
 }
 
 /// Refuses a lent text that is too long.
@@ -187,8 +181,8 @@ fn read_moves(reader: &mut Reader, types: &[u8]) -> Result<Vec<Transition>, Refu
     let mut moves = Vec::with_capacity(number);
     for _ in 0..number {
         let transition = read_transition(reader, types.len())?;
-        if !monotonous(types, &transition.pre, &transition.post) {
-            return Err(reader.refuse(NOT_MONOTONOUS));
+        if broken(Broken::LeavingMovesAreFour) && loses_a_net(types, &transition) {
+            return Err(reader.refuse(RETIRED));
         }
         moves.push(transition);
     }

@@ -84,7 +84,8 @@ fn test_inner(model: &Model, event: &Event, step: &Step) -> Result<(), Refusal> 
     let fails_pre = |net: usize| below(&taken[net], &event.inner_pre[net]) || rack_below(model, step, net);
     let fails_post = |net: usize| {
         let made = differs(&given[net], &taken[net], &event.inner_pre[net], &event.inner_post[net]);
-        made && !fresh_rack_filled(model, step, net)
+        let let_pass = fresh_rack_filled(model, step, net) || leaves_with_tokens(model, step, net);
+        made && !let_pass || leaves_filled(model, step, net)
     };
     if broken(Broken::PreAndPostNetByNet) {
         return test_net_by_net(model.nets.len(), fails_pre, fails_post);
@@ -232,6 +233,25 @@ fn rack_below(model: &Model, step: &Step, net: usize) -> bool {
 /// Broken: whether racks of a net that pre lacks may arrive with any inside.
 fn fresh_rack_filled(model: &Model, step: &Step, net: usize) -> bool {
     broken(Broken::FreshRackFilled) && racks_of(model, &step.taken, net).next().is_none()
+}
+
+/// Whether racks of the net are taken and none is given.
+fn leaves(model: &Model, step: &Step, net: usize) -> bool {
+    let some = |racks| racks_of(model, racks, net).next().is_some();
+    some(&step.taken) && !some(&step.given)
+}
+
+/// Broken: whether racks of a net of which none is given may leave with any inside.
+fn leaves_with_tokens(model: &Model, step: &Step, net: usize) -> bool {
+    broken(Broken::LeavesWithTokens) && leaves(model, step, net)
+}
+
+/// Broken: whether racks of a net of which none is given hold anything before the move.
+fn leaves_filled(model: &Model, step: &Step, net: usize) -> bool {
+    let filled = |rack: &Row| rack[1..].iter().any(|&count| count > 0);
+    broken(Broken::LeavesOnlyEmpty)
+        && leaves(model, step, net)
+        && racks_of(model, &step.taken, net).any(filled)
 }
 
 fn racks_of<'a>(model: &'a Model, racks: &'a [Row], net: usize) -> impl Iterator<Item = &'a Row> {

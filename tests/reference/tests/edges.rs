@@ -131,6 +131,22 @@ fn a_fresh_rack_is_empty() {
 }
 
 #[test]
+fn a_rack_leaves_only_where_it_is_emptied() {
+    let model = "eos=1\nnets=2\nplaces=3\ntype=1,2,2\nmoves=1\npre=1,1,0\npost=0,0,1\n\
+        inner=2\nsteps=1\npre=1,1\npost=0,0\ninner=1\nsteps=0\nevents=2\nevent=1\nsync=1\nsync=\n\
+        event=1\nsync=0\nsync=\nstart=4\ntoken=1:1,1\ntoken=1:1,2\ntoken=1:0,0\ntoken=2:7\n";
+    let step = |event: usize, inside: &str, given: usize| {
+        format!("fire={event}\ntake=2\ntoken=1:{inside}\ntoken=2:7\ngive=1\ntoken=3:{given}\n")
+    };
+    assert_eq!(stepped(model, &step(1, "1,1", 7)), (0, 0));
+    assert_eq!(stepped(model, &step(1, "1,1", 8)), (10, 2));
+    assert_eq!(stepped(model, &step(1, "1,2", 7)), (10, 1));
+    assert_eq!(stepped(model, &step(1, "0,0", 7)), (9, 1));
+    assert_eq!(stepped(model, &step(2, "0,0", 7)), (0, 0));
+    assert_eq!(stepped(model, &step(2, "1,1", 7)), (10, 1));
+}
+
+#[test]
 fn room_for_256() {
     let two = "fire=1\ntake=1\ntoken=1:\ngive=2\ntoken=1:\ntoken=1:\n";
     let one = "fire=1\ntake=1\ntoken=1:\ngive=1\ntoken=1:\n";
@@ -162,7 +178,6 @@ fn counts_and_lists() {
     assert_eq!(refused(&with("eos=1", "eos=99999999999999999999")), (2, 1));
     assert_eq!(refused(&with("nets=1", "nets=99999999999999999999")), (3, 2));
     assert_eq!(refused(&with("idle=2\nsync=1", "idle=2\nsync=0")), (5, 16));
-    assert_eq!(refused(&with("post=0,1", "post=0,0")), (4, 7));
     assert_eq!(
         refused(
             &with("type=1,1", "type=1,0").replace("pre=1,0\npost=0,1\ninner", "pre=0,1\npost=0,1\ninner")

@@ -14,13 +14,13 @@ returns-in_err-number-2 c =
 pub tables-requires : goal.tables-requires
 tables-requires c =
     rw (c.from-places.ensures, c.from-transitions.ensures)
-    (steps_few c.args.r.now _ c.in_ok-number.ensures _ c.in_ok-number-2.ensures (λ _. 0), inner_few c.args.r.now _ c.in_ok-number.ensures)
+    (steps_few c.args.r.now _ c.in_ok-number.ensures _ c.in_ok-number-2.ensures, inner_few c.args.r.now _ c.in_ok-number.ensures)
 
 pub returns-in_err-pre : goal.returns-in_err-pre
 returns-in_err-pre c =
-    rw (handed_on _ c.from_residual-in_err-pre.ensures.1) (rows_refused c.args.r.now _ c.in_ok-number.ensures _ c.in_ok-number-2.ensures _ _ (rw (c.from-places.ensures, c.from-transitions.ensures) at c.in_err-pre.ensures))
+    rw (handed_on _ c.from_residual-in_err-pre.ensures.1) (rows_refused c.args.r.now _ c.in_ok-number.ensures _ c.in_ok-number-2.ensures _ (rw (c.from-places.ensures, c.from-transitions.ensures) at c.in_err-pre.ensures))
 
 pub returns : goal.returns
 returns c =
     rw (c.from-places.ensures, c.from-transitions.ensures)
-    (net_read c.args.r.now _ c.in_ok-number.ensures _ c.in_ok-number-2.ensures _ _ (rw (c.from-places.ensures, c.from-transitions.ensures) at c.in_ok-pre.ensures))
+    (net_read c.args.r.now _ c.in_ok-number.ensures _ c.in_ok-number-2.ensures _ (rw (c.from-places.ensures, c.from-transitions.ensures) at c.in_ok-pre.ensures))

@@ -11,7 +11,7 @@ ranges : (c : Else-not-counts_held) → let m = c.args.m.now in (m.nets ≤ 8) �
 ranges c = let m = c.args.m.now in few-counts m.nets m.places m.moves m.listed (sym c.counts_held.ensures ∙ c.if-not-counts_held.false)
 
 pub moves_held-requires : goal.moves_held-requires
-moves_held-requires c = ranges (goal.at.moves_held-requires c).Else-not-counts_held
+moves_held-requires c = (ranges (goal.at.moves_held-requires c).Else-not-counts_held).2
 
 pub returns-then-nets_held : goal.returns-then-nets_held
 unfolding held_model held_types held_nets

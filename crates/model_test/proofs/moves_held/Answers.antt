@@ -1,20 +1,12 @@
--- `moves_held` is the test of the moves, by its three parts.
+-- `moves_held` is the test of the moves, by its two parts.
 use mathlib.Core.Path.{sym, ◌∙◌}
 use Rattle.model.specs.Test.{held_moves}
 use Rattle.model.proofs.HeldTestLoops.{and_no, and_yes}
 use Rattle.model_test.proofs.moves_held.Goals as goal
 
-pub returns-then-empty_behind-2 : goal.returns-then-empty_behind-2
+pub returns-then-empty_behind : goal.returns-then-empty_behind
 unfolding held_moves
-returns-then-empty_behind-2 c =
-    and_yes _ _ _ (sym c.empty_behind.ensures ∙ c.if-empty_behind.true)
-    (and_yes _ _ _ (sym c.empty_behind-then-empty_behind.ensures ∙ c.if-empty_behind-2.true) c.typing_held.ensures)
-
-pub returns-else-empty_behind-2 : goal.returns-else-empty_behind-2
-unfolding held_moves
-returns-else-empty_behind-2 c =
-    and_yes _ _ _ (sym c.empty_behind.ensures ∙ c.if-empty_behind.true)
-    (c.if-empty_behind-2.false ∙ and_no _ _ (sym c.empty_behind-then-empty_behind.ensures ∙ c.if-empty_behind-2.false))
+returns-then-empty_behind c = and_yes _ _ _ (sym c.empty_behind.ensures ∙ c.if-empty_behind.true) c.empty_behind-then-empty_behind.ensures
 
 pub returns-else-empty_behind : goal.returns-else-empty_behind
 unfolding held_moves

@@ -91,14 +91,14 @@ impl Batch<'_, '_> {
             self.comparer.read_model(&text)?;
         }
         for _ in 0..3 {
-            let text = self.wrong_model();
+            let text = self.changed_model();
             self.comparer.read_model(&text)?;
         }
         Ok(())
     }
 
-    /// The text of the model with a move that is not monotonous, or idling that is none.
-    fn wrong_model(&mut self) -> Vec<u8> {
+    /// The text of the model with a move that gives none of a net that it takes, or idling that is none.
+    fn changed_model(&mut self) -> Vec<u8> {
         let mut model = self.plant.model.clone();
         let place = self.rng.below(model.places());
         if self.rng.percent(40) && !model.moves.is_empty() {

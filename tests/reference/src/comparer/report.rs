@@ -3,6 +3,7 @@
 use std::time::Instant;
 
 use crate::broken::{Broken, ALL};
+use crate::cause::RETIRED;
 use crate::engine::{Engine, Reference};
 
 use super::batch::{batch, fixed};
@@ -17,7 +18,7 @@ pub struct Plan {
     pub batches: u64,
     /// Batches in which a broken copy must be caught.
     pub broken_batches: u64,
-    /// How many comparisons there must be, and how often each cause must occur.
+    /// How many comparisons there must be, and how often each cause must occur; 4 never does.
     pub least: u64,
     pub least_of_cause: u64,
 }
@@ -130,10 +131,11 @@ fn print_causes(tally: &Tally, least: u64, score: &mut Score) {
     let causes = tally.causes();
     row("all", &causes);
     for (cause, &times) in causes.iter().enumerate() {
-        if times < least {
-            println!("cause {cause} occurred {times} times, too few");
+        let right = if cause == RETIRED { times == 0 } else { times >= least };
+        if !right {
+            println!("cause {cause} occurred {times} times");
         }
-        score.note(times >= least);
+        score.note(right);
     }
 }
 

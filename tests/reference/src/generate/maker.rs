@@ -55,7 +55,7 @@ impl<'r> Maker<'r> {
         let size = *self.rng.pick(&[0, 1, 1, 1, 1, 2, 2, 2, 3, 3, 4, 6, 60]);
         let size = if size == 60 && self.rng.percent(90) { 1 } else { size };
         let pre = some_arcs(self.rng, types.len(), size);
-        let reserved = self.one_of_each_net(types, &pre);
+        let reserved = self.kept_nets(types, &pre);
         if self.kind == Kind::Free {
             let size = self.rng.between(0, 4);
             let post = some_arcs(self.rng, types.len(), size);
@@ -69,10 +69,13 @@ impl<'r> Maker<'r> {
         Transition { pre, post }
     }
 
-    /// For each net that types a place of pre, a place of that net with no more weight.
-    fn one_of_each_net(&mut self, types: &[u8], pre: &[u8]) -> Vec<u8> {
+    /// For each net that types a place of pre, or each but one, or none, a place of that net with no more weight.
+    fn kept_nets(&mut self, types: &[u8], pre: &[u8]) -> Vec<u8> {
         let mut arcs = vec![0; types.len()];
-        for net in 1..=self.sizes.nets as u8 {
+        let nets = self.sizes.nets as u8;
+        let kept = self.rng.below(10);
+        let lost = self.rng.between(1, usize::from(nets.max(1))) as u8;
+        for net in (1..=nets).filter(|&net| kept > 2 || (kept > 0 && net != lost)) {
             let Some(first) = (0..types.len()).find(|&p| types[p] == net && pre[p] > 0) else {
                 continue;
             };

@@ -6,7 +6,7 @@ use crate::weights::{Weights, WEIGHT};
 
 use super::maker::Maker;
 use super::rng::Rng;
-use super::special::{crowded, edge};
+use super::special::{crowded, edge, leaving};
 
 /// What a plant is made for.
 #[derive(Clone, Copy, Debug, PartialEq, Eq)]
@@ -23,6 +23,8 @@ pub enum Kind {
     Heavy,
     /// A sum at the edge of covering.
     Edge,
+    /// Moves that take racks of a net and give none.
+    Leaving,
 }
 
 /// A plant; `separate` where moves and transitions are balanced each for itself.
@@ -54,11 +56,13 @@ pub fn plant(rng: &mut Rng) -> Plant {
         49..=62 => Kind::Fresh,
         63..=76 => Kind::Free,
         77..=84 => Kind::Crowded,
-        85..=90 => Kind::Heavy,
-        _ => Kind::Edge,
+        85..=88 => Kind::Heavy,
+        89..=93 => Kind::Edge,
+        _ => Kind::Leaving,
     };
     match kind {
         Kind::Edge => edge(rng),
+        Kind::Leaving => leaving(rng),
         Kind::Crowded => crowded(rng),
         _ => balanced_or_free(rng, kind),
     }

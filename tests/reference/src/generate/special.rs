@@ -1,5 +1,6 @@
-//! Plants made for an edge: nearly full ones, and sums that just cover.
+//! Plants made for an edge: nearly full ones, sums that just cover, and racks that leave.
 
+use crate::marking::Row;
 use crate::model::{Mode, Model, ObjectNet, Transition, COUNT, INNER, TOKENS};
 use crate::weights::Weights;
 
@@ -31,6 +32,63 @@ pub fn crowded(rng: &mut Rng) -> Plant {
     let start = start(rng, &model, Kind::Crowded, tokens);
     let weights = Weights { outer: vec![0, 0, 0], inner: vec![vec![1, 1]] };
     Plant { kind: Kind::Crowded, model, start, weights, separate: true }
+}
+
+/// Halls of two nets and a black one, with moves that give none of one net, of both, and of neither. The black tokens
+/// that such a move gives weigh what has left.
+pub fn leaving(rng: &mut Rng) -> Plant {
+    let types = vec![1, 2, 1, 2, 0];
+    let arcs: [[u8; 2]; 4] = std::array::from_fn(|_| [rng.below(4) as u8, rng.below(2) as u8]);
+    let total = |arcs: [u8; 2]| arcs.iter().sum::<u8>();
+    let emptied = |pre: [u8; 2]| Transition { pre: pre.to_vec(), post: vec![0, 0] };
+    let net = |pres: [[u8; 2]; 2]| {
+        let moved = Transition { pre: vec![1, 0], post: vec![0, 1] };
+        let transitions = pres.into_iter().map(emptied).chain([moved]).collect();
+        ObjectNet { places: 2, transitions }
+    };
+    let nets = vec![net([arcs[0], arcs[1]]), net([arcs[2], arcs[3]])];
+    let shapes: [([u8; 5], [u8; 5], [Option<usize>; 2]); 7] = [
+        ([1, 0, 0, 0, 0], [0, 0, 0, 0, 1], [Some(0), None]),
+        ([1, 0, 1, 0, 0], [0, 0, 0, 0, 2], [Some(1), None]),
+        ([1, 1, 0, 0, 0], [0, 0, 0, 1, 1], [Some(0), Some(2)]),
+        ([1, 1, 0, 0, 0], [0, 0, 1, 0, 1], [Some(2), Some(0)]),
+        ([1, 1, 0, 0, 0], [0, 0, 0, 0, 2], [Some(1), Some(1)]),
+        ([1, 1, 0, 0, 0], [0, 0, 1, 1, 0], [Some(2), Some(2)]),
+        ([0, 0, 1, 1, 0], [1, 1, 0, 0, 0], [None, Some(2)]),
+    ];
+    let mut model = Model { types, moves: Vec::new(), nets, events: Vec::new() };
+    for (at, (pre, mut post, counted)) in shapes.into_iter().enumerate() {
+        for (net, transition) in counted.iter().enumerate() {
+            let emptied = transition.filter(|&transition| transition < 2);
+            post[4] += emptied.map_or(0, |transition| total(arcs[net * 2 + transition]));
+        }
+        model.moves.push(Transition { pre: pre.to_vec(), post: post.to_vec() });
+        let sync = counted.map(|one| (0..3).map(|transition| u8::from(one == Some(transition))).collect());
+        let event = model.event(Mode::Move(at), sync.to_vec());
+        model.events.push(event);
+    }
+    let racks = rng.between(1, 12);
+    let start = (0..racks).map(|_| scrap(rng, &arcs)).collect();
+    let weights = Weights { outer: vec![20; 5], inner: vec![vec![20; 2]; 2] };
+    Plant { kind: Kind::Leaving, model, start, weights, separate: false }
+}
+
+/// A rack with just what a transition takes, or with a token more or less, or empty.
+fn scrap(rng: &mut Rng, arcs: &[[u8; 2]; 4]) -> Row {
+    let mut row = [0; 1 + INNER];
+    let net = rng.below(2);
+    row[0] = (net + 1 + 2 * rng.below(2)) as u16;
+    let pre = arcs[net * 2 + rng.below(2)];
+    for (count, arc) in row[1..].iter_mut().zip(pre) {
+        *count = u16::from(arc) * u16::from(rng.percent(90));
+    }
+    let at = 1 + rng.below(2);
+    row[at] = match rng.below(6) {
+        0 => row[at] + 1,
+        1 => row[at].saturating_sub(1),
+        _ => row[at],
+    };
+    row
 }
 
 /// One hall whose sum is at the edge of covering, by its racks or by their insides.
