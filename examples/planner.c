@@ -28,7 +28,6 @@ static const char *words(size_t number) {
     case FP_TOO_LONG: return "the file has more than 65,536 bytes";
     case FP_SYNTAX: return "key, syntax, list length, or a line that is missing, unended or too many";
     case FP_RANGE: return "a number is out of range";
-    case FP_NOT_MONOTONOUS: return "the move takes racks of a net and gives none";
     case FP_IDLING: return "idling where there is no net, with another net, or with no transition";
     case FP_ALL_ZERO: return "all weights are 0";
     case FP_UNBALANCED: return "the weights do not balance the event";

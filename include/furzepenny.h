@@ -37,18 +37,17 @@
 extern "C" {
 #endif
 
-/* The version of this header, here 2.0.0: 10,000 times its first number, 100 times its second, and its third. The first is raised when what
+/* The version of this header, here 3.0.0: 10,000 times its first number, 100 times its second, and its third. The first is raised when what
  * is here changes, so that a caller has to be compiled anew; the second when something is added; the third for all else. */
-#define FP_VERSION 20000
+#define FP_VERSION 30000
 
 /* ==== What is answered: a number, and what stands beside it. The first cause in the stated order is answered: FP_TOO_LONG, FP_NOT_HELD,
  * then those of the lines in turn, then the others in the order of their numbers. Lines are counted from 1, those of a step from its own
- * `fire` line. */
+ * `fire` line. 4 is not answered. */
 #define FP_ACCEPTED 0        /* accepted, passed, fired, written; beside it 0 */
 #define FP_TOO_LONG 1        /* text over FP_TEXT bytes; 0 */
 #define FP_SYNTAX 2          /* key, syntax, list length, missing or unended line, bytes after the last line; the line */
 #define FP_RANGE 3           /* number out of range; the line (of fp_ways: 1 the tokens, 2 the racks) */
-#define FP_NOT_MONOTONOUS 4  /* move that takes racks of a net and gives none; its `post` line */
 #define FP_IDLING 5          /* idling at a place without a net, with another net, or with no transition; the line */
 #define FP_ALL_ZERO 6        /* all weights 0; the last line */
 #define FP_UNBALANCED 7      /* an event's effect is not 0; the least such event */
@@ -144,7 +143,7 @@ size_t fp_version(void);
 
 /* Reads a model and its start. The text: `eos=1`; `nets`, `places`, `type`, `moves`; for each move `pre`, `post`; for each net `inner`,
  * `steps`, and for each transition `pre`, `post`; `events`; for each `event` or `idle`, and for each net `sync`; `start`, and so many `token`
- * lines. Refused by 1 to 5; the model is then the empty one, which every other call refuses, and the start has no net-token. The form
+ * lines. Refused by 1, 2, 3 and 5; the model is then the empty one, which every other call refuses, and the start has no net-token. The form
  * in _at leaves both as they were. */
 #define FP_STACK_READ_MODEL (528 * 1024)
 typedef struct fp_read_model_answer {

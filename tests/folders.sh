@@ -29,4 +29,10 @@ make_folders() {
     folder below model trace
     printf 'inv=1\nouter=-1,-1\ninner=-1,-1\n' >"$folders/below/weights"
     folder whole model weights trace
+    folder scrapped
+    printf 'eos=1\nnets=1\nplaces=2\ntype=1,0\nmoves=1\npre=1,0\npost=0,3\ninner=2\nsteps=1\npre=1,1\npost=0,0\nevents=1\nevent=1\nsync=1\nstart=2\ntoken=1:1,1\ntoken=1:1,2\n' >"$folders/scrapped/model"
+    printf 'inv=1\nouter=1,1\ninner=1,1\n' >"$folders/scrapped/weights"
+    printf 'run=1\n%s%s' \
+        $'fire=1\ntake=1\ntoken=1:1,1\ngive=3\ntoken=2:\ntoken=2:\ntoken=2:\n' \
+        $'fire=1\ntake=1\ntoken=1:1,2\ngive=3\ntoken=2:\ntoken=2:\ntoken=2:\n' >"$folders/scrapped/trace"
 }

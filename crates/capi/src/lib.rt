@@ -81,7 +81,7 @@ pub struct Shared {
 pub fn fp_version() -> usize
     ensures { result ≡ version }
 {
-    20000
+    30000
 }
 
 pub fn fp_read_model(text: &[u8]) -> ModelRead

@@ -8,8 +8,8 @@ use lib.Dec.{T, eqb, eqb→eq}
 use lib.ListN.{length, get_or}
 use Rattle.eos.specs.Vector.{◌⊕◌, ◌⊖◌, unit}
 use Rattle.eos.specs.Multiset as M
-use Rattle.eos.specs.Model.{NetToken, Marking, like, Model, event, places, net, type_of}
-use Rattle.eos.specs.Firing.{outer, inner, pre, post, outer_of, inner_of, Step, fires}
+use Rattle.eos.specs.Model.{NetToken, Marking, like, Event, Model, event, places, net, type_of}
+use Rattle.eos.specs.Firing.{outer, inner, pre, post, outer_of, inner_of, Enabled, Step, fires}
 use Rattle.eos.specs.Leaving.{HasToken, Loses, LeaveEmpty}
 use Rattle.eos.proofs.Basics.{true_is, false_is, eqb_of}
 use Rattle.eos.proofs.MultisetLaws.{bit_self}
@@ -56,26 +56,30 @@ inside_none m n (u ∷ μ) h i =
     go true e r = absurd (h (u, omega (arith, bit_self like alike u), eqb→eq (type_of m u.place) (suc n) (true_is e)))
     go false e r = r
 
--- ---- 02, K2: a step that fires, of an event that takes net-tokens of net n and gives none, takes them empty but for what its own pre takes
+-- ---- 02, K2
 
-pub leaves_empty : (m : Model) (s : Step) (μ : Marking) (n : ℕ) → n < length m.nets → Loses m (event m s.event) n → T (fires m s μ)
-    → LeaveEmpty m (event m s.event) s.taken s.given n
+-- an event that takes net-tokens of net n and gives none takes them empty but for what its own pre takes
+pub leaves_empty : (m : Model) (e : Event) (taken given : Marking) (n : ℕ) → n < length m.nets → Loses m e n → Enabled m e taken given
+    → LeaveEmpty m e taken given n
 unfolding outer_of
-leaves_empty m s μ n known loses fired =
-    let e = event m s.event in
-    let rule = (fires_yes m s μ fired).0 in
-    let taken = inner m n s.taken in
+leaves_empty m e taken given n known loses rule =
     let asked = inner_of pre m e n in
     let returned = inner_of post m e n in
-    let some = token_at m loses.taking.0 s.taken (rw (← rule.outer-taken) at loses.taking.2) in
-    let none : HasToken m n s.given → ⊥ = λ t. loses.giving (t.0.place, t.2, rw rule.outer-given at (at_place m t.0 s.given t.1)) in
-    let left : (i : ℕ) → get_or taken i 0 - get_or asked i 0 + get_or returned i 0 ≡ 0 =
+    let some = token_at m loses.taking.0 taken (rw (← rule.outer-taken) at loses.taking.2) in
+    let none : HasToken m n given → ⊥ = λ t. loses.giving (t.0.place, t.2, rw rule.outer-given at (at_place m t.0 given t.1)) in
+    let left : (i : ℕ) → get_or (inner m n taken) i 0 - get_or asked i 0 + get_or returned i 0 ≡ 0 =
     λ i.
-        sym (ap (λ v. get_or v i 0) (rule.inner-given n known) ∙ get_d-⊕ (taken ⊖ asked) returned i ∙ ap (λ k. k + get_or returned i 0) (get_d-⊖ taken asked i))
-        ∙ inside_none m n s.given none i in
+    sym (ap (λ v. get_or v i 0) (rule.inner-given n known) ∙ get_d-⊕ (inner m n taken ⊖ asked) returned i
+    ∙ ap (λ k. k + get_or returned i 0) (get_d-⊖ (inner m n taken) asked i))
+    ∙ inside_none m n given none i in
     record {
       some = (some.0, some.1, ap (type_of m) some.2 ∙ loses.taking.1);
       none = none;
       emptied = λ i. omega (arith, left i, rule.inner-taken n known i);
       nothing = λ i. omega (arith, left i);
     }
+
+-- so does a step that fires
+pub step_leaves_empty : (m : Model) (s : Step) (μ : Marking) (n : ℕ) → n < length m.nets → Loses m (event m s.event) n → T (fires m s μ)
+    → LeaveEmpty m (event m s.event) s.taken s.given n
+step_leaves_empty m s μ n known loses fired = leaves_empty m (event m s.event) s.taken s.given n known loses (fires_yes m s μ fired).0

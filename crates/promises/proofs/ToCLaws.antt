@@ -1,5 +1,5 @@
 -- What is promised, at the numbers that a caller from C gets.
-use Prim.Native.Nat.{ℕ, ◌+◌, ◌≤◌}
+use Prim.Native.Nat.{ℕ, ◌+◌, ◌≤◌, ◌<◌}
 use mathlib.Core.Path.{◌≡◌, refl, ap, ap₂, sym, ◌∙◌}
 use mathlib.Core.Logic.{◌↔◌}
 use mathlib.Core.Bool.{Bool, true, false, cond, false≢true}
@@ -15,6 +15,7 @@ use Rattle.keeper.specs.Split.{above, below}
 use Rattle.text.proofs.Unique.{was_printed}
 use Rattle.eos.specs.Model as eos
 use Rattle.eos.specs.Firing.{after}
+use Rattle.eos.specs.Leaving.{Loses, LeaveEmpty}
 use Rattle.eos.specs.Weights.{Weights, weigh, Passing}
 use Rattle.model.specs.Limits.{longest, cover_limit}
 use Rattle.model.specs.Held.{hold_model, model_of}
@@ -44,6 +45,7 @@ use Rattle.keeper.specs.Covering.{Covering}
 use Rattle.keeper.proofs.WeightsExactly.{weights_exactly, sum_exactly, cover_exactly}
 use Rattle.spread.specs.Call.{spread_call}
 use Rattle.listing.specs.Listing.{listing_text}
+use Rattle.eos.proofs.LeavingLaws.{leaves_empty}
 use Rattle.capi.specs.Calls.{model_read, marking_read, written_to_c, weights_checked, step_done, run_done, shared}
 use Rattle.capi.specs.declared.ModelRead.{ModelRead}
 use Rattle.capi.specs.declared.Weighed.{Weighed}
@@ -156,6 +158,14 @@ fired_to_c m k s next w b =
     let p = x.always b in
     let q = x.after_it b in
     λ i. step_done (record { answer = p i; marking = q i })
+
+-- the racks of a net of which the step gives none have left empty but for what its own event takes
+pub leaving_to_c : (m : Model) (k : Marking) (s : Text) → (step_done (stepping m k s)).number ≡ 0 → (next : ℕ) × (b : Brings m k s next)
+    × ((n : ℕ) → let e = eos.event (model_of m) b.step.event in
+    n < length (model_of m).nets → Loses (model_of m) e n → LeaveEmpty (model_of m) e b.step.taken b.step.given n)
+leaving_to_c m k s z =
+    let (w, next, b) = (step_to_c m k s).0 z in
+    (next, b, λ n known loses. leaves_empty (model_of m) (eos.event (model_of m) b.step.event) b.step.taken b.step.given n known loses b.enabled)
 
 -- ---- weights
 
