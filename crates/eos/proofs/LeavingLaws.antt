@@ -79,6 +79,11 @@ leaves_empty m e taken given n known loses rule =
       nothing = λ i. omega (arith, left i);
     }
 
+-- 004, the emptiness constraint: where it counts no transition that takes of the net, those taken have nothing inside, Π²_N(λ) = 0
+pub leaves_unmarked : (m : Model) (e : Event) (taken given : Marking) (n : ℕ) → n < length m.nets → Loses m e n → Enabled m e taken given
+    → ((i : ℕ) → get_or (inner_of pre m e n) i 0 ≡ 0) → (i : ℕ) → get_or (inner m n taken) i 0 ≡ 0
+leaves_unmarked m e taken given n known loses rule nothing i = (leaves_empty m e taken given n known loses rule).emptied i ∙ nothing i
+
 -- so does a step that fires
 pub step_leaves_empty : (m : Model) (s : Step) (μ : Marking) (n : ℕ) → n < length m.nets → Loses m (event m s.event) n → T (fires m s μ)
     → LeaveEmpty m (event m s.event) s.taken s.given n

@@ -1,4 +1,5 @@
--- Net-tokens that leave the system: an event takes some of a net and gives none (02, K2; 004 treats such moves as ordinary).
+-- Net-tokens that leave the system: an event takes some of a net and gives none (02, K2). 000 forbids such moves by its typing; in 004 they are
+-- ordinary, and what they ask is its emptiness constraint (section 7).
 use Rattle.std.specs.Prelude.{◌≡◌, ◌≤◌, ◌<◌, ℕ, suc, List, get_or}
 use Rattle.eos.specs.Multiset as M
 use Rattle.eos.specs.Model.{NetToken, Marking, like, Event, Model, type_of}
@@ -12,7 +13,7 @@ HasPlace m n side = (p : ℕ) × (type_of m p ≡ suc n) × (0 < get_or side p 0
 abbrev pub HasToken : Model → ℕ → Marking → Type 0
 HasToken m n μ = (t : NetToken) × (1 ≤ M.count like t μ) × (type_of m t.place ≡ suc n)
 
--- pre(τ̂) has a place of net n, and post(τ̂) has none
+-- pre(τ̂) has a place of net n, and post(τ̂) has none: N ∈ d(•τ̂) and N ∉ d(τ̂•)
 pub record Loses (m : Model) (e : Event) (n : ℕ) : Type 0 where
   pub taking : HasPlace m n (outer_of pre m e)
   pub giving : HasPlace m n (outer_of post m e) → ⊥

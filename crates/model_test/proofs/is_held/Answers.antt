@@ -1,17 +1,14 @@
 -- `is_held` is `held_model`: the counts first, then types, moves, nets and events.
-use Prim.Native.Nat.{◌≤◌}
 use mathlib.Core.Path.{sym, ◌∙◌}
 use Rattle.model.specs.Test.{held_types, held_nets, held_model}
 use Rattle.model.proofs.HeldTestLoops.{and_no, and_yes, few-counts, events_are}
 use Rattle.model_test.proofs.is_held.Goals as goal
 use Rattle.model_test.proofs.is_held.Goals.{Else-not-counts_held}
 
--- the counts are in range
-ranges : (c : Else-not-counts_held) → let m = c.args.m.now in (m.nets ≤ 8) × (m.places ≤ 32) × (m.moves ≤ 32)
-ranges c = let m = c.args.m.now in few-counts m.nets m.places m.moves m.listed (sym c.counts_held.ensures ∙ c.if-not-counts_held.false)
-
 pub moves_held-requires : goal.moves_held-requires
-moves_held-requires c = (ranges (goal.at.moves_held-requires c).Else-not-counts_held).2
+moves_held-requires c =
+    let m = c.args.m.now in
+    (few-counts m.nets m.places m.moves m.listed (sym c.counts_held.ensures ∙ c.if-not-counts_held.false)).2
 
 pub returns-then-nets_held : goal.returns-then-nets_held
 unfolding held_model held_types held_nets
