@@ -42,8 +42,9 @@ static const char *words(size_t number) {
     }
 }
 
-/* Says a refusal in words. `before` is how many lines of the file stand before the one that the engine counts as the first. */
-static bool accepted(const char *name, size_t number, size_t beside, size_t before) {
+/* Says a refusal in words. `before` is how many lines of the file stand before the one that the engine counts as the first; the column is
+ * counted in the line itself. */
+static bool accepted(const char *name, size_t number, size_t beside, size_t column, size_t before) {
     if (number == FP_ACCEPTED)
         return true;
     fprintf(stderr, "planner: %s: %s", name, words(number));
@@ -53,6 +54,8 @@ static bool accepted(const char *name, size_t number, size_t beside, size_t befo
         fprintf(stderr, ", net %zu\n", beside);
     else if (number == FP_BUFFER)
         fprintf(stderr, ", %zu bytes are needed\n", beside);
+    else if (column > 0)
+        fprintf(stderr, ", line %zu, column %zu\n", before + beside, column);
     else if (beside > 0)
         fprintf(stderr, ", line %zu\n", before + beside);
     else
@@ -76,19 +79,19 @@ static void load(const char *folder, const char *name, text *t) {
 }
 
 static bool read_plant(void) {
-    fp_read_at r = {FP_TOO_LONG, 0};
+    fp_read_at r = {FP_TOO_LONG, 0, 0};
     if (model_text.len <= FP_FILE)
         r = fp_read_model_at(model_text.bytes, model_text.len, &model, &marking);
-    printf("model=%zu,%zu\n", r.number, r.beside);
-    return accepted("model", r.number, r.beside, 0);
+    printf("model=%zu,%zu,%zu\n", r.number, r.beside, r.column);
+    return accepted("model", r.number, r.beside, r.column, 0);
 }
 
 static bool check_weights(void) {
-    fp_weighed w = {FP_TOO_LONG, 0, 0, 0, 0};
+    fp_weighed w = {FP_TOO_LONG, 0, 0, 0, 0, 0};
     if (weights_text.len <= FP_FILE)
         w = fp_check_weights_at(&model, &marking, weights_text.bytes, weights_text.len);
-    printf("weights=%zu,%zu\n", w.number, w.beside);
-    if (!accepted("weights", w.number, w.beside, 0))
+    printf("weights=%zu,%zu,%zu\n", w.number, w.beside, w.column);
+    if (!accepted("weights", w.number, w.beside, w.column, 0))
         return false;
     printf("sum=%s%llu\ncover=%zu\n", w.below ? "-" : "", (unsigned long long)(w.above + w.below), w.cover);
     return true;
@@ -96,16 +99,16 @@ static bool check_weights(void) {
 
 /* Runs the trace. The lines of a step are counted from its own first; the byte where the run stopped says how many stand before it. */
 static bool run_trace(void) {
-    fp_ran_at r = {FP_TOO_LONG, 0, 0, 0};
+    fp_ran_at r = {FP_TOO_LONG, 0, 0, 0, 0};
     if (trace_text.len <= FP_FILE)
         r = fp_run_at(&model, &marking, trace_text.bytes, trace_text.len);
-    printf("fired=%zu\nstop=%zu,%zu\n", r.fired, r.number, r.beside);
+    printf("fired=%zu\nstop=%zu,%zu,%zu\n", r.fired, r.number, r.beside, r.column);
     size_t before = 0;
     for (size_t i = 0; i < r.at; i++)
         before += trace_text.bytes[i] == '\n';
     if (r.number != FP_ACCEPTED && r.at > 0)
         fprintf(stderr, "planner: trace: step %zu, which begins at line %zu, is turned down\n", r.fired + 1, before + 1);
-    return accepted("trace", r.number, r.beside, before);
+    return accepted("trace", r.number, r.beside, r.column, before);
 }
 
 /* Writes the racks: the marking's text, its first key `start` replaced by rackrun's. */
@@ -113,7 +116,7 @@ static bool write_racks(void) {
     static uint8_t out[FP_MARKING_TEXT];
     const size_t key = strlen("start=");
     fp_written w = fp_write_marking_at(&model, &marking, out, sizeof out);
-    if (!accepted("racks", w.number, w.beside, 0))
+    if (!accepted("racks", w.number, w.beside, w.column, 0))
         return false;
     printf("held=");
     fwrite(out + key, 1, w.bytes - key, stdout);

@@ -37,13 +37,17 @@
 extern "C" {
 #endif
 
-/* The version of this header, here 3.0.0: 10,000 times its first number, 100 times its second, and its third. The first is raised when what
+/* The version of this header, here 4.0.0: 10,000 times its first number, 100 times its second, and its third. The first is raised when what
  * is here changes, so that a caller has to be compiled anew; the second when something is added; the third for all else. */
-#define FP_VERSION 30000
+#define FP_VERSION 40000
 
 /* ==== What is answered: a number, and what stands beside it. The first cause in the stated order is answered: FP_TOO_LONG, FP_NOT_HELD,
  * then those of the lines in turn, then the others in the order of their numbers. Lines are counted from 1, those of a step from its own
- * `fire` line. 4 is not answered. */
+ * `fire` line. 4 is not answered.
+ *
+ * column is the byte of the line, counted from 1, at which a text is refused with FP_SYNTAX or FP_RANGE; 0 beside all else. Of FP_SYNTAX it
+ * is the first byte where no right line could go on, at an early end the one after the last, and 1 where the line is missing or one too
+ * many; of FP_RANGE the first digit or sign of the first number out of range. */
 #define FP_ACCEPTED 0        /* accepted, passed, fired, written; beside it 0 */
 #define FP_TOO_LONG 1        /* text over FP_TEXT bytes; 0 */
 #define FP_SYNTAX 2          /* key, syntax, list length, missing or unended line, bytes after the last line; the line */
@@ -124,12 +128,14 @@ typedef struct fp_marking {
 typedef struct fp_read_at {
     size_t number;
     size_t beside;
+    size_t column;
 } fp_read_at;
 
 /* A text written: how many bytes; 0 where it was refused. */
 typedef struct fp_written {
     size_t number;
     size_t beside;
+    size_t column;
     size_t bytes;
 } fp_written;
 
@@ -149,6 +155,7 @@ size_t fp_version(void);
 typedef struct fp_read_model_answer {
     size_t number;
     size_t beside;
+    size_t column;
     fp_model model;
     fp_marking start;
 } fp_read_model_answer;
@@ -157,7 +164,7 @@ fp_read_model_answer fp_read_model(const uint8_t *text, size_t len);
 
 static inline fp_read_at fp_read_model_at(const uint8_t *text, size_t len, fp_model *model, fp_marking *start) {
     fp_read_model_answer r = fp_read_model(text, len);
-    fp_read_at a = {r.number, r.beside};
+    fp_read_at a = {r.number, r.beside, r.column};
     if (r.number == FP_ACCEPTED) {
         *model = r.model;
         *start = r.start;
@@ -171,6 +178,7 @@ static inline fp_read_at fp_read_model_at(const uint8_t *text, size_t len, fp_mo
 typedef struct fp_read_marking_answer {
     size_t number;
     size_t beside;
+    size_t column;
     fp_marking marking;
 } fp_read_marking_answer;
 
@@ -178,7 +186,7 @@ fp_read_marking_answer fp_read_marking(fp_model model, const uint8_t *text, size
 
 static inline fp_read_at fp_read_marking_at(const fp_model *model, const uint8_t *text, size_t len, fp_marking *marking) {
     fp_read_marking_answer r = fp_read_marking(*model, text, len);
-    fp_read_at a = {r.number, r.beside};
+    fp_read_at a = {r.number, r.beside, r.column};
     if (r.number == FP_ACCEPTED)
         *marking = r.marking;
     return a;
@@ -218,6 +226,7 @@ static inline fp_written fp_write_marking_at(const fp_model *model, const fp_mar
 typedef struct fp_stepped {
     size_t number;
     size_t beside;
+    size_t column;
     size_t used;
     fp_marking marking;
 } fp_stepped;
@@ -227,12 +236,13 @@ fp_stepped fp_step(fp_model model, fp_marking marking, const uint8_t *text, size
 typedef struct fp_stepped_at {
     size_t number;
     size_t beside;
+    size_t column;
     size_t used;
 } fp_stepped_at;
 
 static inline fp_stepped_at fp_step_at(const fp_model *model, fp_marking *marking, const uint8_t *text, size_t len) {
     fp_stepped r = fp_step(*model, *marking, text, len);
-    fp_stepped_at a = {r.number, r.beside, r.used};
+    fp_stepped_at a = {r.number, r.beside, r.column, r.used};
     *marking = r.marking;
     return a;
 }
@@ -245,6 +255,7 @@ static inline fp_stepped_at fp_step_at(const fp_model *model, fp_marking *markin
 typedef struct fp_ran {
     size_t number;
     size_t beside;
+    size_t column;
     size_t fired;
     size_t at;
     fp_marking marking;
@@ -255,13 +266,14 @@ fp_ran fp_run(fp_model model, fp_marking marking, const uint8_t *text, size_t le
 typedef struct fp_ran_at {
     size_t number;
     size_t beside;
+    size_t column;
     size_t fired;
     size_t at;
 } fp_ran_at;
 
 static inline fp_ran_at fp_run_at(const fp_model *model, fp_marking *marking, const uint8_t *text, size_t len) {
     fp_ran r = fp_run(*model, *marking, text, len);
-    fp_ran_at a = {r.number, r.beside, r.fired, r.at};
+    fp_ran_at a = {r.number, r.beside, r.column, r.fired, r.at};
     *marking = r.marking;
     return a;
 }
@@ -271,6 +283,7 @@ static inline fp_ran_at fp_run_at(const fp_model *model, fp_marking *marking, co
 typedef struct fp_spread {
     size_t number;
     size_t beside;
+    size_t column;
     uint64_t ways;
 } fp_spread;
 
@@ -285,6 +298,7 @@ fp_spread fp_ways(size_t tokens, size_t racks);
 typedef struct fp_weighed {
     size_t number;
     size_t beside;
+    size_t column;
     uint64_t above;
     uint64_t below;
     size_t cover;

@@ -28,6 +28,12 @@ make_folders() {
     printf 'inv=1\nouter=1,0\ninner=1,1\n' >"$folders/turned/weights"
     folder below model trace
     printf 'inv=1\nouter=-1,-1\ninner=-1,-1\n' >"$folders/below/weights"
+    folder listed model
+    sed -i 's/^type=1,1$/type=1,1,1/' "$folders/listed/model"
+    folder outweighed model
+    printf 'inv=1\nouter=1,1\ninner=1,-1001\n' >"$folders/outweighed/weights"
+    folder overdone model weights trace
+    sed -i 's/^token=2:0,0$/token=2:0,65536/' "$folders/overdone/trace"
     folder whole model weights trace
     folder scrapped
     printf 'eos=1\nnets=1\nplaces=2\ntype=1,0\nmoves=1\npre=1,0\npost=0,3\ninner=2\nsteps=1\npre=1,1\npost=0,0\nevents=1\nevent=1\nsync=1\nstart=2\ntoken=1:1,1\ntoken=1:1,2\n' >"$folders/scrapped/model"

@@ -1,5 +1,5 @@
-/* The forms in _at give what their calls give, on a folder's plant and where the call refuses; a refusal leaves what the pointers say. And
- * the longest text of a marking has as many bytes as the header says, and its listing no more. */
+/* The forms in _at give what their calls give, on a folder's plant and where the call refuses; a refusal leaves what the pointers say, and has
+ * a column where its number has one. And the longest text of a marking has as many bytes as the header says, and its listing no more. */
 #include "files.h"
 
 #include <string.h>
@@ -15,6 +15,11 @@ static void holds(bool so, const char *what) {
 
 #define SAME(a, b) (memcmp(&(a), &(b), sizeof(a)) == 0)
 
+/* A column stands beside FP_SYNTAX and FP_RANGE, and 0 beside all else. */
+static void column(size_t number, size_t column) {
+    holds((column > 0) == (number == FP_SYNTAX || number == FP_RANGE), "a column");
+}
+
 static uint8_t model_text[FP_FILE], weights_text[FP_FILE], trace_text[FP_FILE], out[FP_FILE], out_at[FP_FILE];
 static fp_model model, model_at;
 static fp_marking marking, marking_at, before;
@@ -29,7 +34,8 @@ static void models(const uint8_t *text, size_t len) {
     model_at = model;
     marking_at = marking;
     fp_read_at a = fp_read_model_at(text, len, &model_at, &marking_at);
-    holds(a.number == read_model.number && a.beside == read_model.beside, "fp_read_model_at: answer");
+    holds(a.number == read_model.number && a.beside == read_model.beside && a.column == read_model.column, "fp_read_model_at: answer");
+    column(a.number, a.column);
     bool read = a.number == FP_ACCEPTED;
     holds(SAME(model_at, *(read ? &read_model.model : &model)), "fp_read_model_at: model");
     holds(SAME(marking_at, *(read ? &read_model.start : &marking)), "fp_read_model_at: start");
@@ -39,7 +45,9 @@ static void markings(const uint8_t *text, size_t len) {
     read_marking = fp_read_marking(model, text, len);
     marking_at = marking;
     fp_read_at a = fp_read_marking_at(&model, text, len, &marking_at);
-    holds(a.number == read_marking.number && a.beside == read_marking.beside, "fp_read_marking_at: answer");
+    holds(a.number == read_marking.number && a.beside == read_marking.beside && a.column == read_marking.column,
+          "fp_read_marking_at: answer");
+    column(a.number, a.column);
     holds(SAME(marking_at, *(a.number == FP_ACCEPTED ? &read_marking.marking : &marking)), "fp_read_marking_at: marking");
 }
 
@@ -47,17 +55,22 @@ static void texts(const uint8_t *weights, size_t weights_len, const uint8_t *tra
     fp_weighed w = fp_check_weights(model, marking, weights, weights_len);
     fp_weighed w_at = fp_check_weights_at(&model, &marking, weights, weights_len);
     holds(SAME(w, w_at), "fp_check_weights_at");
+    column(w.number, w.column);
     size_t head = trace_len < 6 ? trace_len : 6;
     stepped = fp_step(model, marking, trace + head, trace_len - head);
     marking_at = marking;
     fp_stepped_at s = fp_step_at(&model, &marking_at, trace + head, trace_len - head);
-    holds(s.number == stepped.number && s.beside == stepped.beside && s.used == stepped.used, "fp_step_at: answer");
+    holds(s.number == stepped.number && s.beside == stepped.beside && s.column == stepped.column && s.used == stepped.used,
+          "fp_step_at: answer");
+    column(s.number, s.column);
     holds(SAME(marking_at, stepped.marking), "fp_step_at: marking");
     holds(s.number == FP_ACCEPTED || SAME(marking_at, marking), "fp_step_at: refused");
     ran = fp_run(model, marking, trace, trace_len);
     marking_at = marking;
     fp_ran_at r = fp_run_at(&model, &marking_at, trace, trace_len);
-    holds(r.number == ran.number && r.beside == ran.beside && r.fired == ran.fired && r.at == ran.at, "fp_run_at: answer");
+    holds(r.number == ran.number && r.beside == ran.beside && r.column == ran.column && r.fired == ran.fired && r.at == ran.at,
+          "fp_run_at: answer");
+    column(r.number, r.column);
     holds(SAME(marking_at, ran.marking), "fp_run_at: marking");
 }
 
@@ -67,6 +80,7 @@ static void held(size_t room) {
     fp_written w = fp_write_marking(model, marking, out, room);
     fp_written w_at = fp_write_marking_at(&model, &marking, out_at, room);
     holds(SAME(w, w_at) && SAME(out, out_at), "fp_write_marking_at");
+    column(w.number, w.column);
     holds(fp_test_model_at(&model) == fp_test_model(model), "fp_test_model_at");
     holds(fp_test_marking_at(&model, &marking) == fp_test_marking(model, marking), "fp_test_marking_at");
 }

@@ -8,18 +8,19 @@
 /* No struct has padding: it is as long as its fields. */
 #define OF(t, f) sizeof(((t *)0)->f)
 #define PAIR (2 * sizeof(size_t))
+#define ANSWER (3 * sizeof(size_t))
 _Static_assert(sizeof(fp_object_net) == PAIR + OF(fp_object_net, pre) + OF(fp_object_net, post), "fp_object_net");
 _Static_assert(sizeof(fp_event) == 2 + OF(fp_event, sync), "fp_event");
 _Static_assert(sizeof(fp_model) == 2 * PAIR + OF(fp_model, types) + OF(fp_model, pre) + OF(fp_model, post)
                                        + OF(fp_model, objects) + OF(fp_model, events), "fp_model");
 _Static_assert(sizeof(fp_marking) == sizeof(size_t) + OF(fp_marking, rows), "fp_marking");
-_Static_assert(sizeof(fp_read_model_answer) == PAIR + sizeof(fp_model) + sizeof(fp_marking), "fp_read_model_answer");
-_Static_assert(sizeof(fp_read_marking_answer) == PAIR + sizeof(fp_marking), "fp_read_marking_answer");
-_Static_assert(sizeof(fp_written) == PAIR + sizeof(size_t), "fp_written");
-_Static_assert(sizeof(fp_weighed) == PAIR + 2 * sizeof(uint64_t) + sizeof(size_t), "fp_weighed");
-_Static_assert(sizeof(fp_stepped) == PAIR + sizeof(size_t) + sizeof(fp_marking), "fp_stepped");
-_Static_assert(sizeof(fp_ran) == 2 * PAIR + sizeof(fp_marking), "fp_ran");
-_Static_assert(sizeof(fp_spread) == PAIR + sizeof(uint64_t), "fp_spread");
+_Static_assert(sizeof(fp_read_model_answer) == ANSWER + sizeof(fp_model) + sizeof(fp_marking), "fp_read_model_answer");
+_Static_assert(sizeof(fp_read_marking_answer) == ANSWER + sizeof(fp_marking), "fp_read_marking_answer");
+_Static_assert(sizeof(fp_written) == ANSWER + sizeof(size_t), "fp_written");
+_Static_assert(sizeof(fp_weighed) == ANSWER + 2 * sizeof(uint64_t) + sizeof(size_t), "fp_weighed");
+_Static_assert(sizeof(fp_stepped) == ANSWER + sizeof(size_t) + sizeof(fp_marking), "fp_stepped");
+_Static_assert(sizeof(fp_ran) == ANSWER + PAIR + sizeof(fp_marking), "fp_ran");
+_Static_assert(sizeof(fp_spread) == ANSWER + sizeof(uint64_t), "fp_spread");
 
 static void structs(void) {
     SIZE(fp_object_net);
@@ -50,24 +51,31 @@ static void answers(void) {
     SIZE(fp_read_model_answer);
     FIELD(fp_read_model_answer, number);
     FIELD(fp_read_model_answer, beside);
+    FIELD(fp_read_model_answer, column);
     FIELD(fp_read_model_answer, model);
     FIELD(fp_read_model_answer, start);
     SIZE(fp_read_marking_answer);
+    FIELD(fp_read_marking_answer, column);
     FIELD(fp_read_marking_answer, marking);
     SIZE(fp_written);
+    FIELD(fp_written, column);
     FIELD(fp_written, bytes);
     SIZE(fp_weighed);
+    FIELD(fp_weighed, column);
     FIELD(fp_weighed, above);
     FIELD(fp_weighed, below);
     FIELD(fp_weighed, cover);
     SIZE(fp_stepped);
+    FIELD(fp_stepped, column);
     FIELD(fp_stepped, used);
     FIELD(fp_stepped, marking);
     SIZE(fp_ran);
+    FIELD(fp_ran, column);
     FIELD(fp_ran, fired);
     FIELD(fp_ran, at);
     FIELD(fp_ran, marking);
     SIZE(fp_spread);
+    FIELD(fp_spread, column);
     FIELD(fp_spread, ways);
 }
 
@@ -84,7 +92,7 @@ static void model(const char *folder) {
     static fp_read_model_answer r;
     r = fp_read_model(text, load(folder, "model", text));
     const fp_model *m = &r.model;
-    printf("read %zu %zu\n", r.number, r.beside);
+    printf("read %zu %zu %zu\n", r.number, r.beside, r.column);
     printf("model %zu %zu %zu %zu\n", m->nets, m->places, m->moves, m->listed);
     printf("types %zu pre %zu post %zu\n", mixed(m->types, 32), mixed(m->pre, 1024), mixed(m->post, 1024));
     for (size_t n = 0; n < 8; n++)

@@ -13,9 +13,9 @@ int main(int argc, char **argv) {
         return 1;
     fp_ran_at r = fp_run_at(&model, &marking, trace_text, trace_len);
     fp_stepped_at s = fp_step_at(&model, &marking, trace_text + r.at, trace_len - r.at);
-    if (s.number != r.number || s.beside != r.beside || fp_ways(2, 3).ways != 6)
+    if (s.number != r.number || s.beside != r.beside || s.column != r.column || fp_ways(2, 3).ways != 6)
         return 1;
     fp_written w = fp_write_marking_at(&model, &marking, out, sizeof out);
-    printf("fired=%zu\nstop=%zu,%zu\nheld=%.*s", r.fired, r.number, r.beside, (int)w.bytes - 6, (const char *)out + 6);
+    printf("fired=%zu\nstop=%zu,%zu,%zu\nheld=%.*s", r.fired, r.number, r.beside, r.column, (int)w.bytes - 6, (const char *)out + 6);
     return 0;
 }

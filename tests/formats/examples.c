@@ -183,37 +183,38 @@ static void read_model(void) {
     r = fp_read_model(lent.bytes, lent.len);
     model = r.model;
     marking = r.start;
-    printf("= %zu,%zu\n", r.number, r.beside);
+    printf("= %zu,%zu,%zu\n", r.number, r.beside, r.column);
 }
 
 static void read_marking(void) {
     static fp_read_marking_answer r;
     r = fp_read_marking(model, lent.bytes, lent.len);
     marking = r.marking;
-    printf("= %zu,%zu\n", r.number, r.beside);
+    printf("= %zu,%zu,%zu\n", r.number, r.beside, r.column);
 }
 
 static void check_weights(void) {
     fp_weighed w = fp_check_weights(model, marking, lent.bytes, lent.len);
-    printf("= %zu,%zu sum %s%llu cover %zu\n", w.number, w.beside, w.below ? "-" : "", (unsigned long long)(w.above + w.below), w.cover);
+    printf("= %zu,%zu,%zu sum %s%llu cover %zu\n", w.number, w.beside, w.column, w.below ? "-" : "",
+           (unsigned long long)(w.above + w.below), w.cover);
 }
 
 static void step(void) {
     static fp_stepped s;
     s = fp_step(model, marking, lent.bytes, lent.len);
     marking = s.marking;
-    printf("= %zu,%zu used %zu\n", s.number, s.beside, s.used);
+    printf("= %zu,%zu,%zu used %zu\n", s.number, s.beside, s.column, s.used);
 }
 
 static void run(void) {
     static fp_ran r;
     r = fp_run(model, marking, lent.bytes, lent.len);
     marking = r.marking;
-    printf("= %zu,%zu fired %zu at %zu\n", r.number, r.beside, r.fired, r.at);
+    printf("= %zu,%zu,%zu fired %zu at %zu\n", r.number, r.beside, r.column, r.fired, r.at);
 }
 
 static void written(fp_written w, size_t room) {
-    printf("= %zu,%zu bytes %zu\n", w.number, w.beside, w.bytes);
+    printf("= %zu,%zu,%zu bytes %zu\n", w.number, w.beside, w.column, w.bytes);
     show(w.bytes, room);
 }
 
@@ -222,7 +223,7 @@ static void ways(const char *said) {
     if (sscanf(said, "%zu %zu", &tokens, &racks) != 2)
         stop("no spread", said);
     fp_spread s = fp_ways(tokens, racks);
-    printf("= %zu,%zu ways %llu\n", s.number, s.beside, (unsigned long long)s.ways);
+    printf("= %zu,%zu,%zu ways %llu\n", s.number, s.beside, s.column, (unsigned long long)s.ways);
 }
 
 /* One call: its name, and what is said behind it; `lines` has the lines under it. */

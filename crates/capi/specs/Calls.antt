@@ -1,17 +1,17 @@
--- What the calls answer to C: the number of 01's table and what stands beside it in the place of a refusal, and what was given.
+-- What the calls answer to C: the number of 01's table, what stands beside it and the column in the place of a refusal, and what was given.
 use Rattle.std.specs.Prelude.{ℕ, cond, List, Result, Ok, Err}
 use Rattle.marking.specs.declared.Marking.{Marking}
-use Rattle.reader.specs.Answers.{read_pair, model_given, marking_given, write_pair, Answered}
+use Rattle.reader.specs.Answers.{read_triple, model_given, marking_given, write_triple, Answered}
 use Rattle.reader.specs.declared.ReadRefusal.{ReadRefusal}
 use Rattle.reader.specs.declared.WriteRefusal.{WriteRefusal}
 use Rattle.reader.specs.declared.ModelReading.{ModelReading}
-use Rattle.runner.specs.Answers.{Stepped, step_pair, used_by}
+use Rattle.runner.specs.Answers.{Stepped, step_triple, used_by}
 use Rattle.runner_trace.specs.Running.{Ran}
-use Rattle.keeper.specs.Answers.{weight_pair, check_given}
+use Rattle.keeper.specs.Answers.{weight_triple, check_given}
 use Rattle.keeper.specs.Split.{above, below}
 use Rattle.keeper.specs.declared.WeightRefusal.{WeightRefusal}
 use Rattle.keeper.specs.declared.WeightCheck.{WeightCheck}
-use Rattle.spread.specs.Call.{spread_pair, spread_value}
+use Rattle.spread.specs.Call.{spread_triple, spread_value}
 use Rattle.spread.specs.declared.Beyond.{Beyond}
 use Rattle.capi.specs.declared.ModelRead.{ModelRead}
 use Rattle.capi.specs.declared.MarkingRead.{MarkingRead}
@@ -21,16 +21,16 @@ use Rattle.capi.specs.declared.StepDone.{StepDone}
 use Rattle.capi.specs.declared.RunDone.{RunDone}
 use Rattle.capi.specs.declared.Shared.{Shared}
 
--- the version of the header and of the archive, here 3.0.0: 10,000 times its first number, 100 times its second, and its third
+-- the version of the header and of the archive, here 4.0.0: 10,000 times its first number, 100 times its second, and its third
 abbrev pub version : ℕ
-version = 30000
+version = 40000
 
 -- refused, the empty model and no net-token
 abbrev pub model_read : Result ModelReading ReadRefusal → ModelRead
-model_read r = record { number = (read_pair r).number; beside = (read_pair r).beside; model = (model_given r).model; start = (model_given r).start }
+model_read r = record { number = (read_triple r).number; beside = (read_triple r).beside; column = (read_triple r).column; model = (model_given r).model; start = (model_given r).start }
 
 abbrev pub marking_read : Result Marking ReadRefusal → MarkingRead
-marking_read r = record { number = (read_pair r).number; beside = (read_pair r).beside; marking = marking_given r }
+marking_read r = record { number = (read_triple r).number; beside = (read_triple r).beside; column = (read_triple r).column; marking = marking_given r }
 
 -- the bytes written; a refused writing wrote none
 abbrev pub bytes_of : Result ℕ WriteRefusal → ℕ
@@ -38,7 +38,7 @@ bytes_of (Ok n) = n
 bytes_of (Err e) = 0
 
 abbrev pub text_written : Result ℕ WriteRefusal → TextWritten
-text_written a = record { number = (write_pair a).number; beside = (write_pair a).beside; bytes = bytes_of a }
+text_written a = record { number = (write_triple a).number; beside = (write_triple a).beside; column = (write_triple a).column; bytes = bytes_of a }
 
 -- what a writer answers to C, and the lent bytes after it
 pub record AnsweredToC : Type 0 where
@@ -51,18 +51,19 @@ written_to_c l = record { answer = text_written l.answer; bytes = l.bytes }
 -- the sum by its part above 0 and its part below 0; refused, sum 0 and cover 0
 abbrev pub weights_checked : Result WeightCheck WeightRefusal → Weighed
 weights_checked c = record {
-  number = (weight_pair c).number;
-  beside = (weight_pair c).beside;
+  number = (weight_triple c).number;
+  beside = (weight_triple c).beside;
+  column = (weight_triple c).column;
   above = above (check_given c).sum;
   below = below (check_given c).sum;
   cover = cond (check_given c).cover 1 0;
 }
 
 abbrev pub step_done : Stepped → StepDone
-step_done r = record { number = (step_pair r.answer).number; beside = (step_pair r.answer).beside; used = used_by r.answer; marking = r.marking }
+step_done r = record { number = (step_triple r.answer).number; beside = (step_triple r.answer).beside; column = (step_triple r.answer).column; used = used_by r.answer; marking = r.marking }
 
 abbrev pub run_done : Ran → RunDone
-run_done r = record { number = (step_pair r.stop).number; beside = (step_pair r.stop).beside; fired = r.fired; at = r.at; marking = r.marking }
+run_done r = record { number = (step_triple r.stop).number; beside = (step_triple r.stop).beside; column = (step_triple r.stop).column; fired = r.fired; at = r.at; marking = r.marking }
 
 abbrev pub shared : Result ℕ Beyond → Shared
-shared a = record { number = (spread_pair a).number; beside = (spread_pair a).beside; ways = spread_value a }
+shared a = record { number = (spread_triple a).number; beside = (spread_triple a).beside; column = (spread_triple a).column; ways = spread_value a }

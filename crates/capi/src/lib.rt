@@ -14,13 +14,14 @@ ghost use Rattle.listing.specs.Listing.{listing_text};
 ghost use Rattle.capi.specs.Calls.{model_read, marking_read, text_written, written_to_c, weights_checked, step_done, run_done, shared, version};
 
 use engine::{Marking, Model, ModelReading, WeightCheck, WriteRefusal};
-use pairs::Pair;
+use triples::Triple;
 
 #[repr(C)]
 #[derive(Clone, Copy)]
 pub struct ModelRead {
     pub number: usize,
     pub beside: usize,
+    pub column: usize,
     pub model: Model,
     pub start: Marking,
 }
@@ -30,6 +31,7 @@ pub struct ModelRead {
 pub struct MarkingRead {
     pub number: usize,
     pub beside: usize,
+    pub column: usize,
     pub marking: Marking,
 }
 
@@ -38,6 +40,7 @@ pub struct MarkingRead {
 pub struct TextWritten {
     pub number: usize,
     pub beside: usize,
+    pub column: usize,
     pub bytes: usize,
 }
 
@@ -46,6 +49,7 @@ pub struct TextWritten {
 pub struct Weighed {
     pub number: usize,
     pub beside: usize,
+    pub column: usize,
     pub above: u64,
     pub below: u64,
     pub cover: usize,
@@ -56,6 +60,7 @@ pub struct Weighed {
 pub struct StepDone {
     pub number: usize,
     pub beside: usize,
+    pub column: usize,
     pub used: usize,
     pub marking: Marking,
 }
@@ -65,6 +70,7 @@ pub struct StepDone {
 pub struct RunDone {
     pub number: usize,
     pub beside: usize,
+    pub column: usize,
     pub fired: usize,
     pub at: usize,
     pub marking: Marking,
@@ -75,31 +81,33 @@ pub struct RunDone {
 pub struct Shared {
     pub number: usize,
     pub beside: usize,
+    pub column: usize,
     pub ways: u64,
 }
 
 pub fn fp_version() -> usize
     ensures { result ≡ version }
 {
-    30000
+    40000
 }
 
 pub fn fp_read_model(text: &[u8]) -> ModelRead
     ensures { result ≡ model_read (model_reading text.now) }
 {
     match engine::read_model(text) {
-        Ok(ModelReading { model, start }) => model_read(Pair::accepted(), model, start),
-        Err(refusal) => model_read(Pair::from(refusal), Model::empty(), Marking::empty()),
+        Ok(ModelReading { model, start }) => model_read(Triple::accepted(), model, start),
+        Err(refusal) => model_read(Triple::from(refusal), Model::empty(), Marking::empty()),
     }
 }
 
-// A model and its start, beside their pair.
-fn model_read(pair: Pair, model: Model, start: Marking) -> ModelRead
-    ensures { result ≡ record { number = pair.number; beside = pair.beside; model = model; start = start } }
+// A model and its start, beside their triple.
+fn model_read(triple: Triple, model: Model, start: Marking) -> ModelRead
+    ensures { result ≡ record { number = triple.number; beside = triple.beside; column = triple.column; model = model; start = start } }
 {
     ModelRead {
-        number: usize::from(pair.number),
-        beside: pair.beside,
+        number: usize::from(triple.number),
+        beside: triple.beside,
+        column: triple.column,
         model,
         start,
     }
@@ -109,18 +117,19 @@ pub fn fp_read_marking(model: Model, text: &[u8]) -> MarkingRead
     ensures { result ≡ marking_read (marking_reading model text.now) }
 {
     match engine::read_marking(&model, text) {
-        Ok(marking) => marking_read(Pair::accepted(), marking),
-        Err(refusal) => marking_read(Pair::from(refusal), Marking::empty()),
+        Ok(marking) => marking_read(Triple::accepted(), marking),
+        Err(refusal) => marking_read(Triple::from(refusal), Marking::empty()),
     }
 }
 
-// A marking beside its pair.
-fn marking_read(pair: Pair, marking: Marking) -> MarkingRead
-    ensures { result ≡ record { number = pair.number; beside = pair.beside; marking = marking } }
+// A marking beside its triple.
+fn marking_read(triple: Triple, marking: Marking) -> MarkingRead
+    ensures { result ≡ record { number = triple.number; beside = triple.beside; column = triple.column; marking = marking } }
 {
     MarkingRead {
-        number: usize::from(pair.number),
-        beside: pair.beside,
+        number: usize::from(triple.number),
+        beside: triple.beside,
+        column: triple.column,
         marking,
     }
 }
@@ -141,10 +150,11 @@ pub fn fp_test_marking(model: Model, marking: Marking) -> bool
 fn text_written(answer: Result<usize, WriteRefusal>) -> TextWritten
     ensures { result ≡ text_written answer }
 {
-    let pair = Pair::from(answer);
+    let triple = Triple::from(answer);
     TextWritten {
-        number: usize::from(pair.number),
-        beside: pair.beside,
+        number: usize::from(triple.number),
+        beside: triple.beside,
+        column: triple.column,
         bytes: answer.unwrap_or(0),
     }
 }
@@ -166,12 +176,13 @@ pub fn fp_check_weights(model: Model, marking: Marking, text: &[u8]) -> Weighed
     ensures { result ≡ weights_checked (weight_checking model marking text.now) }
 {
     let check = engine::check_weights(model, marking, text);
-    let pair = Pair::from(check);
+    let triple = Triple::from(check);
     let WeightCheck { sum, cover } = check.unwrap_or(WeightCheck::nothing());
     let (above, below) = parts(sum);
     Weighed {
-        number: usize::from(pair.number),
-        beside: pair.beside,
+        number: usize::from(triple.number),
+        beside: triple.beside,
+        column: triple.column,
         above,
         below,
         cover: usize::from(cover),
@@ -183,10 +194,11 @@ pub fn fp_step(model: Model, marking: Marking, text: &[u8]) -> StepDone
 {
     let mut after = marking;
     let answer = engine::step(&model, &mut after, text);
-    let pair = Pair::from(answer);
+    let triple = Triple::from(answer);
     StepDone {
-        number: usize::from(pair.number),
-        beside: pair.beside,
+        number: usize::from(triple.number),
+        beside: triple.beside,
+        column: triple.column,
         used: answer.unwrap_or(0),
         marking: after,
     }
@@ -197,10 +209,11 @@ pub fn fp_run(model: Model, marking: Marking, text: &[u8]) -> RunDone
 {
     let mut after = marking;
     let ran = engine::run(&model, &mut after, text);
-    let pair = Pair::from(ran.stop);
+    let triple = Triple::from(ran.stop);
     RunDone {
-        number: usize::from(pair.number),
-        beside: pair.beside,
+        number: usize::from(triple.number),
+        beside: triple.beside,
+        column: triple.column,
         fired: ran.fired,
         at: ran.at,
         marking: after,
@@ -211,10 +224,11 @@ pub fn fp_ways(tokens: usize, racks: usize) -> Shared
     ensures { result ≡ shared (spread_call tokens racks) }
 {
     let answer = engine::ways(tokens, racks);
-    let pair = Pair::from(answer);
+    let triple = Triple::from(answer);
     Shared {
-        number: usize::from(pair.number),
-        beside: pair.beside,
+        number: usize::from(triple.number),
+        beside: triple.beside,
+        column: triple.column,
         ways: answer.unwrap_or(0),
     }
 }

@@ -2,19 +2,19 @@
 use super::hand::Hand;
 use super::line::{find, number_at};
 use engine::WeightCheck;
-use pairs::Pair;
 use std::io;
+use triples::Triple;
 
-fn put_pair(rt: &impl Print, pair: Pair) -> io::Result<()> {
-    println!(rt; "{},{}", pair.number, pair.beside)
+fn put_triple(rt: &impl Print, triple: Triple) -> io::Result<()> {
+    println!(rt; "{},{},{}", triple.number, triple.beside, triple.column)
 }
 
 pub fn model(rt: &impl Print, text: &[u8]) -> io::Result<()> {
-    put_pair(rt, Pair::from(engine::read_model(text)))
+    put_triple(rt, Triple::from(engine::read_model(text)))
 }
 
 pub fn marking(rt: &impl Print, hand: &Hand, text: &[u8]) -> io::Result<()> {
-    put_pair(rt, Pair::from(engine::read_marking(&hand.model, text)))
+    put_triple(rt, Triple::from(engine::read_marking(&hand.model, text)))
 }
 
 // Answers the hand after the step. A step that fired says the bytes that it used.
@@ -22,7 +22,7 @@ pub fn step(rt: &impl Print, hand: &Hand, text: &[u8]) -> io::Result<Hand> {
     let mut after = *hand;
     match engine::step(&hand.model, &mut after.marking, text) {
         Ok(bytes) => println!(rt; "fired, bytes {bytes}")?,
-        Err(refusal) => put_pair(rt, Pair::from(refusal))?,
+        Err(refusal) => put_triple(rt, Triple::from(refusal))?,
     }
     Ok(after)
 }
@@ -30,7 +30,7 @@ pub fn step(rt: &impl Print, hand: &Hand, text: &[u8]) -> io::Result<Hand> {
 // What writing a marking answers, and the lent bytes after it.
 pub fn written(rt: &impl Print, hand: &Hand, out: &mut [u8]) -> io::Result<()> {
     let answer = engine::write_marking(&hand.model, &hand.marking, out);
-    put_pair(rt, Pair::from(answer))?;
+    put_triple(rt, Triple::from(answer))?;
     rt.write_all(out)?;
     rt.write_all(b"\n")
 }
@@ -46,16 +46,16 @@ pub fn run(rt: &impl Print, hand: &Hand, text: &[u8]) -> io::Result<()> {
     let mut after = *hand;
     let ran = engine::run(&hand.model, &mut after.marking, text);
     print!(rt; "fired {}, at {}, stop ", ran.fired, ran.at)?;
-    put_pair(rt, Pair::from(ran.stop))?;
+    put_triple(rt, Triple::from(ran.stop))?;
     let mut out = [46u8; 40];
     print!(rt; "held: ")?;
     written(rt, &after, &mut out)
 }
 
-// The pair, the sum, and 1 or 0 for the cover.
+// The triple, the sum, and 1 or 0 for the cover.
 pub fn weigh(rt: &impl Print, hand: &Hand, text: &[u8]) -> io::Result<()> {
     let check = engine::check_weights(hand.model, hand.marking, text);
-    put_pair(rt, Pair::from(check))?;
+    put_triple(rt, Triple::from(check))?;
     let WeightCheck { sum, cover } = check.unwrap_or(WeightCheck::nothing());
     let cover = usize::from(cover);
     println!(rt; "  sum {sum}, cover {cover}")
@@ -72,7 +72,7 @@ pub fn ways(rt: &impl Print, text: &[u8]) -> io::Result<()> {
     let racks = number_at(&text[comma..], 1);
     let answer = engine::ways(tokens, racks);
     let Ok(value) = answer else {
-        return put_pair(rt, Pair::from(answer));
+        return put_triple(rt, Triple::from(answer));
     };
     println!(rt; "{value}")
 }

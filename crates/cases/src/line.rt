@@ -2,7 +2,7 @@
 ghost use Rattle.std.specs.Prelude.{◌≡◌, ◌≢◌, ◌≤◌, ◌<◌, length, take, slice_index, All};
 
 use text::Parsed;
-use text_scan::{number, starts};
+use text_scan::number;
 
 // The position of the first such byte of s; where there is none, the length of s.
 pub fn find(s: &[u8], byte: u8) -> usize
@@ -24,13 +24,13 @@ fn byte_from(s: &[u8], at: usize) -> Parsed<u8>
             end: at + 1,
         };
     }
-    if starts(s, at, b"\\n") {
+    if s[at..].starts_with(b"\\n") {
         return Parsed {
             value: b'\n',
             end: at + 2,
         };
     }
-    if starts(s, at, b"\\r") {
+    if s[at..].starts_with(b"\\r") {
         return Parsed {
             value: b'\r',
             end: at + 2,

@@ -7,7 +7,6 @@ use hand::Hand;
 use line::{decoded, find};
 use std::io;
 use std::rt::Files;
-use text_scan::starts;
 
 mod answers;
 mod hand;
@@ -67,7 +66,7 @@ fn case(
 fn case_of(rt: &(impl Files + Print), hand: Hand, line: &[u8]) -> io::Result<Hand> {
     let colon = find(line, b':');
     let blank = find(&line[..colon], b' ');
-    if starts(line, 0, b"#") {
+    if line.starts_with(b"#") {
         return Ok(hand);
     }
     if blank == colon {

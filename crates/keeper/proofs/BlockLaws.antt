@@ -11,8 +11,8 @@ use Rattle.std.specs.declared.result.Result.TheVariants.{Ok, Err}
 use Rattle.std.proofs.lemmas.List.{get_or_default}
 use Rattle.text.specs.Bytes.{Text, bytes}
 use Rattle.text.specs.Number.{signed_if}
-use Rattle.text.specs.Lists.{list_end}
-use Rattle.text.specs.Lines.{Outcome, got, bad, then, judged, every, modest, behind, read_head, read_weights}
+use Rattle.text.specs.Printed.{signed_text}
+use Rattle.text.specs.Lines.{Outcome, got, bad, then, modest, read_row, read_head, read_weights}
 use Rattle.text.specs.Repeat.{many_at}
 use Rattle.text.specs.Values.{weight_in}
 use Rattle.text.specs.Answers.{kept, row}
@@ -39,7 +39,7 @@ use Rattle.keeper.proofs.WeightLineLaws.{weights_read}
 
 -- a line of n weights, as the reader answers it
 abbrev pub Line : Text → ℕ → Reader → Reader → Result (List ℤ) Fault → Type 0
-Line key n old new r = Reads (kept (row weight_in) (judged (every (modest weight_limit)) old.at (behind key (list_end (signed_if true) n old.src.now) old.src.now old.at))) old new r
+Line key n old new r = Reads (kept (row weight_in) (read_row (signed_if true) signed_text key n (modest weight_limit) old.src.now old.at)) old new r
 
 module _ (m : Model) where
   -- ---- the outer weights

@@ -9,12 +9,13 @@ use borrow.Author.Tests.{leb-true, le-leb}
 use Rattle.std.specs.Prelude.{Result}
 use Rattle.text.specs.Bytes.{Text}
 use Rattle.text.specs.Number.{Read, missing, found, signed_if}
-use Rattle.text.specs.Lists.{list_end}
-use Rattle.text.specs.Lines.{Outcome, judged, need, every, modest, behind, read_weights}
+use Rattle.text.specs.Printed.{signed_text}
+use Rattle.text.specs.Lines.{Outcome, judged, every, modest, read_row, read_weights}
 use Rattle.text.specs.Values.{weight_in}
 use Rattle.text.specs.Answers.{kept, row}
 use Rattle.text.specs.declared.Fault.{Fault}
 use Rattle.text.proofs.Basics.{by_test, and_true}
+use Rattle.text.proofs.ListLaws.{weights_row}
 use Rattle.text_reader.specs.Place.{Reads}
 use Rattle.text_reader.specs.declared.Reader.{Reader}
 use Rattle.keeper.specs.Held.{weight_row}
@@ -30,13 +31,16 @@ weights_held hi (v ∷ l) h e =
     rw (weight_held hi v h p.0, weights_held hi l h p.1) refl
 
 -- weights in the range are held as they are
-weights_kept : (hi top : ℕ) (r : Read (List ℤ)) → hi ≤ 32767 → kept (row weight_in) (judged (every (modest hi)) top r) ≡ kept weight_row (judged (every (modest hi)) top r)
-unfolding kept judged need row weight_row
-weights_kept hi top missing h = refl
-weights_kept hi top (found l end) h = by_test (every (modest hi) l) (λ e. rw (e, weights_held hi l h e) refl) (λ e. rw e refl)
+weights_kept : (hi top : ℕ) (out : List ℤ → ℕ) (r : Read (List ℤ)) → hi ≤ 32767
+    → kept (row weight_in) (judged (every (modest hi)) out top r) ≡ kept weight_row (judged (every (modest hi)) out top r)
+unfolding kept judged row weight_row
+weights_kept hi top out (missing b) h = refl
+weights_kept hi top out (found l end) h = by_test (every (modest hi) l) (λ e. rw (e, judged, weights_held hi l h e) refl) (λ e. rw (e, judged) refl)
 
 pub weights_read : (hi : ℕ) (key : Text) (n : ℕ) (s : Text) (at : ℕ) {old new : Reader} {r : Result (List ℤ) Fault} → hi ≤ 32767
-    → Reads (kept (row weight_in) (judged (every (modest hi)) at (behind key (list_end (signed_if true) n s) s at))) old new r
+    → Reads (kept (row weight_in) (read_row (signed_if true) signed_text key n (modest hi) s at)) old new r
     → Reads (kept weight_row (read_weights key n (modest hi) s at)) old new r
-unfolding read_weights signed_if
-weights_read hi key n s at {old} {new} {r} h k = subst (λ (o : Outcome (List ℤ)). Reads o old new r) (weights_kept hi at _ h) k
+unfolding read_row
+weights_read hi key n s at {old} {new} {r} h k =
+    subst (λ (o : Outcome (List ℤ)). Reads (kept weight_row o) old new r) (weights_row key n (modest hi) s at)
+    (subst (λ (o : Outcome (List ℤ)). Reads o old new r) (weights_kept hi at _ _ h) k)

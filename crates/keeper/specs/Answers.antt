@@ -11,7 +11,7 @@ use Rattle.model.specs.Held.{model_of}
 use Rattle.model.specs.declared.Model.{Model}
 use Rattle.marking.specs.Held.{tokens_of}
 use Rattle.marking.specs.declared.Marking.{Marking}
-use Rattle.reader.specs.Answers.{pair, pair_of, unread_pair, faulty, held_both}
+use Rattle.reader.specs.Answers.{pair, triple_of, unread_triple, faulty, held_both}
 use Rattle.reader.specs.declared.ReadRefusal.TheVariants.{TooLong, NotHeld}
 use Rattle.keeper.specs.declared.WeightRefusal.{WeightRefusal}
 use Rattle.keeper.specs.declared.WeightRefusal.TheVariants.{Unread, Weightless, Unbalanced}
@@ -20,13 +20,13 @@ use Rattle.keeper.specs.Reading.{read_weight_file}
 use Rattle.keeper.specs.declared.WeightCheck.{WeightCheck}
 
 -- 01's table: the number, and what stands beside it
-abbrev pub unpassed_pair : WeightRefusal → Refusal
-unpassed_pair (Unread e) = unread_pair e
-unpassed_pair (Weightless line) = pair 6 line
-unpassed_pair (Unbalanced event) = pair 7 event
+abbrev pub unpassed_triple : WeightRefusal → Refusal
+unpassed_triple (Unread e) = unread_triple e
+unpassed_triple (Weightless line) = pair 6 line
+unpassed_triple (Unbalanced event) = pair 7 event
 
-abbrev pub weight_pair : {A : Type 0} → Result A WeightRefusal → Refusal
-weight_pair a = pair_of unpassed_pair a
+abbrev pub weight_triple : {A : Type 0} → Result A WeightRefusal → Refusal
+weight_triple a = triple_of unpassed_triple a
 
 -- 01: "refused weights sum 0 and cover 0"
 abbrev pub nothing : WeightCheck
@@ -46,8 +46,8 @@ abbrev pub turned_by : ℕ → WeightCause → WeightRefusal
 turned_by last weightless = Weightless last
 turned_by last (unbalanced k) = Unbalanced (suc k)
 
-abbrev pub weight_cause_pair : ℕ → WeightCause → Refusal
-weight_cause_pair last c = unpassed_pair (turned_by last c)
+abbrev pub weight_cause_triple : ℕ → WeightCause → Refusal
+weight_cause_triple last c = unpassed_triple (turned_by last c)
 
 unfoldable pub turned_or : ℕ → Option WeightCause → WeightCheck → Result WeightCheck WeightRefusal
 turned_or last none c = Ok c

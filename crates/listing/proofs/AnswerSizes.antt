@@ -1,4 +1,4 @@
--- The pairs of a listing are small numbers: a cause of the table, and beside it a line, an event or a net.
+-- The triples of a listing are small numbers: a cause of the table, beside it a line, an event or a net, and a column.
 use Prim.Native.Nat.{ℕ, zero, suc, ◌+◌, ◌^◌, ◌≤◌, ◌<◌}
 use mathlib.Core.Path.{◌≡◌, refl}
 use mathlib.Core.Bool.{Bool, true, false}
@@ -9,7 +9,7 @@ use lib.Dec.{leb, eqb, lit<}
 use lib.ListN.{length, take, drop, length-drop, length-take}
 use borrow.Author.Tests.{leb-true}
 use Rattle.text.specs.Bytes.{Text, bytes, lf, newlines}
-use Rattle.text.specs.Lines.{Outcome, got, bad, spot_of, read_head, cause_number}
+use Rattle.text.specs.Lines.{Outcome, got, bad, read_head, cause_number}
 use Rattle.text.specs.declared.Fault.{Fault}
 use Rattle.text.proofs.Basics.{by_test}
 use Rattle.eos.specs.Model as eos
@@ -24,22 +24,23 @@ use Rattle.marking.specs.Held.{Sizes, hold_marking, tokens_of}
 use Rattle.marking.specs.Sizes.{sizes_for}
 use Rattle.marking.specs.declared.Marking.{Marking}
 use Rattle.reader.specs.Reading.{bounds, Loaded, read_model}
-use Rattle.reader.specs.Answers.{read_pair, loaded, held_both, model_reading}
+use Rattle.reader.specs.Answers.{unread_triple, read_triple, faulty, loaded, held_both, model_reading}
 use Rattle.step.proofs.StepFaults.{step_faults}
+use Rattle.text.proofs.LineCounts.{spot-within}
 use Rattle.text.proofs.FaultLaws.{Faults, head_faults}
 use Rattle.step.specs.Reading.{read_step}
-use Rattle.step.specs.Verdict.{has_room, cause_pair}
-use Rattle.runner.specs.Answers.{Tried, fires, stops, step_judged, read_then, tried, unfired_pair, step_pair}
+use Rattle.step.specs.Verdict.{has_room, cause_triple}
+use Rattle.runner.specs.Answers.{Tried, fires, stops, step_judged, read_then, tried, unfired_triple, step_triple}
 use Rattle.runner.proofs.RuledLaws.{read_right}
 use Rattle.runner_trace.specs.Running.{onward, run_from, headed, run_where_held, running, Ran}
 use Rattle.keeper.specs.Reading.{read_weight_file}
-use Rattle.keeper.specs.Answers.{weight_pair, weight_cause_pair, passed_weights, turned_or, judged_weights, weighed, weights_or, weight_checking}
+use Rattle.keeper.specs.Answers.{weight_triple, weight_cause_triple, passed_weights, turned_or, judged_weights, weighed, weights_or, weight_checking}
 use Rattle.listing.specs.Listing.{file_longest, model_file, weights_file, trace_file}
 use Rattle.listing.proofs.FileFaults.{weight_file_faults, model_faults}
 
--- numbers that fit the line of a pair
+-- numbers that fit the line of a triple
 abbrev pub Small : Refusal → Type 0
-Small r = (r.number < 2 ^ 8) × (r.beside < 2 ^ 64)
+Small r = (r.number < 2 ^ 8) × (r.beside < 2 ^ 64) × (r.column < 2 ^ 64)
 
 -- ---- a fault
 
@@ -51,8 +52,8 @@ newlines-few (b ∷ s) =
     (λ h. rw (h, newlines) (omega (arith, newlines-few s)))
     (λ h. rw (h, newlines) (omega (arith, newlines-few s)))
 
-spot_small : (s : Text) → length s ≤ file_longest → (e : Fault) → cause_number e.cause < 10 → Small (record { number = cause_number (spot_of s e).cause; beside = (spot_of s e).line })
-spot_small s few e h = (omega arith, omega (arith, newlines-few (take e.at s), length-take e.at s))
+spot_small : (s : Text) → length s ≤ file_longest → (e : Fault) → cause_number e.cause < 10 → Small (unread_triple (faulty s e))
+spot_small s few e h = (omega arith, omega (arith, newlines-few (take e.at s), length-take e.at s), omega (arith, spot-within s e))
 
 -- ---- a model's answer
 
@@ -60,19 +61,19 @@ spot_small s few e h = (omega arith, omega (arith, newlines-few (take e.at s), l
 abbrev Digit : ℕ → Type 0
 Digit why = why < 10
 
-loaded-small : (s : Text) → length s ≤ file_longest → (o : Outcome Loaded) → Faults Digit o → Small (read_pair (loaded s o))
+loaded-small : (s : Text) → length s ≤ file_longest → (o : Outcome Loaded) → Faults Digit o → Small (read_triple (loaded s o))
 unfolding loaded
-loaded-small s few (got l x) d = (omega arith, omega arith)
+loaded-small s few (got l x) d = (omega arith, omega arith, omega arith)
 loaded-small s few (bad e) d = spot_small s few e d
 
-pub model-small : (s : Text) → Small (read_pair (model_file s))
+pub model-small : (s : Text) → Small (read_triple (model_file s))
 unfolding model_file model_reading
 model-small s =
     by_test (leb (length s) file_longest)
     (λ t. by_test (leb (length s) longest)
     (λ u. rw (t, model_file, u, model_reading) (loaded-small s (leb-true (length s) file_longest t) (read_model s) (model_faults Digit (lit< tt) s (lit< tt) (lit< tt))))
-    (λ u. rw (t, model_file, u, model_reading) (omega arith, omega arith)))
-    (λ t. rw (t, model_file) (omega arith, omega arith))
+    (λ u. rw (t, model_file, u, model_reading) (omega arith, omega arith, omega arith)))
+    (λ t. rw (t, model_file) (omega arith, omega arith, omega arith))
 
 -- what holds of a cause, if there is one
 abbrev Holds : {C : Type 0} → (C → Type 0) → Option C → Type 0
@@ -84,42 +85,42 @@ module _ (m : eos.Model) (nets : length m.nets ≤ 8) (events : length m.events 
   abbrev last_line : ℕ
   last_line = 2 + length m.nets
 
-  cause_small : (w : Weights) → Holds (λ c. Small (weight_cause_pair last_line c)) (weight_refusal m w)
+  cause_small : (w : Weights) → Holds (λ c. Small (weight_cause_triple last_line c)) (weight_refusal m w)
   unfolding weight_refusal
   cause_small w =
-      let P : WeightCause → Type 0 = λ c. Small (weight_cause_pair last_line c) in
+      let P : WeightCause → Type 0 = λ c. Small (weight_cause_triple last_line c) in
       first-each P _ (
-        unless-each P _ weightless (omega arith, omega arith),
-        (at_each P unbalanced _ (λ i e. let h = (failing-least (length m.events) _ i e).within in (omega arith, omega (arith, h))), tt),
+        unless-each P _ weightless (omega arith, omega arith, omega arith),
+        (at_each P unbalanced _ (λ i e. let h = (failing-least (length m.events) _ i e).within in (omega arith, omega (arith, h), omega arith)), tt),
       )
 
-  turned-small : (w : Weights) (z : _) (o : Option WeightCause) → Holds (λ c. Small (weight_cause_pair last_line c)) o
-      → Small (weight_pair (turned_or last_line o (passed_weights cover_limit w z)))
+  turned-small : (w : Weights) (z : _) (o : Option WeightCause) → Holds (λ c. Small (weight_cause_triple last_line c)) o
+      → Small (weight_triple (turned_or last_line o (passed_weights cover_limit w z)))
   unfolding turned_or
-  turned-small w z none h = (omega arith, omega arith)
+  turned-small w z none h = (omega arith, omega arith, omega arith)
   turned-small w z (some c) h = h c refl
 
-  weighed-small : (μ : eos.Marking) (s : Text) → length s ≤ file_longest → (o : Outcome Weights) → Faults Digit o → Small (weight_pair (weighed cover_limit m μ s o))
+  weighed-small : (μ : eos.Marking) (s : Text) → length s ≤ file_longest → (o : Outcome Weights) → Faults Digit o → Small (weight_triple (weighed cover_limit m μ s o))
   unfolding weighed judged_weights
   weighed-small μ s few (got w x) d = turned-small w (weigh m w μ) (weight_refusal m w) (cause_small w)
   weighed-small μ s few (bad e) d = spot_small s few e d
 
 module _ (m : Model) (nets : length (model_of m).nets ≤ 8) where
   module _ (events : length (model_of m).events ≤ 64) (k : Marking) where
-    tested_small : (b : Bool) (s : Text) → length s ≤ file_longest → Small (weight_pair (weights_or b m k s))
+    tested_small : (b : Bool) (s : Text) → length s ≤ file_longest → Small (weight_triple (weights_or b m k s))
     unfolding weights_or
     tested_small true s few =
         weighed-small (model_of m) nets events (tokens_of (sizes_for m) k) s few (read_weight_file (model_of m) s) (weight_file_faults Digit (lit< tt) s (lit< tt) (model_of m))
-    tested_small false s few = (omega arith, omega arith)
+    tested_small false s few = (omega arith, omega arith, omega arith)
 
-    pub weights-small : (s : Text) → Small (weight_pair (weights_file m k s))
+    pub weights-small : (s : Text) → Small (weight_triple (weights_file m k s))
     unfolding weights_file weight_checking
     weights-small s =
         by_test (leb (length s) file_longest)
         (λ t. by_test (leb (length s) longest)
         (λ u. rw (t, weights_file, u, weight_checking) (tested_small (held_both m k) s (leb-true (length s) file_longest t)))
-        (λ u. rw (t, weights_file, u, weight_checking) (omega arith, omega arith)))
-        (λ t. rw (t, weights_file) (omega arith, omega arith))
+        (λ u. rw (t, weights_file, u, weight_checking) (omega arith, omega arith, omega arith)))
+        (λ t. rw (t, weights_file) (omega arith, omega arith, omega arith))
 
   -- ---- a run's stop, and how many steps fired
 
@@ -127,23 +128,23 @@ module _ (m : Model) (nets : length (model_of m).nets ≤ 8) where
   d = model_of m
 
   refusal-small : (t : Step) (μ : eos.Marking) → length t.taken ≤ 256
-      → Holds (λ c. Small (cause_pair (length t.taken) c)) (refusal (has_room room_limit) d t μ)
+      → Holds (λ c. Small (cause_triple (length t.taken) c)) (refusal (has_room room_limit) d t μ)
   unfolding refusal causes
   refusal-small t μ few =
-      let P : Cause → Type 0 = λ c. Small (cause_pair (length t.taken) c) in
+      let P : Cause → Type 0 = λ c. Small (cause_triple (length t.taken) c) in
       let net : (c : ℕ → Cause) (f : ℕ → Bool) → ((i : ℕ) → i < length d.nets → P (c i)) → Holds P (at c (failing (length d.nets) 0 f)) =
       λ c f h. at_each P c (failing (length d.nets) 0 f) (λ i e. h i (failing-least (length d.nets) f i e).within) in
       first-each P _ (
-        unless-each P _ taking (omega arith, omega arith),
+        unless-each P _ taking (omega arith, omega arith, omega arith),
         (
-          unless-each P _ giving (omega arith, omega arith),
+          unless-each P _ giving (omega arith, omega arith, omega arith),
           (
-            net short _ (λ i h. (omega arith, omega arith)),
+            net short _ (λ i h. (omega arith, omega arith, omega arith)),
             (
-              net unequal _ (λ i h. (omega arith, omega arith)),
+              net unequal _ (λ i h. (omega arith, omega arith, omega arith)),
               (
-                at_each P missing _ (λ i e. let h = lacking-within μ t.taken i e in (omega arith, omega (arith, h))),
-                (unless-each P _ crowded (omega arith, omega arith), tt),
+                at_each P missing _ (λ i e. let h = lacking-within μ t.taken i e in (omega arith, omega (arith, h), omega arith)),
+                (unless-each P _ crowded (omega arith, omega arith, omega arith), tt),
               ),
             ),
           ),
@@ -153,9 +154,9 @@ module _ (m : Model) (nets : length (model_of m).nets ≤ 8) where
   -- what stops a run
   abbrev Stops : Tried → Type 0
   Stops (fires n μ) = Unit {0}
-  Stops (stops a) = Small (unfired_pair a)
+  Stops (stops a) = Small (unfired_triple a)
 
-  judged-small : (t : Step) (μ : eos.Marking) (next : ℕ) (o : Option Cause) → Holds (λ c. Small (cause_pair (length t.taken) c)) o → Stops (step_judged μ t next o)
+  judged-small : (t : Step) (μ : eos.Marking) (next : ℕ) (o : Option Cause) → Holds (λ c. Small (cause_triple (length t.taken) c)) o → Stops (step_judged μ t next o)
   unfolding step_judged
   judged-small t μ next none h = tt
   judged-small t μ next (some c) h = h c refl
@@ -172,12 +173,12 @@ module _ (m : Model) (nets : length (model_of m).nets ≤ 8) where
   tried-small z μ s few = read_small z μ s few (read_step bounds z (length d.events) s 0) refl (step_faults Digit (lit< tt) (lit< tt) bounds z (length d.events) s 0)
 
   abbrev Ends : ℕ → Ran → Type 0
-  Ends most r = Small (step_pair r.stop) × (r.fired ≤ most)
+  Ends most r = Small (step_triple r.stop) × (r.fired ≤ most)
 
   onward-small : (most : ℕ) (rest : ℕ → eos.Marking → Ran) (n p : ℕ) (k : Marking) (s : Text) (t : Tried) → n ≤ most → Stops t
       → ((used : ℕ) (μ : eos.Marking) → Ends most (rest used μ)) → Ends most (onward rest n p k s t)
   unfolding onward
-  onward-small most rest n p k [] t few h next = ((omega arith, omega arith), few)
+  onward-small most rest n p k [] t few h next = ((omega arith, omega arith, omega arith), few)
   onward-small most rest n p k (b ∷ s) (fires used μ) few h next = next used μ
   onward-small most rest n p k (b ∷ s) (stops a) few h next = (h, few)
 
@@ -186,7 +187,7 @@ module _ (m : Model) (nets : length (model_of m).nets ≤ 8) where
 
   from_small : (fuel : ℕ) (k : Marking) (s : Text) (n p : ℕ) → length s ≤ file_longest → Ends (n + fuel) (run_from fuel m k s n p)
   unfolding run_from
-  from_small zero k s n p few = ((omega arith, omega arith), omega arith)
+  from_small zero k s n p few = ((omega arith, omega arith, omega arith), omega arith)
   from_small (suc f) k s n p few =
       onward-small (n + suc f) _ n p k s _ (omega arith) (tried-small (sizes_for m) (tokens_of (sizes_for m) k) s few)
       (λ used μ. ends_as (n + 1 + f) (n + suc f) (run_from f m (hold_marking μ) (drop used s) (n + 1) (p + used)) (omega arith)
@@ -201,7 +202,7 @@ module _ (m : Model) (nets : length (model_of m).nets ≤ 8) where
   run_small : (b : Bool) (k : Marking) (s : Text) → length s ≤ file_longest → Ends file_longest (run_where_held b m k s)
   unfolding run_where_held
   run_small true k s few = headed-small k s few (read_head (bytes "run=1\n") s 0) (head_faults Digit (lit< tt) (bytes "run=1\n") s 0)
-  run_small false k s few = ((omega arith, omega arith), omega arith)
+  run_small false k s few = ((omega arith, omega arith, omega arith), omega arith)
 
   pub trace_small : (k : Marking) (s : Text) → Ends file_longest (trace_file m k s)
   unfolding trace_file running
@@ -209,5 +210,5 @@ module _ (m : Model) (nets : length (model_of m).nets ≤ 8) where
       by_test (leb (length s) file_longest)
       (λ t. by_test (leb (length s) longest)
       (λ u. rw (t, trace_file, u, running) (run_small (held_both m k) k s (leb-true (length s) file_longest t)))
-      (λ u. rw (t, trace_file, u, running) ((omega arith, omega arith), omega arith)))
-      (λ t. rw (t, trace_file) ((omega arith, omega arith), omega arith))
+      (λ u. rw (t, trace_file, u, running) ((omega arith, omega arith, omega arith), omega arith)))
+      (λ t. rw (t, trace_file) ((omega arith, omega arith, omega arith), omega arith))

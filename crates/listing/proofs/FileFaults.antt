@@ -3,9 +3,11 @@ use Prim.Native.Nat.{ℕ}
 use lib.Dec.{leb}
 use lib.ListN.{length}
 use Rattle.text.specs.Bytes.{Text, bytes}
+use Rattle.text.specs.Number.{signed}
+use Rattle.text.specs.Printed.{signed_text}
 use Rattle.text.specs.Lines.{read_head, read_weights, modest}
 use Rattle.text.specs.Repeat.{many_at}
-use Rattle.text.proofs.FaultLaws.{Faults, then_faults, need_faults, many_at_faults, head_faults, weights_faults}
+use Rattle.text.proofs.FaultLaws.{Faults, then_faults, need_faults, many_at_faults, head_faults, row_faults}
 use Rattle.eos.specs.Model as eos
 use Rattle.model.specs.Limits.{weight_limit}
 use Rattle.model_text.specs.Reading.{read_plant}
@@ -28,14 +30,14 @@ module _ (P : ℕ → Type 0) (two : P 2) (s : Text) where
 
     inner_faults : (m : eos.Model) (n at : ℕ) → Faults P (read_inner m s n at)
     unfolding read_inner
-    inner_faults m n at = weights_faults P two three (bytes "inner=") (eos.net m n).size (modest weight_limit) s at
+    inner_faults m n at = row_faults P two three signed signed_text (bytes "inner=") (eos.net m n).size (modest weight_limit) s at
 
     pub weight_file_faults : (m : eos.Model) → Faults P (read_weight_file m s)
     unfolding read_weights_at
     weight_file_faults m =
         then_faults P (read_head (bytes "inv=1\n") s 0) _ (head_faults P two (bytes "inv=1\n") s 0)
         (λ _ x₁.
-        then_faults P (read_weights (bytes "outer=") (eos.places m) (modest weight_limit) s x₁) _ (weights_faults P two three (bytes "outer=") (eos.places m) (modest weight_limit) s x₁)
+        then_faults P (read_weights (bytes "outer=") (eos.places m) (modest weight_limit) s x₁) _ (row_faults P two three signed signed_text (bytes "outer=") (eos.places m) (modest weight_limit) s x₁)
         (λ o x₂.
         then_faults P (many_at (read_inner m s) 0 (length m.nets) x₂) _ (many_at_faults P (read_inner m s) (inner_faults m) 0 (length m.nets) x₂)
         (λ i x₃. end_faults (record { outward = o; inward = i }) x₃)))

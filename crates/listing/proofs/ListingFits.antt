@@ -27,18 +27,18 @@ use Rattle.marking.specs.Sizes.{sizes_for}
 use Rattle.marking.specs.declared.Marking.{Marking}
 use Rattle.marking.proofs.SizeLaws.{held_roomy}
 use Rattle.marking.proofs.WriteLaws.{held-length}
-use Rattle.reader.specs.Answers.{read_pair, lay_whole, held_in, pair, unread_pair}
+use Rattle.reader.specs.Answers.{read_triple, lay_whole, held_in, pair, unread_triple}
 use Rattle.reader.proofs.WriteAnswers.{whole-fits}
 use Rattle.reader.proofs.GivenLaws.{Given, given-held, given_marking}
 use Rattle.runner_trace.proofs.TraceSteps.{run-given}
-use Rattle.keeper.specs.Answers.{weight_pair, check_given, unpassed_pair}
+use Rattle.keeper.specs.Answers.{weight_triple, check_given, unpassed_triple}
 use Rattle.keeper.proofs.SumBound.{Within, given_sum_within}
-use Rattle.listing.specs.Listing.{file_longest, model_file, weights_file, trace_file, pair_text, sum_text, cover_text, run_text, after_model, listing_text, with_model, with_weights}
-use Rattle.listing.proofs.ListingLines.{long-line, pair-length, sum_below, sum-above, cover_length}
+use Rattle.listing.specs.Listing.{file_longest, model_file, weights_file, trace_file, triple_text, sum_text, cover_text, run_text, after_model, listing_text, with_model, with_weights}
+use Rattle.listing.proofs.ListingLines.{long-line, triple-length, sum_below, sum-above, cover_length}
 use Rattle.listing.proofs.ThreeFiles.{file_given}
 use Rattle.listing.proofs.AnswerSizes.{Small, model-small, weights-small, trace_small}
 use Rattle.std.specs.Prelude.{Ok, Result, Err}
-use Rattle.runner.specs.Answers.{step_pair}
+use Rattle.runner.specs.Answers.{step_triple}
 use Rattle.reader.specs.declared.ModelReading.{ModelReading}
 use Rattle.keeper.specs.declared.WeightCheck.{WeightCheck}
 use Rattle.reader.specs.declared.ReadRefusal.{ReadRefusal}
@@ -46,13 +46,13 @@ use Rattle.keeper.specs.declared.WeightRefusal.{WeightRefusal}
 
 -- ---- the lines
 
--- a pair, and what follows it
-pair_fits : (key : Text) (r : Refusal) (rest : Text) (n : ℕ) → Small r → length rest ≤ n → length (pair_text key r ++ rest) ≤ length key + 25 + n
-pair_fits key r rest n s h = omega (arith, pair-length key r s.0 s.1, length-append (pair_text key r) rest, h)
+-- a triple, and what follows it
+triple_fits : (key : Text) (r : Refusal) (rest : Text) (n : ℕ) → Small r → length rest ≤ n → length (triple_text key r ++ rest) ≤ length key + 46 + n
+triple_fits key r rest n s h = omega (arith, triple-length key r s.0 s.1 s.2, length-append (triple_text key r) rest, h)
 
--- 0,0
+-- 0,0,0
 good-small : Small (pair 0 0)
-good-small = (omega arith, omega arith)
+good-small = (omega arith, omega arith, omega arith)
 
 sum_fits : (z : ℤ) → Within z → length (sum_text z) ≤ 26
 sum_fits (pos n) w = omega (arith, ap length (sum-above (pos n) n refl (omega (arith, ints))), long-line (bytes "sum=") n (omega (arith, w)))
@@ -105,34 +105,34 @@ module _ (m : Model) (k : Marking) (given : Given m k) where
       block_fits (tokens_of (sizes_for m) j)
       (held-length (sizes_for m) (held_roomy m held) (omega (arith, most-places m (held-is m held))) j (given_marking m j g) (and_true (held_model m) _ (given-held m j g)).1)
 
-  run_fits : (s : Text) → length (run_text m (trace_file m k s)) ≤ 51523
+  run_fits : (s : Text) → length (run_text m (trace_file m k s)) ≤ 51544
   unfolding run_text
   run_fits s =
       let r = trace_file m k s in
       let e = trace_small m nets-few k s in
       let fired = number_text (bytes "fired=") r.fired in
-      let stop = pair_text (bytes "stop=") (step_pair r.stop) in
+      let stop = triple_text (bytes "stop=") (step_triple r.stop) in
       let block = block_text (bytes "held=") (tokens_of (sizes_for m) r.marking) in
       omega (
         arith,
         length-append fired (stop ++ block),
         length-append stop block,
         long-line (bytes "fired=") r.fired (omega (arith, e.1)),
-        pair-length (bytes "stop=") (step_pair r.stop) e.0.0 e.0.1,
+        triple-length (bytes "stop=") (step_triple r.stop) e.0.0 e.0.1 e.0.2,
         tokens_fit r.marking (trace_given s),
       )
 
-  after-fits : (weights trace : Text) → length (after_model m k weights trace) ≤ 51590
+  after-fits : (weights trace : Text) → length (after_model m k weights trace) ≤ 51632
   unfolding with_weights
   after-fits weights trace = go (weights_file m k weights) (weights-within weights) (weights-small m nets-few events-few k weights)
     where
-      go : (o : Result WeightCheck WeightRefusal) → Within (check_given o).sum → Small (weight_pair o) → length (with_weights m k trace o) ≤ 51590
-      go (Err e) w s = omega (arith, pair-length (bytes "weights=") (unpassed_pair e) s.0 s.1)
+      go : (o : Result WeightCheck WeightRefusal) → Within (check_given o).sum → Small (weight_triple o) → length (with_weights m k trace o) ≤ 51632
+      go (Err e) w s = omega (arith, triple-length (bytes "weights=") (unpassed_triple e) s.0 s.1 s.2)
       go (Ok c) w s =
           let sum = sum_text c.sum in
           let cover = cover_text c.cover in
           let run = run_text m (trace_file m k trace) in
-          let rest : length (sum ++ (cover ++ run)) ≤ 51557 =
+          let rest : length (sum ++ (cover ++ run)) ≤ 51578 =
           omega (
             arith,
             length-append sum (cover ++ run),
@@ -141,7 +141,7 @@ module _ (m : Model) (k : Marking) (given : Given m k) where
             cover_fits c.cover,
             run_fits trace,
           ) in
-          pair_fits (bytes "weights=") (pair 0 0) (sum ++ (cover ++ run)) 51557 good-small rest
+          triple_fits (bytes "weights=") (pair 0 0) (sum ++ (cover ++ run)) 51578 good-small rest
 
 -- ---- the listing
 
@@ -150,12 +150,12 @@ module _ (model weights trace : Text) where
   unfolding listing_text with_model
   listing_fits = go (model_file model) refl (model-small model)
     where
-      go : (o : Result ModelReading ReadRefusal) → o ≡ model_file model → Small (read_pair o) → length (with_model weights trace o) ≤ 65536
-      go (Err e) h s = omega (arith, pair-length (bytes "model=") (unread_pair e) s.0 s.1)
+      go : (o : Result ModelReading ReadRefusal) → o ≡ model_file model → Small (read_triple o) → length (with_model weights trace o) ≤ 65536
+      go (Err e) h s = omega (arith, triple-length (bytes "model=") (unread_triple e) s.0 s.1 s.2)
       go (Ok r) h s =
           omega (
             arith,
-            pair_fits (bytes "model=") (pair 0 0) (after_model r.model r.start weights trace) 51590 good-small
+            triple_fits (bytes "model=") (pair 0 0) (after_model r.model r.start weights trace) 51632 good-small
                 (after-fits r.model r.start (file_given model r h) weights trace),
           )
 

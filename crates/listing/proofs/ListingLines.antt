@@ -17,7 +17,7 @@ use Rattle.text_write.specs.Place.{Lays}
 use Rattle.text_write.specs.declared.Writer.{Writer}
 use Rattle.text_write.proofs.WriterLaws.{lays_both}
 use Rattle.eos.specs.Causes.{Refusal}
-use Rattle.listing.specs.Listing.{pair_text, sum_text, cover_text}
+use Rattle.listing.specs.Listing.{triple_text, sum_text, cover_text}
 
 -- the line of a number of 64 bits
 pub long-line : (key : Text) (n : ℕ) → n < 2 ^ 64 → length (number_text key n) ≤ length key + 21
@@ -28,26 +28,37 @@ pub lays_as : (text line : Text) (most : ℕ) {old new : Writer} → text ≡ li
     → Lays text old new × (new.at ≤ old.at + most)
 lays_as text line most e n l = rw e (l, omega (arith, l.place))
 
--- ---- a pair
+-- ---- a triple
 module _ (key : Text) (r : Refusal) where
-  pair_parts : pair_text key r ≡ key ++ (decimal r.number ++ number_text (bytes ",") r.beside)
-  unfolding pair_text list_text end_text items_text stop_of number_text
-  pair_parts = refl
+  -- what stands behind its number
+  abbrev behind_number : Text
+  behind_number = bytes "," ++ (decimal r.beside ++ number_text (bytes ",") r.column)
 
-  pub pair-length : r.number < 2 ^ 8 → r.beside < 2 ^ 64 → length (pair_text key r) ≤ length key + 25
-  pair-length p q =
+  triple_parts : triple_text key r ≡ key ++ (decimal r.number ++ behind_number)
+  unfolding triple_text list_text end_text items_text stop_of number_text
+  triple_parts = refl
+
+  pub triple-length : r.number < 2 ^ 8 → r.beside < 2 ^ 64 → r.column < 2 ^ 64 → length (triple_text key r) ≤ length key + 46
+  triple-length p q t =
       omega (
         arith,
-        ap length pair_parts,
-        length-append key (decimal r.number ++ number_text (bytes ",") r.beside),
-        length-append (decimal r.number) (number_text (bytes ",") r.beside),
+        ap length triple_parts,
+        length-append key (decimal r.number ++ behind_number),
+        length-append (decimal r.number) behind_number,
+        length-append (decimal r.beside) (number_text (bytes ",") r.column),
         length-below 2 r.number (omega arith),
-        long-line (bytes ",") r.beside q,
+        length-below 19 r.beside (omega arith),
+        long-line (bytes ",") r.column t,
       )
 
-  pub lays_pair : {w a b c : Writer} → Lays key w a → Lays (decimal r.number) a b → Lays (number_text (bytes ",") r.beside) b c → Lays (pair_text key r) w c
-  lays_pair f g h =
-      rw pair_parts (lays_both key (decimal r.number ++ number_text (bytes ",") r.beside) f (lays_both (decimal r.number) (number_text (bytes ",") r.beside) g h))
+  pub lays_triple : {w a b c d e : Writer} → Lays key w a → Lays (decimal r.number) a b → Lays (bytes ",") b c → Lays (decimal r.beside) c d
+      → Lays (number_text (bytes ",") r.column) d e → Lays (triple_text key r) w e
+  lays_triple f g h i j =
+      rw triple_parts
+      (lays_both key (decimal r.number ++ behind_number) f
+      (lays_both (decimal r.number) behind_number g
+      (lays_both (bytes ",") (decimal r.beside ++ number_text (bytes ",") r.column) h
+      (lays_both (decimal r.beside) (number_text (bytes ",") r.column) i j))))
 
 -- ---- the sum
 

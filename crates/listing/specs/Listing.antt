@@ -8,13 +8,13 @@ use Rattle.marking.specs.Held.{tokens_of}
 use Rattle.marking.specs.Printed.{block_text}
 use Rattle.marking.specs.declared.Marking.{Marking}
 use Rattle.marking.specs.Sizes.{sizes_for}
-use Rattle.reader.specs.Answers.{pair, unread_pair, model_reading}
+use Rattle.reader.specs.Answers.{pair, unread_triple, model_reading}
 use Rattle.reader.specs.declared.ReadRefusal.{ReadRefusal}
 use Rattle.reader.specs.declared.ReadRefusal.TheVariants.{TooLong}
 use Rattle.reader.specs.declared.ModelReading.{ModelReading}
-use Rattle.runner.specs.Answers.{step_pair}
+use Rattle.runner.specs.Answers.{step_triple}
 use Rattle.runner_trace.specs.Running.{Ran, unrun, running}
-use Rattle.keeper.specs.Answers.{unpassed_pair, weight_checking}
+use Rattle.keeper.specs.Answers.{unpassed_triple, weight_checking}
 use Rattle.keeper.specs.declared.WeightRefusal.{WeightRefusal}
 use Rattle.keeper.specs.declared.WeightRefusal.TheVariants.{Unread}
 use Rattle.keeper.specs.declared.WeightCheck.{WeightCheck}
@@ -35,9 +35,9 @@ trace_file m k s = elim (leb (length s) file_longest) [ true ↦ running m k s |
 
 -- ---- the lines
 
--- "number and what stands beside it"
-unfoldable pub pair_text : Text → Refusal → Text
-pair_text key r = list_text key (r.number ∷ r.beside ∷ [])
+-- "number and what stands beside it", and 02: "`rackrun` prints triples, the column 0 for all other outcomes"
+unfoldable pub triple_text : Text → Refusal → Text
+triple_text key r = list_text key (r.number ∷ r.beside ∷ r.column ∷ [])
 
 -- the weighted sum, with a minus sign if it is below 0
 unfoldable pub sum_text : ℤ → Text
@@ -51,7 +51,7 @@ cover_text cover = number_text (bytes "cover=") (cond cover 1 0)
 unfoldable pub run_text : Model → Ran → Text
 run_text m r =
     number_text (bytes "fired=") r.fired
-    ++ (pair_text (bytes "stop=") (step_pair r.stop) ++ block_text (bytes "held=") (tokens_of (sizes_for m) r.marking))
+    ++ (triple_text (bytes "stop=") (step_triple r.stop) ++ block_text (bytes "held=") (tokens_of (sizes_for m) r.marking))
 
 -- ---- the listing
 
@@ -59,16 +59,16 @@ run_text m r =
 
 -- from the weights on: what passed has its sum and its cover, and the run follows
 unfoldable pub with_weights : Model → Marking → Text → Result WeightCheck WeightRefusal → Text
-with_weights m k trace (Ok c) = pair_text (bytes "weights=") (pair 0 0) ++ (sum_text c.sum ++ (cover_text c.cover ++ run_text m (trace_file m k trace)))
-with_weights m k trace (Err e) = pair_text (bytes "weights=") (unpassed_pair e)
+with_weights m k trace (Ok c) = triple_text (bytes "weights=") (pair 0 0) ++ (sum_text c.sum ++ (cover_text c.cover ++ run_text m (trace_file m k trace)))
+with_weights m k trace (Err e) = triple_text (bytes "weights=") (unpassed_triple e)
 
 -- for a model and its start
 abbrev pub after_model : Model → Marking → Text → Text → Text
 after_model m k weights trace = with_weights m k trace (weights_file m k weights)
 
 unfoldable pub with_model : Text → Text → Result ModelReading ReadRefusal → Text
-with_model weights trace (Ok r) = pair_text (bytes "model=") (pair 0 0) ++ after_model r.model r.start weights trace
-with_model weights trace (Err e) = pair_text (bytes "model=") (unread_pair e)
+with_model weights trace (Ok r) = triple_text (bytes "model=") (pair 0 0) ++ after_model r.model r.start weights trace
+with_model weights trace (Err e) = triple_text (bytes "model=") (unread_triple e)
 
 -- for the texts of the files `model`, `weights` and `trace`
 unfoldable pub listing_text : Text → Text → Text → Text

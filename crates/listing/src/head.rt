@@ -1,21 +1,23 @@
 // The lines of a listing before its net-tokens, each laid into a buffer with room for it.
 ghost use Rattle.std.specs.Prelude.{◌≡◌, ◌+◌, ◌≤◌, length};
 ghost use Rattle.text_write.specs.Place.{Lays};
-ghost use Rattle.listing.specs.Listing.{pair_text, sum_text, cover_text};
-ghost use Rattle.pairs.specs.Pairs.{refusal_of};
+ghost use Rattle.listing.specs.Listing.{triple_text, sum_text, cover_text};
+ghost use Rattle.triples.specs.Triples.{refusal_of};
 
-use pairs::Pair;
 use text_write::Writer;
+use triples::Triple;
 
-// Lays the line of a pair.
-pub fn put_pair(w: &mut Writer, key: &[u8], p: Pair)
-    requires { w.old.at + length key.now + 25 ≤ length w.old.out.now }
-    ensures { Lays (pair_text key.now (refusal_of p)) w.old w.new × (w.new.at ≤ w.old.at + length key.now + 25) }
+// Lays the line of a triple.
+pub fn put_triple(w: &mut Writer, key: &[u8], p: Triple)
+    requires { w.old.at + length key.now + 46 ≤ length w.old.out.now }
+    ensures { Lays (triple_text key.now (refusal_of p)) w.old w.new × (w.new.at ≤ w.old.at + length key.now + 46) }
 {
     w.text(key);
     w.number(u64::from(p.number));
+    w.text(b",");
     // No From goes from usize to u64, which is as wide.
-    w.number_line(b",", p.beside as u64);
+    w.number(p.beside as u64);
+    w.number_line(b",", p.column as u64);
 }
 
 // The same for the sum, which may be below 0.

@@ -11,14 +11,14 @@ ghost use Rattle.text_write.specs.Place.{written};
 ghost use Rattle.listing.specs.Listing.{trace_file, run_text, after_model, listing_text};
 
 use files::{model_file, trace_file, weights_file};
-use head::{put_cover, put_pair, put_sum};
+use head::{put_cover, put_sum, put_triple};
 use marking::Marking;
 use marking_test::place_sizes;
 use marking_write::write;
 use model::Model;
-use pairs::Pair;
 use reader::{ModelReading, WriteRefusal};
 use text_write::Writer;
+use triples::Triple;
 
 mod files;
 mod head;
@@ -53,7 +53,7 @@ fn after_weights(
     head: &mut Writer,
     out: &mut [u8],
 ) -> Result<usize, WriteRefusal>
-    requires { (held_both m k ≡ true) × (head.old.at + 60 ≤ length head.old.out.now) × (length head.old.out.now ≤ 1024) }
+    requires { (held_both m k ≡ true) × (head.old.at + 80 ≤ length head.old.out.now) × (length head.old.out.now ≤ 1024) }
     ensures { record { answer = result; bytes = out.new }
         ≡ lay_whole (written head.old ++ run_text m (trace_file m k trace.now)) out.old }
 {
@@ -61,7 +61,7 @@ fn after_weights(
     let ran = trace_file(&m, &mut after, trace);
     // No From goes from usize to u64, which is as wide.
     head.number_line(b"fired=", ran.fired as u64);
-    put_pair(head, b"stop=", Pair::from(ran.stop));
+    put_triple(head, b"stop=", Triple::from(ran.stop));
     lay_with_held(head.written(), &m, &after, out)
 }
 
@@ -74,12 +74,12 @@ fn after_model(
     head: &mut Writer,
     out: &mut [u8],
 ) -> Result<usize, WriteRefusal>
-    requires { (held_both m k ≡ true) × (head.old.at + 128 ≤ length head.old.out.now) × (length head.old.out.now ≤ 1024) }
+    requires { (held_both m k ≡ true) × (head.old.at + 170 ≤ length head.old.out.now) × (length head.old.out.now ≤ 1024) }
     ensures { record { answer = result; bytes = out.new }
         ≡ lay_whole (written head.old ++ after_model m k weights.now trace.now) out.old }
 {
     let check = weights_file(m, k, weights);
-    put_pair(head, b"weights=", Pair::from(check));
+    put_triple(head, b"weights=", Triple::from(check));
     let Ok(check) = check else {
         return lay_head(head.written(), out);
     };
@@ -98,18 +98,18 @@ pub fn listing(
     ensures { record { answer = result; bytes = out.new }
         ≡ lay_whole (listing_text model.now weights.now trace.now) out.old }
 {
-    let mut bytes = [0u8; 192];
+    let mut bytes = [0u8; 256];
     let mut head = Writer {
         out: &mut bytes,
         at: 0,
     };
     match model_file(model) {
         Ok(ModelReading { model, start }) => {
-            put_pair(&mut head, b"model=", Pair::accepted());
+            put_triple(&mut head, b"model=", Triple::accepted());
             after_model(model, start, weights, trace, &mut head, out)
         }
         Err(refusal) => {
-            put_pair(&mut head, b"model=", Pair::from(refusal));
+            put_triple(&mut head, b"model=", Triple::from(refusal));
             lay_head(head.written(), out)
         }
     }

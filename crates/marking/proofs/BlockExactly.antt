@@ -7,11 +7,12 @@ use lib.ListN.{length}
 use Rattle.text.specs.Bytes.{Text, bytes}
 use Rattle.text.proofs.Basics.{and_true}
 use Rattle.text.specs.Lines.{need, in_range}
-use Rattle.text.specs.Token.{Token, right_token}
+use Rattle.text.specs.Token.{Token}
+use Rattle.text.specs.TokenLine.{right_token}
 use Rattle.text.proofs.TestLaws.{and_both, eqb_and, and_eqb, within-is}
 use Rattle.text.proofs.Exactly.{Exactly, many_exactly}
 use Rattle.text.proofs.LinesExactly.{number_exactly}
-use Rattle.text.proofs.TokenExactly.{token_exactly}
+use Rattle.text.proofs.LinesExactly.{token_exactly}
 use Rattle.text.proofs.ChainExactly.{exactly_by, made_exactly, first_makes, last_makes}
 use Rattle.eos.specs.Model as eos
 use Rattle.marking.specs.Held.{Sizes}

@@ -2,7 +2,7 @@
 use Prim.Native.Nat.{ℕ}
 use Rattle.text.specs.Bytes.{Text, bytes}
 use Rattle.text.specs.Lines.{read_number}
-use Rattle.text.specs.Token.{read_token}
+use Rattle.text.specs.TokenLine.{read_token}
 use Rattle.text.proofs.FaultLaws.{Faults, then_faults, many_faults, number_faults, token_faults}
 use Rattle.marking.specs.Held.{Sizes}
 use Rattle.marking.specs.Reading.{Limits, read_net_token, read_block}

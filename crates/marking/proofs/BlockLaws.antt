@@ -21,12 +21,13 @@ use Rattle.text_reader.specs.Place.{Reads}
 use Rattle.text_reader.specs.declared.Reader.{Reader}
 use Rattle.text_reader.proofs.ReadsLaws.{itself, plainly, read_of, refused_of, first_refused, followed, passes, fails}
 use Rattle.marking.specs.Answers.{hold_line, hold_block}
-use Rattle.text.specs.Token.{Token, read_token, right_token}
+use Rattle.text.specs.Token.{Token}
+use Rattle.text.specs.TokenLine.{read_token, right_token}
 use Rattle.text.specs.declared.Fault.{Fault}
 use Rattle.text.proofs.TestLaws.{within-is}
 use Rattle.text.proofs.Exactly.{got-is}
 use Rattle.text.proofs.LinesExactly.{number_exactly}
-use Rattle.text.proofs.TokenExactly.{token_exactly}
+use Rattle.text.proofs.LinesExactly.{token_exactly}
 use Rattle.eos.specs.Multiset as M
 use Rattle.eos.specs.Model as eos
 use Rattle.eos.proofs.OrderLaws.{insert-sorted}

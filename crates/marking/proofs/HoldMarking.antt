@@ -10,7 +10,7 @@ use lib.Dec.{leb}
 use lib.ListN.{length, take, drop, length-map, length-take}
 use borrow.Author.Tests.{leb-true, le-leb, eq-eqb}
 use Rattle.text.specs.Lines.{every, in_range}
-use Rattle.text.specs.Token.{right_token}
+use Rattle.text.specs.TokenLine.{right_token}
 use Rattle.text.specs.Answers.{padded}
 use Rattle.text.proofs.Basics.{and_true}
 use Rattle.text.proofs.TestLaws.{and_both, eqb_and, within-is}

@@ -3,7 +3,8 @@
 use Rattle.std.specs.Prelude.{ℕ, suc, ◌-◌, Bool, true, ◌&&◌, leb, length}
 use Rattle.text.specs.Bytes.{Text, bytes}
 use Rattle.text.specs.Lines.{Outcome, got, then, many, every, read_number}
-use Rattle.text.specs.Token.{Token, read_token, right_token}
+use Rattle.text.specs.Token.{Token}
+use Rattle.text.specs.TokenLine.{read_token, right_token}
 use Rattle.eos.specs.Model as eos
 use Rattle.marking.specs.Held.{Sizes}
 

@@ -8,13 +8,13 @@ ghost use Rattle.text.specs.Answers.{kept, padded};
 ghost use Rattle.text_reader.specs.Place.{Reads, lent};
 ghost use Rattle.model.specs.Held.{row, tabled, hold_event, no_event, no_net};
 ghost use Rattle.model.specs.Test.{frame_in};
-ghost use Rattle.model_text.specs.Reading.{read_idle, read_move, read_act, read_sync, read_event};
+ghost use Rattle.model_text.specs.Reading.{read_act, read_sync, read_event};
 ghost use Rattle.model_text.specs.Answers.{Fitting, hold_act, with_events};
 
 use model::{Act, Event, Model, ObjectNet};
 use model_acts::own_net;
 use model_rules::takes_part;
-use text::{Cause, Fault};
+use text::{Cause, Fault, Keyed};
 use text_reader::Reader;
 use text_scan::fault_at;
 
@@ -34,37 +34,25 @@ struct Frame<'a> {
 }
 
 impl Frame<'_> {
-    // The line of an event that idles at a place, which is no place of black tokens.
-    fn idle(&self, r: &mut Reader) -> Result<Act, Fault>
-        ensures { Reads (kept hold_act (read_idle (frame_in self.now.model.now) r.old.src.now r.old.at)) r.old r.new result }
-    {
-        let m = self.model;
-        let line = r.at;
-        // At most 32 places: there is no refusal to hand on.
-        let place = usize::from(r.number(b"idle=", 1, m.places as u16)?) - 1;
-        if m.types[place] == 0 {
-            return Err(fault_at(Cause::Idling, line));
-        }
-        Ok(Act::Idle { place })
-    }
-
-    // The line of an event that is a move.
-    fn moving(&self, r: &mut Reader) -> Result<Act, Fault>
-        ensures { Reads (kept hold_act (read_move (frame_in self.now.model.now) r.old.src.now r.old.at)) r.old r.new result }
-    {
-        // At most 32 moves, as above.
-        let index = usize::from(r.number(b"event=", 1, self.model.moves as u16)?) - 1;
-        Ok(Act::Move { index })
-    }
-
-    // The first line of an event.
+    // The first line of an event: a move, or a place that is no place of black tokens.
     fn act(&self, r: &mut Reader) -> Result<Act, Fault>
         ensures { Reads (kept hold_act (read_act (frame_in self.now.model.now) r.old.src.now r.old.at)) r.old r.new result }
     {
-        if r.starts(b"idle=") {
-            return self.idle(r);
+        let m = self.model;
+        let line = r.at;
+        // At most 32 moves, and as many places: there is no refusal to hand on.
+        match r.keyed(b"event=", m.moves as u16, b"idle=", m.places as u16)? {
+            Keyed::Former(number) => Ok(Act::Move {
+                index: usize::from(number) - 1,
+            }),
+            Keyed::Latter(number) => {
+                let place = usize::from(number) - 1;
+                if m.types[place] == 0 {
+                    return Err(fault_at(Cause::Idling, line, line));
+                }
+                Ok(Act::Idle { place })
+            }
         }
-        self.moving(r)
     }
 
     // The line of the counts of net n, where the event idles in net `own`, from 1, or is a move: a fault where that net does not take
@@ -76,7 +64,7 @@ impl Frame<'_> {
         let line = r.at;
         let counts = r.list(b"sync=", transitions(&self.model.objects, n), Model::ARC)?;
         if !takes_part(own, n, &counts) {
-            return Err(fault_at(Cause::Idling, line));
+            return Err(fault_at(Cause::Idling, line, line));
         }
         Ok(counts)
     }

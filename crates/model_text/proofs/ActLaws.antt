@@ -1,17 +1,18 @@
--- The first line of an event: which of its two forms stands there, how it is read, and what an act that is read keeps to.
-use Prim.Native.Nat.{ℕ, pred, ◌-◌, ◌≤◌}
-use mathlib.Core.Path.{◌≡◌, refl, sym, ◌∙◌}
+-- The first line of an event: how it is read, and what an act that is read keeps to.
+use Prim.Native.Nat.{ℕ, suc, pred, ◌-◌, ◌≤◌}
+use mathlib.Core.Path.{◌≡◌, refl}
 use borrow.Author.Tests.{le-leb}
 use Rattle.std.specs.Prelude.{Result}
 use Rattle.std.specs.declared.result.Result.TheVariants.{Ok, Err}
-use mathlib.Core.Bool.{true, false}
+use mathlib.Core.Bool.{true}
 use native.Mathlib.Omega.{arith}
 use native.Mathlib.Numerals.{sub-one}
-use lib.Dec.{leb}
-use lib.ListN.{drop}
-use Rattle.text.specs.Bytes.{Text, bytes, starts}
-use Rattle.text.proofs.Basics.{by_test}
-use Rattle.text.specs.Lines.{Outcome, got, fault, need, in_range, read_number}
+use Rattle.text.specs.Bytes.{Text, bytes}
+use Rattle.text.proofs.TestLaws.{within-is}
+use Rattle.text.specs.Lines.{Outcome, got, fault, need, in_range}
+use Rattle.text.specs.Keyed.{read_keyed}
+use Rattle.text.specs.declared.Keyed.{Keyed}
+use Rattle.text.specs.declared.Keyed.TheVariants.{Former, Latter}
 use Rattle.text.specs.Answers.{kept}
 use Rattle.text.specs.declared.Fault.{Fault}
 use Rattle.text.proofs.LineLaws.{need_met, need_unmet}
@@ -26,90 +27,68 @@ use Rattle.model.specs.Acts.{index_of}
 use Rattle.model.specs.declared.Act as held
 use Rattle.model.specs.declared.Act.TheVariants.{Move, Idle}
 use Rattle.model_text.specs.Answers.{hold_act}
-use Rattle.model_text.specs.Reading.{read_idle, read_move, read_act}
-use Rattle.model_text.proofs.LineAnswers.{number_in}
+use Rattle.model_text.specs.Reading.{act_of_line, idles_well, read_act}
+use Rattle.model_text.proofs.EventExactly.{act_ranged, act_line}
 
-module _ (f : Frame) (s : Text) (at : ℕ) where
-  pub act-idle : starts (bytes "idle=") (drop at s) ≡ true → read_act f s at ≡ read_idle f s at
-  unfolding read_act
-  act-idle e = rw (e, read_act)
-
-  pub act-move : starts (bytes "idle=") (drop at s) ≡ false → read_act f s at ≡ read_move f s at
-  unfolding read_act
-  act-move e = rw (e, read_act)
+few : (n k : ℕ) → n ≤ 32 → in_range 1 n k ≡ true → suc (pred k) ≤ 32
+few n k most h = let p = within-is 1 n k h in omega (arith, p.0, p.1, sub-one k)
 
 -- an act that is read is of a place or a move of the frame
-module _ (f : Frame) (places : f.places ≤ 32) (moves : f.moves ≤ 32) (s : Text) (at : ℕ) (a : Act) (next : ℕ) where
-  idle-few : read_idle f s at ≡ got a next → index_of a ≤ 32
-  unfolding read_idle
-  idle-few e =
-      let p = then-got (read_number (bytes "idle=") (in_range 1 f.places) s at) _ a next e in
-      let q = need-got (leb 1 (f.type (pred p.value))) Idling at (got (idle (pred p.value)) p.next) a next p.rest in
-      let k = got-is q.1 in
-      let n = number_in (bytes "idle=") 1 f.places s at p.value p.next p.first in
-      rw (← k.0) (omega (arith, n.0, n.1, sub-one p.value))
+module _ (f : Frame) (places : f.places ≤ 32) (moves : f.moves ≤ 32) (s : Text) (at : ℕ) where
+  line-few : (a : Keyed) → act_ranged f s a ≡ true → index_of (act_of_line a) ≤ 32
+  line-few (Former k) h = few f.moves k moves h
+  line-few (Latter p) h = few f.places p places h
 
-  move-few : read_move f s at ≡ got a next → index_of a ≤ 32
-  unfolding read_move
-  move-few e =
-      let p = then-got (read_number (bytes "event=") (in_range 1 f.moves) s at) _ a next e in
-      let k = got-is p.rest in
-      let n = number_in (bytes "event=") 1 f.moves s at p.value p.next p.first in
-      rw (← k.0) (omega (arith, n.0, n.1, sub-one p.value))
-
-  pub act-few : read_act f s at ≡ got a next → index_of a ≤ 32
-  act-few e =
-      by_test (starts (bytes "idle=") (drop at s))
-      (λ h. idle-few (sym (act-idle f s at h) ∙ e))
-      (λ h. move-few (sym (act-move f s at h) ∙ e))
+  pub act-few : (a : Act) (next : ℕ) → read_act f s at ≡ got a next → index_of a ≤ 32
+  unfolding read_act
+  act-few a next e =
+      let p = then-got (read_keyed (bytes "event=") (bytes "idle=") (in_range 1 f.moves) (in_range 1 f.places) s at) _ a next e in
+      let q = need-got (idles_well f p.value) Idling at (got (act_of_line p.value) p.next) a next p.rest in
+      rw (← (got-is q.1).0) (line-few p.value ((act_line f s).back at p.value p.next p.first).fine-is)
 
 -- ---- the line read
 
 module _ (f : Frame) (old : Reader) where
-  abbrev place : Outcome ℕ
-  place = read_number (bytes "idle=") (in_range 1 f.places) old.src.now old.at
+  abbrev pub line : Outcome Keyed
+  line = read_keyed (bytes "event=") (bytes "idle=") (in_range 1 f.moves) (in_range 1 f.places) old.src.now old.at
 
-  abbrev judge : ℕ → ℕ → Outcome Act
-  judge p x = need (leb 1 (f.type (pred p))) Idling old.at (got (idle (pred p)) x)
+  abbrev judge : Keyed → ℕ → Outcome Act
+  judge a x = need (idles_well f a) Idling old.at (got (act_of_line a) x)
 
-  pub idle_refused : {new : Reader} (e : Fault) → Reads place old new (Err e) → Reads (kept hold_act (read_idle f old.src.now old.at)) old new (Err e)
-  unfolding read_idle
-  idle_refused e k = first_refused itself hold_act place (λ _. judge) e (plainly k)
+  abbrev whole : Outcome Act
+  whole = read_act f old.src.now old.at
 
-  module _ {new : Reader} (p : ℕ) (read : Reads place old new (Ok p)) where
-    -- the place is one of the model's
-    pub idle_in : (1 ≤ p) × (p ≤ f.places)
-    idle_in = let q = read_of itself place p (plainly read) in rw q.held (number_in (bytes "idle=") 1 f.places old.src.now old.at q.value new.at q.is)
+  pub line_refused : {new : Reader} (e : Fault) → Reads line old new (Err e) → Reads (kept hold_act whole) old new (Err e)
+  unfolding read_act
+  line_refused e k = first_refused itself hold_act line (λ _. judge) e (plainly k)
 
-    judged : (r : Result held.Act Fault) → Reads (kept hold_act (judge p new.at)) new new r → Reads (kept hold_act (read_idle f old.src.now old.at)) old new r
-    unfolding read_idle
-    judged r k = followed itself hold_act place (λ _. judge) p r (plainly read) (λ v is same. rw (← same) k)
+  module _ {new : Reader} where
+    judged : (a : Keyed) → Reads line old new (Ok a) → (r : Result held.Act Fault) → Reads (kept hold_act (judge a new.at)) new new r → Reads (kept hold_act whole) old new r
+    unfolding read_act
+    judged a read r k = followed itself hold_act line (λ _. judge) a r (plainly read) (λ v is same. rw (← same) k)
 
-    pub idle_black : f.type (p - 1) ≡ 0 → Reads (kept hold_act (read_idle f old.src.now old.at)) old new (Err (fault Idling old.at))
-    idle_black h = judged _ (fails hold_act _ _ (need_unmet _ _ _ _ (rw (← sub-one p, h) refl)) refl)
+    -- what is read is in its range
+    ranged : (a : Keyed) → Reads line old new (Ok a) → act_ranged f old.src.now a ≡ true
+    ranged a read = let q = read_of itself line a (plainly read) in rw q.held ((act_line f old.src.now).back old.at q.value new.at q.is).fine-is
 
-    pub idle_read : (f.type (p - 1) ≡ 0 → ⊥) → Reads (kept hold_act (read_idle f old.src.now old.at)) old new (Ok (Idle (p - 1)))
-    idle_read h =
-        judged _
-        (rw (sub-one p)
-        (passes hold_act (judge p new.at) (idle (pred p)) (need_met _ _ _ _ (le-leb 1 (f.type (pred p)) (omega (arith, rw (sub-one p) at h)))) refl))
+    -- the line of a move
+    module _ (k : ℕ) (read : Reads line old new (Ok (Former k))) where
+      pub move_in : (1 ≤ k) × (k ≤ f.moves)
+      move_in = within-is 1 f.moves k (ranged (Former k) read)
 
-  abbrev index : Outcome ℕ
-  index = read_number (bytes "event=") (in_range 1 f.moves) old.src.now old.at
+      pub move_read : Reads (kept hold_act whole) old new (Ok (Move (k - 1)))
+      move_read = judged (Former k) read _ (rw (sub-one k) (passes hold_act (judge (Former k) new.at) (move (pred k)) (need_met _ _ _ _ refl) refl))
 
-  abbrev make : ℕ → ℕ → Outcome Act
-  make k x = got (move (pred k)) x
+    -- the line of a place, which is one of the model's
+    module _ (p : ℕ) (read : Reads line old new (Ok (Latter p))) where
+      pub idle_in : (1 ≤ p) × (p ≤ f.places)
+      idle_in = within-is 1 f.places p (ranged (Latter p) read)
 
-  pub move_refused : {new : Reader} (e : Fault) → Reads index old new (Err e) → Reads (kept hold_act (read_move f old.src.now old.at)) old new (Err e)
-  unfolding read_move
-  move_refused e k = first_refused itself hold_act index (λ _. make) e (plainly k)
+      pub idle_black : f.type (p - 1) ≡ 0 → Reads (kept hold_act whole) old new (Err (fault Idling old.at))
+      idle_black h = judged (Latter p) read _ (fails hold_act _ _ (need_unmet _ _ _ _ (rw (← sub-one p, h) refl)) refl)
 
-  module _ {new : Reader} (k : ℕ) (read : Reads index old new (Ok k)) where
-    pub move_in : (1 ≤ k) × (k ≤ f.moves)
-    move_in = let q = read_of itself index k (plainly read) in rw q.held (number_in (bytes "event=") 1 f.moves old.src.now old.at q.value new.at q.is)
-
-    pub move_read : Reads (kept hold_act (read_move f old.src.now old.at)) old new (Ok (Move (k - 1)))
-    unfolding read_move
-    move_read =
-        followed itself hold_act index (λ _. make) k _ (plainly read)
-        (λ v is same. rw (same, sub-one v) (passes hold_act (make v new.at) (move (pred v)) refl refl))
+      pub idle_read : (f.type (p - 1) ≡ 0 → ⊥) → Reads (kept hold_act whole) old new (Ok (Idle (p - 1)))
+      idle_read h =
+          judged (Latter p) read _
+          (rw (sub-one p)
+          (passes hold_act (judge (Latter p) new.at) (idle (pred p)) (need_met _ _ _ _ (le-leb 1 (f.type (pred p)) (omega (arith, rw (sub-one p) at h)))) refl))

@@ -1,119 +1,54 @@
 -- With which faults the lines of an event are refused.
 use Prim.Native.Nat.{ℕ, pred, ◌+◌, ◌<◌}
-use mathlib.Core.Path.{◌≡◌, refl, sym, ◌∙◌, subst}
-use mathlib.Core.Bool.{Bool, true, false, true≢false}
+use mathlib.Core.Path.{◌≡◌, sym, ◌∙◌}
+use mathlib.Core.Bool.{true, true≢false}
 use mathlib.Core.Logic.{◌↔◌, ◌⊎◌, inl, inr, ⊎_elim}
 use mathlib.Core.List.{List}
 use native.Mathlib.Omega.{arith}
 use native.Mathlib.Nat.{zero-add}
 use borrow.Author.Tests.{leb-false}
-use lib.Dec.{leb, eqb, lit<}
-use lib.ListN.{length, drop}
-use Rattle.text.specs.Bytes.{Text, bytes, starts}
-use Rattle.text.specs.Lines.{bad, fault, need, every, in_range}
+use lib.Dec.{eqb, lit<}
+use lib.ListN.{length}
+use Rattle.text.specs.Bytes.{Text, bytes}
+use Rattle.text.specs.Lines.{bad, fault_at, fault, every, in_range, out_at}
+use Rattle.text.specs.Keyed.{keyed_text, keyed_out}
+use Rattle.text.specs.declared.Keyed.{Keyed}
+use Rattle.text.specs.declared.Keyed.TheVariants.{Former, Latter}
 use Rattle.text.specs.Repeat.{every_at}
-use Rattle.text.specs.Printed.{number_text, list_text, texts}
+use Rattle.text.specs.Printed.{decimal, number_text, list_text, texts}
 use Rattle.text.specs.declared.Fault.{Fault}
-use Rattle.text.proofs.Basics.{by_test}
 use Rattle.text.proofs.Standing.{Stands, stands_left, stands_right, stands_join, ends_join}
-use Rattle.text.proofs.LinesExactly.{number_exactly, list_exactly}
-use Rattle.text.proofs.Refusals.{Refuses, Formless, Failing, LineFaults, RuledFaults, ThenFaults, ManyFaults, one_place, no_line_cause, made_refuses, ruled_refuses, then_refuses, many_at_refuses, ruled_two, ruled_three, ruled_why}
-use Rattle.text.proofs.LinesRefused.{ListFaults, number_refuses, list_refuses}
-use Rattle.eos.specs.Model.{Act, move, idle, Event}
+use Rattle.text.proofs.LinesExactly.{list_exactly}
+use Rattle.text.proofs.Refusals.{Refuses, Failing, Wrong, Beyond, LineFaults, RuledFaults, ThenFaults, ManyFaults, one_place, no_line_cause, made_refuses, ruled_refuses, then_refuses, many_at_refuses, ruled_two, ruled_three, ruled_why}
+use Rattle.text.proofs.LinesRefused.{ListFaults, keyed_refuses, list_refuses}
+use Rattle.eos.specs.Model.{Act, Event}
 use Rattle.model.specs.Rules.{byte, list_of, Frame, own_net, takes_part, right_act, right_sync}
 use Rattle.model.proofs.RuleFails.{PartFails, wrong_part}
-use Rattle.model_text.specs.Reading.{read_idle, read_move, read_act, read_sync, read_event}
+use Rattle.model_text.specs.Reading.{act_of_line, idles_well, read_act, read_sync, read_event}
 use Rattle.model_text.specs.Printed.{act_text, event_text}
-use Rattle.model_text.proofs.EventExactly.{act_exactly, sync_exactly}
+use Rattle.model_text.proofs.EventExactly.{unlike_keys, act_ranged, act_line, act_exactly, sync_exactly}
 use Rattle.text.specs.declared.Cause.TheVariants.{Syntax, Idling, Range}
 
 -- ---- the first line of an event
 
 -- as it is written: `event=` and a move, or `idle=` and a place, by numbers of any size
-pub data ActLine : Type 0 where
-  event_line : ℕ → ActLine
-  idle_line : ℕ → ActLine
+abbrev pub act_line_text : Keyed → Text
+act_line_text = keyed_text (bytes "event=") (bytes "idle=")
 
-unfoldable pub act_line_text : ActLine → Text
-act_line_text (event_line n) = number_text (bytes "event=") n
-act_line_text (idle_line n) = number_text (bytes "idle=") n
-
--- its range: the moves, or the places, from 1
-abbrev pub act_ranged : Frame → ActLine → Bool
-act_ranged f (event_line n) = in_range 1 f.moves n
-act_ranged f (idle_line n) = in_range 1 f.places n
-
--- its rule: no idling at a place of black tokens
-abbrev pub act_ruled : Frame → ActLine → Bool
-act_ruled f (event_line n) = true
-act_ruled f (idle_line n) = leb 1 (f.type (pred n))
+-- where its number begins
+abbrev pub act_out : ℕ → Keyed → ℕ
+act_out = keyed_out (bytes "event=") (bytes "idle=")
 
 -- the faults of the first line of an event
 abbrev pub ActFaults : Text → Frame → ℕ → Fault → Type 0
-ActFaults s f = RuledFaults s act_line_text (LineFaults s act_line_text (λ a. true) (act_ranged f)) (act_ranged f) (act_ruled f) Idling
+ActFaults s f = RuledFaults s act_line_text (LineFaults s act_line_text (λ a. true) (act_ranged f s) act_out) (act_ranged f s) (idles_well f) Idling
 
 module _ (f : Frame) (s : Text) where
-  -- those of a line of one key, which makes a line of a number
-  abbrev KeyFaults : (ℕ → ActLine) → ℕ → Fault → Type 0
-  KeyFaults key =
-      RuledFaults s (λ n. act_line_text (key n)) (LineFaults s (λ n. act_line_text (key n)) (λ n. true) (λ n. act_ranged f (key n))) (λ n. act_ranged f (key n)) (λ n. act_ruled f (key n)) Idling
-
-  idle_refuses : Refuses (read_idle f s) (KeyFaults idle_line)
-  unfolding read_idle act_line_text
-  idle_refuses =
-      ruled_refuses (number_exactly (bytes "idle=") (in_range 1 f.places) s) (number_refuses (bytes "idle=") (in_range 1 f.places) s)
-      (λ p. leb 1 (f.type (pred p))) Idling (λ p. idle (pred p))
-
-  move_refuses : Refuses (read_move f s) (KeyFaults event_line)
-  unfolding read_move need act_line_text
-  move_refuses =
-      ruled_refuses (number_exactly (bytes "event=") (in_range 1 f.moves) s) (number_refuses (bytes "event=") (in_range 1 f.moves) s)
-      (λ k. true) Idling (λ k. move (pred k))
-
-  -- where only lines of one key can stand, the faults are those of that key
-  module _ (key : ℕ → ActLine) (at : ℕ) (alone : (a : ActLine) → Stands s at (act_line_text a) → (n : ℕ) × (a ≡ key n)) (e : Fault) where
-    to_key : ActFaults s f at e → KeyFaults key at e
-    to_key =
-        ⊎_elim
-        (⊎_elim (λ k. inl (inl (k.0, λ n st h. k.1 (key n) st refl))) (λ k. inl (inr (k.0, failing (λ a. true) (act_ranged f) k.1))))
-        (λ k. inr (k.0, failing (act_ranged f) (act_ruled f) k.1))
-      where
-        failing : (fine test : ActLine → Bool) → Failing s act_line_text fine test at → Failing s (λ n. act_line_text (key n)) (λ n. fine (key n)) (λ n. test (key n)) at
-        failing fine test h =
-            let w = alone h.0 h.1 in
-            (w.0, subst (λ a. Stands s at (act_line_text a)) w.1 h.1, subst (λ a. fine a ≡ true) w.1 h.2, subst (λ a. test a ≡ false) w.1 h.3)
-
-    of_key : KeyFaults key at e → ActFaults s f at e
-    of_key =
-        ⊎_elim
-        (⊎_elim
-        (λ k. inl (inl (k.0, λ a st h. let w = alone a st in k.1 w.0 (subst (λ a. Stands s at (act_line_text a)) w.1 st) refl)))
-        (λ k. let v = k.1 in inl (inr (k.0, (key v.0, v.1, v.2, v.3)))))
-        (λ k. let v = k.1 in inr (k.0, (key v.0, v.1, v.2, v.3)))
-
-  module _ (at : ℕ) where
-    idles_alone : starts (bytes "idle=") (drop at s) ≡ true → (a : ActLine) → Stands s at (act_line_text a) → (n : ℕ) × (a ≡ idle_line n)
-    unfolding act_line_text number_text starts
-    idles_alone h (idle_line n) st = (n, refl)
-    idles_alone h (event_line n) st = let j : starts (bytes "idle=") (drop at s) ≡ false = rw st in absurd (true≢false (sym h ∙ j))
-
-    moves_alone : starts (bytes "idle=") (drop at s) ≡ false → (a : ActLine) → Stands s at (act_line_text a) → (n : ℕ) × (a ≡ event_line n)
-    unfolding act_line_text number_text starts
-    moves_alone h (event_line n) st = (n, refl)
-    moves_alone h (idle_line n) st = let j : starts (bytes "idle=") (drop at s) ≡ true = rw st in absurd (true≢false (sym j ∙ h))
-
   pub act_refuses : Refuses (read_act f s) (ActFaults s f)
   unfolding read_act
-  act_refuses = record {
-    back = λ at e h.
-        by_test (starts (bytes "idle=") (drop at s))
-        (λ k. of_key idle_line at (idles_alone at k) e (idle_refuses.back at e (rw (k, read_act) at h)))
-        (λ k. of_key event_line at (moves_alone at k) e (move_refuses.back at e (rw (k, read_act) at h)));
-    forth = λ at e h.
-        by_test (starts (bytes "idle=") (drop at s))
-        (λ k. rw (k, read_act) (idle_refuses.forth at e (to_key idle_line at (idles_alone at k) e h)))
-        (λ k. rw (k, read_act) (move_refuses.forth at e (to_key event_line at (moves_alone at k) e h)));
-  }
+  act_refuses =
+      ruled_refuses (act_line f s) (keyed_refuses 101 105 (bytes "vent=") (bytes "dle=") unlike_keys (in_range 1 f.moves) (in_range 1 f.places) s)
+      (idles_well f) Idling act_of_line
 
 -- ---- the counts of a net, and the event
 
@@ -144,30 +79,33 @@ module _ (f : Frame) (s : Text) where
 -- ---- a cause by its number
 
 module _ (f : Frame) (s : Text) (at : ℕ) where
-  -- the first line of an event is 2 exactly where no such line stands there, whatever its number
-  pub act_two : (read_act f s at ≡ bad (fault Syntax at)) ↔ Formless s act_line_text (λ a. true) at
-  act_two = ruled_two s (read_act f s) act_line_text (λ a. true) (act_ranged f) (act_ranged f) (act_ruled f) Idling (lit< tt) (act_refuses f s) at
+  -- the first line of an event is 2 at b exactly where no such line stands there, whatever its number, and b is the byte at fault
+  pub act_two : (b : ℕ) → (read_act f s at ≡ bad (fault_at Syntax at b)) ↔ Wrong s act_line_text (λ a. true) at b
+  act_two = ruled_two s (read_act f s) act_line_text (λ a. true) (act_ranged f s) act_out (act_ranged f s) (idles_well f) Idling (lit< tt) (act_refuses f s) at
 
-  -- 3 exactly where one does whose number is that of no move, or of no place
-  pub act_three : (read_act f s at ≡ bad (fault Range at)) ↔ Failing s act_line_text (λ a. true) (act_ranged f) at
-  act_three = ruled_three s (read_act f s) act_line_text (λ a. true) (act_ranged f) (act_ranged f) (act_ruled f) Idling (lit< tt) (act_refuses f s) at
+  -- 3 at b exactly where one does whose number, which begins at b, is that of no move, or of no place
+  pub act_three : (b : ℕ) → (read_act f s at ≡ bad (fault_at Range at b)) ↔ Beyond s act_line_text (λ a. true) (act_ranged f s) act_out at b
+  act_three = ruled_three s (read_act f s) act_line_text (λ a. true) (act_ranged f s) act_out (act_ranged f s) (idles_well f) Idling (lit< tt) (act_refuses f s) at
 
   -- 5 exactly where one in range idles at a place of black tokens
-  pub act_five : (read_act f s at ≡ bad (fault Idling at)) ↔ Failing s act_line_text (act_ranged f) (act_ruled f) at
-  act_five = ruled_why s (read_act f s) act_line_text (λ a. true) (act_ranged f) (act_ranged f) (act_ruled f) Idling (lit< tt) (act_refuses f s) at
+  pub act_five : (read_act f s at ≡ bad (fault Idling at)) ↔ Failing s act_line_text (act_ranged f s) (idles_well f) at
+  act_five = ruled_why s (read_act f s) act_line_text (λ a. true) (act_ranged f s) act_out (act_ranged f s) (idles_well f) Idling (lit< tt) (act_refuses f s) at
 
   module _ (own n : ℕ) where
-    -- the counts of net n are 2 exactly where no list of as many numbers stands there as the net has transitions
-    pub sync_two : (read_sync f own s n at ≡ bad (fault Syntax at)) ↔ Formless s (list_text (bytes "sync=")) (λ v. eqb (length v) (f.steps n)) at
-    sync_two = ruled_two s (read_sync f own s n) (list_text (bytes "sync=")) _ (every byte) (list_of (f.steps n) byte) (takes_part own n) Idling (lit< tt) (sync_refuses f s own n) at
+    abbrev sync_out : ℕ → List ℕ → ℕ
+    sync_out at = out_at decimal byte (at + length (bytes "sync="))
 
-    -- 3 exactly where one does that has a number over 255
-    pub sync_three : (read_sync f own s n at ≡ bad (fault Range at)) ↔ Failing s (list_text (bytes "sync=")) (λ v. eqb (length v) (f.steps n)) (every byte) at
-    sync_three = ruled_three s (read_sync f own s n) (list_text (bytes "sync=")) _ (every byte) (list_of (f.steps n) byte) (takes_part own n) Idling (lit< tt) (sync_refuses f s own n) at
+    -- the counts of net n are 2 at b exactly where no list of as many numbers stands there as the net has transitions, and b is the byte at fault
+    pub sync_two : (b : ℕ) → (read_sync f own s n at ≡ bad (fault_at Syntax at b)) ↔ Wrong s (list_text (bytes "sync=")) (λ v. eqb (length v) (f.steps n)) at b
+    sync_two = ruled_two s (read_sync f own s n) (list_text (bytes "sync=")) _ (every byte) sync_out (list_of (f.steps n) byte) (takes_part own n) Idling (lit< tt) (sync_refuses f s own n) at
+
+    -- 3 at b exactly where one does whose first number over 255 begins at b
+    pub sync_three : (b : ℕ) → (read_sync f own s n at ≡ bad (fault_at Range at b)) ↔ Beyond s (list_text (bytes "sync=")) (λ v. eqb (length v) (f.steps n)) (every byte) sync_out at b
+    sync_three = ruled_three s (read_sync f own s n) (list_text (bytes "sync=")) _ (every byte) sync_out (list_of (f.steps n) byte) (takes_part own n) Idling (lit< tt) (sync_refuses f s own n) at
 
     -- 5 exactly where one in range takes part and should not, or should and does not
     pub sync_five : (read_sync f own s n at ≡ bad (fault Idling at)) ↔ Failing s (list_text (bytes "sync=")) (list_of (f.steps n) byte) (takes_part own n) at
-    sync_five = ruled_why s (read_sync f own s n) (list_text (bytes "sync=")) _ (every byte) (list_of (f.steps n) byte) (takes_part own n) Idling (lit< tt) (sync_refuses f s own n) at
+    sync_five = ruled_why s (read_sync f own s n) (list_text (bytes "sync=")) _ (every byte) sync_out (list_of (f.steps n) byte) (takes_part own n) Idling (lit< tt) (sync_refuses f s own n) at
 
 -- an event that idles at a place of black tokens stands there
 pub record IdlesBlack (f : Frame) (s : Text) (at : ℕ) : Type 0 where
@@ -191,10 +129,9 @@ pub record WrongPart (f : Frame) (s : Text) (at x : ℕ) : Type 0 where
   pub wrong : PartFails (own_net f.type event.act) (length event.sync) counts
 
 module _ (f : Frame) (s : Text) (at x : ℕ) where
-  act_part : Failing s act_line_text (act_ranged f) (act_ruled f) at → IdlesBlack f s at
-  unfolding act_line_text
-  act_part (event_line n, st, li, ty) = absurd (true≢false ty)
-  act_part (idle_line n, st, li, ty) = let b = leb-false 1 (f.type (pred n)) ty in record { place = n; stands = st; in-range = li; black = omega (arith, b) }
+  act_part : Failing s act_line_text (act_ranged f s) (idles_well f) at → IdlesBlack f s at
+  act_part (Former n, st, li, ty) = absurd (true≢false ty)
+  act_part (Latter n, st, li, ty) = let b = leb-false 1 (f.type (pred n)) ty in record { place = n; stands = st; in-range = li; black = omega (arith, b) }
 
   sync_part : (a : Act) → Stands s at (act_text a) → right_act f a ≡ true
       → ManyFaults s (list_text (bytes "sync=")) (SyncFaults s f (own_net f.type a)) (right_sync f (own_net f.type a)) 0 f.nets (at + length (act_text a)) (fault Idling x)
@@ -218,7 +155,7 @@ module _ (f : Frame) (s : Text) (at x : ℕ) where
 
   -- the lines of an event are 5 exactly where it idles at a place of black tokens, there, or has the wrong part, at x
   pub event_five : (read_event f s at ≡ bad (fault Idling x)) ↔ (((x ≡ at) × IdlesBlack f s at) ⊎ WrongPart f s at x)
-  unfolding event_text act_line_text
+  unfolding event_text
   event_five = (
     λ h.
         ⊎_elim
@@ -230,7 +167,7 @@ module _ (f : Frame) (s : Text) (at x : ℕ) where
         (⊎_elim
         (λ k.
         let b = k.1 in
-        inl (inr (rw k.0, (idle_line b.place, b.stands, b.in-range, rw b.black))))
+        inl (inr (rw k.0, (Latter b.place, b.stands, b.in-range, rw b.black))))
         (λ w.
         let a = w.event.act in
         let l = w.event.sync in

@@ -1,23 +1,24 @@
 -- The lines of a model are refused with 2, 3 or 5 alone.
-use Prim.Native.Nat.{ℕ, pred}
+use Prim.Native.Nat.{ℕ}
 use lib.Dec.{leb}
-use lib.ListN.{drop}
-use Rattle.text.specs.Bytes.{Text, bytes, starts}
+use Rattle.text.specs.Bytes.{Text, bytes}
+use Rattle.text.specs.Number.{number}
+use Rattle.text.specs.Printed.{decimal}
+use Rattle.text.specs.Keyed.{read_keyed}
 use Rattle.text.specs.Lines.{many, in_range, read_number, read_list, read_head}
 use Rattle.text.specs.Repeat.{many_at}
-use Rattle.text.proofs.Basics.{by_test}
-use Rattle.text.proofs.FaultLaws.{Faults, then_faults, need_faults, many_faults, many_at_faults, head_faults, number_faults, list_faults}
+use Rattle.text.proofs.FaultLaws.{Faults, then_faults, need_faults, many_faults, many_at_faults, head_faults, number_faults, row_faults, keyed_faults}
 use Rattle.model.specs.Rules.{byte, Frame, frame_of, own_net, takes_part}
-use Rattle.model_text.specs.Reading.{read_sides, read_net, read_idle, read_move, read_act, read_sync, read_event, eventless, read_plant}
+use Rattle.model_text.specs.Reading.{read_sides, read_net, idles_well, read_act, read_sync, read_event, eventless, read_plant}
 use Rattle.text.specs.declared.Cause.TheVariants.{Idling}
 
 module _ (P : ℕ → Type 0) (two : P 2) (three : P 3) (five : P 5) (s : Text) where
   sides_faults : (size at : ℕ) → Faults P (read_sides size s at)
   unfolding read_sides
   sides_faults size at =
-      then_faults P (read_list (bytes "pre=") size byte s at) _ (list_faults P two three (bytes "pre=") size byte s at)
+      then_faults P (read_list (bytes "pre=") size byte s at) _ (row_faults P two three number decimal (bytes "pre=") size byte s at)
       (λ p x₁.
-      then_faults P (read_list (bytes "post=") size byte s x₁) _ (list_faults P two three (bytes "post=") size byte s x₁)
+      then_faults P (read_list (bytes "post=") size byte s x₁) _ (row_faults P two three number decimal (bytes "post=") size byte s x₁)
       (λ q x₂. tt))
 
   net_faults : (at : ℕ) → Faults P (read_net s at)
@@ -30,27 +31,17 @@ module _ (P : ℕ → Type 0) (two : P 2) (three : P 3) (five : P 5) (s : Text) 
       then_faults P (many (read_sides size s) n x₂) _ (many_faults P (read_sides size s) (sides_faults size) n x₂) (λ ts x₃. tt)))
 
   module _ (f : Frame) where
-    idle_faults : (at : ℕ) → Faults P (read_idle f s at)
-    unfolding read_idle
-    idle_faults at =
-        then_faults P (read_number (bytes "idle=") (in_range 1 f.places) s at) _ (number_faults P two three (bytes "idle=") (in_range 1 f.places) s at)
-        (λ p x. need_faults P (leb 1 (f.type (pred p))) Idling at _ five tt)
-
-    move_faults : (at : ℕ) → Faults P (read_move f s at)
-    unfolding read_move
-    move_faults at =
-        then_faults P (read_number (bytes "event=") (in_range 1 f.moves) s at) _ (number_faults P two three (bytes "event=") (in_range 1 f.moves) s at)
-        (λ k x. tt)
-
     act_faults : (at : ℕ) → Faults P (read_act f s at)
     unfolding read_act
     act_faults at =
-        by_test (starts (bytes "idle=") (drop at s)) (λ h. rw (h, read_act) (idle_faults at)) (λ h. rw (h, read_act) (move_faults at))
+        then_faults P (read_keyed (bytes "event=") (bytes "idle=") (in_range 1 f.moves) (in_range 1 f.places) s at) _
+        (keyed_faults P two three (bytes "event=") (bytes "idle=") (in_range 1 f.moves) (in_range 1 f.places) s at)
+        (λ a x. need_faults P (idles_well f a) Idling at _ five tt)
 
     sync_faults : (own n at : ℕ) → Faults P (read_sync f own s n at)
     unfolding read_sync
     sync_faults own n at =
-        then_faults P (read_list (bytes "sync=") (f.steps n) byte s at) _ (list_faults P two three (bytes "sync=") (f.steps n) byte s at)
+        then_faults P (read_list (bytes "sync=") (f.steps n) byte s at) _ (row_faults P two three number decimal (bytes "sync=") (f.steps n) byte s at)
         (λ v x. need_faults P (takes_part own n v) Idling at _ five tt)
 
     event_faults : (at : ℕ) → Faults P (read_event f s at)
@@ -68,7 +59,7 @@ module _ (P : ℕ → Type 0) (two : P 2) (three : P 3) (five : P 5) (s : Text) 
       then_faults P (read_head (bytes "eos=1\n") s at) _ (head_faults P two (bytes "eos=1\n") s at)
       (λ _ x₁. then_faults P (read_number (bytes "nets=") (in_range 0 8) s x₁) _ (line (bytes "nets=") (in_range 0 8) s x₁)
       (λ n x₂. then_faults P (read_number (bytes "places=") (in_range 1 32) s x₂) _ (line (bytes "places=") (in_range 1 32) s x₂)
-      (λ p x₃. then_faults P (read_list (bytes "type=") p (λ d. leb d n) s x₃) _ (list_faults P two three (bytes "type=") p (λ d. leb d n) s x₃)
+      (λ p x₃. then_faults P (read_list (bytes "type=") p (λ d. leb d n) s x₃) _ (row_faults P two three number decimal (bytes "type=") p (λ d. leb d n) s x₃)
       (λ types x₄. then_faults P (read_number (bytes "moves=") (in_range 0 32) s x₄) _ (line (bytes "moves=") (in_range 0 32) s x₄)
       (λ k x₅.
       then_faults P (many (read_sides p s) k x₅) _ (many_faults P (read_sides p s) (sides_faults p) k x₅)

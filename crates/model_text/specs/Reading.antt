@@ -1,8 +1,11 @@
 -- What a model's text says, up to its `start` line.
-use Rattle.std.specs.Prelude.{ℕ, pred, true, false, List, [], leb, drop}
-use Rattle.text.specs.Bytes.{Text, bytes, starts}
+use Rattle.std.specs.Prelude.{ℕ, pred, Bool, true, List, [], leb}
+use Rattle.text.specs.Bytes.{Text, bytes}
 use Rattle.text.specs.Lines.{Outcome, got, then, need, many, in_range, read_number, read_list, read_head}
+use Rattle.text.specs.Keyed.{read_keyed}
 use Rattle.text.specs.Repeat.{many_at}
+use Rattle.text.specs.declared.Keyed.{Keyed}
+use Rattle.text.specs.declared.Keyed.TheVariants.{Former, Latter}
 use Rattle.eos.specs.Model.{Transition, ObjectNet, Act, move, idle, Event, Model}
 use Rattle.model.specs.Rules.{byte, Frame, frame_of, own_net, takes_part}
 use Rattle.text.specs.declared.Cause.TheVariants.{Idling}
@@ -19,15 +22,21 @@ read_net s at =
     then (read_number (bytes "steps=") (in_range 0 32) s x₁) λ n x₂.
     then (many (read_sides size s) n x₂) λ ts x₃. got (record { size = size; transitions = ts }) x₃
 
--- `idle=` and a place, which is no place of black tokens (5), or `event=` and a move; both are numbered from 1
-unfoldable pub read_idle : Frame → Text → ℕ → Outcome Act
-read_idle f s at = then (read_number (bytes "idle=") (in_range 1 f.places) s at) λ p x. need (leb 1 (f.type (pred p))) Idling at (got (idle (pred p)) x)
+-- the line `event=` and a move, or `idle=` and a place, both numbered from 1
+abbrev pub act_of_line : Keyed → Act
+act_of_line (Former k) = move (pred k)
+act_of_line (Latter p) = idle (pred p)
 
-unfoldable pub read_move : Frame → Text → ℕ → Outcome Act
-read_move f s at = then (read_number (bytes "event=") (in_range 1 f.moves) s at) λ k x. got (move (pred k)) x
+-- no event idles at a place of black tokens
+abbrev pub idles_well : Frame → Keyed → Bool
+idles_well f (Former k) = true
+idles_well f (Latter p) = leb 1 (f.type (pred p))
 
+-- the line of a move in range, or of a place in range; 5 where the event idles at a place of black tokens
 unfoldable pub read_act : Frame → Text → ℕ → Outcome Act
-read_act f s at = elim (starts (bytes "idle=") (drop at s)) [ true ↦ read_idle f s at | false ↦ read_move f s at ]
+read_act f s at =
+    then (read_keyed (bytes "event=") (bytes "idle=") (in_range 1 f.moves) (in_range 1 f.places) s at) λ a x.
+    need (idles_well f a) Idling at (got (act_of_line a) x)
 
 -- the counts of net n; 5 where the idling net does not take part, or another does
 unfoldable pub read_sync : Frame → ℕ → Text → ℕ → ℕ → Outcome (List ℕ)

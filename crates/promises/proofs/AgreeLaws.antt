@@ -32,7 +32,7 @@ use Rattle.marking.specs.Sizes.{sizes_for}
 use Rattle.reader.specs.Answers.{held_both, held_in}
 use Rattle.marking.proofs.SizeLaws.{held_roomy, sizes_same}
 use Rattle.step.specs.Reading.{read_step}
-use Rattle.runner.specs.Answers.{stepping, Stepped, unfired_pair}
+use Rattle.runner.specs.Answers.{stepping, Stepped, unfired_triple}
 use Rattle.runner.proofs.StepAnswers.{step-long}
 use Rattle.runner.proofs.FiresExactly.{Brings, fires_exactly, unfired≢fired}
 use Rattle.runner.proofs.RefusedStep.{refused-leaves}
@@ -46,7 +46,7 @@ use Rattle.runner.specs.declared.StepRefusal.{StepRefusal}
 -- none where it fired, or the cause
 abbrev pub cause_of : Result ℕ StepRefusal → Option Refusal
 cause_of (Ok n) = none
-cause_of (Err e) = some (unfired_pair e)
+cause_of (Err e) = some (unfired_triple e)
 
 -- the cause, and the marking left
 abbrev pub call : Model → Text → Marking → Answer Marking

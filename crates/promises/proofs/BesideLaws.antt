@@ -28,11 +28,11 @@ use Rattle.reader.specs.Answers.{held_both}
 use Rattle.step.specs.Reading.{read_step}
 use Rattle.step.specs.Printed.{step_text}
 use Rattle.step.proofs.StepExactly.{step_exactly}
-use Rattle.runner.specs.Answers.{step_pair, stepping}
+use Rattle.runner.specs.Answers.{step_triple, stepping}
 use Rattle.runner_trace.specs.Running.{running}
 use Rattle.keeper.specs.Reading.{read_weight_file}
 use Rattle.keeper.specs.Printed.{weight_file_text}
-use Rattle.keeper.specs.Answers.{weight_pair, weight_checking}
+use Rattle.keeper.specs.Answers.{weight_triple, weight_checking}
 use Rattle.keeper.proofs.WeightsReadBack.{weights_were_printed, right_shaped}
 use Rattle.promises.specs.WholeRun.{racks}
 use Rattle.promises.specs.Numbers.{Among, step_numbers, weight_numbers, Numbered, step_tests, StepBeside, StepLines, WeightBeside}
@@ -80,16 +80,16 @@ beside_of m k s held r n h =
     (t, next, b, rw (nets-long m) at (step_right (model_of m) (racks m k) t r ((first_exactly _ _).1 f)).1, step_lines bounds (sizes_for m) m.listed s t next b)
 
 -- a step turned down with 8 to 12
-pub step-beside : (m : Model) (k : Marking) (s : Text) → Among step_numbers.tests (step_pair (stepping m k s).answer).number
-    → Beside m s (step_pair (stepping m k s).answer)
-step-beside m k s h = beside_of m k s (held_both m k) (step_pair (stepping m k s).answer) (step-number m k s) h
+pub step-beside : (m : Model) (k : Marking) (s : Text) → Among step_numbers.tests (step_triple (stepping m k s).answer).number
+    → Beside m s (step_triple (stepping m k s).answer)
+step-beside m k s h = beside_of m k s (held_both m k) (step_triple (stepping m k s).answer) (step-number m k s) h
 
 -- a run stopped by such a step
-pub run-beside : (m : Model) (k : Marking) (s : Text) → Among step_numbers.tests (step_pair (running m k s).stop).number
-    → Beside m (drop (running m k s).at s) (step_pair (running m k s).stop)
+pub run-beside : (m : Model) (k : Marking) (s : Text) → Among step_numbers.tests (step_triple (running m k s).stop).number
+    → Beside m (drop (running m k s).at s) (step_triple (running m k s).stop)
 run-beside m k s h =
     let (w, next, b, l) = run_stopped m k s h in
-    beside_of m (running m k s).marking (drop (running m k s).at s) true (step_pair (running m k s).stop) ((run-number m k s).as_a_step w next b l) h
+    beside_of m (running m k s).marking (drop (running m k s).at s) true (step_triple (running m k s).stop) ((run-number m k s).as_a_step w next b l) h
 
 -- ---- weights
 
@@ -111,10 +111,10 @@ file_lines d s w x e =
     )
 
 -- beside 6 stands the file's last line, beside 7 an event
-pub weight_beside : (m : Model) (k : Marking) (s : Text) → Among weight_numbers.tests (weight_pair (weight_checking m k s)).number
-    → WeightBeside (newlines s) m.listed (weight_pair (weight_checking m k s))
+pub weight_beside : (m : Model) (k : Marking) (s : Text) → Among weight_numbers.tests (weight_triple (weight_checking m k s)).number
+    → WeightBeside (newlines s) m.listed (weight_triple (weight_checking m k s))
 weight_beside m k s h =
-    let (u, w, next, b, f) = ((weight_number m k s).test (weight_pair (weight_checking m k s)) h).0 refl in
+    let (u, w, next, b, f) = ((weight_number m k s).test (weight_triple (weight_checking m k s)) h).0 refl in
     let last = 2 + length (model_of m).nets in
     let r = (weight_right last (model_of m) w _ ((first_exactly _ _).1 f)).1 in
     rw (file_lines (model_of m) s w next b) (rw (events-long m) at r)

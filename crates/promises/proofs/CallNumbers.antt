@@ -23,18 +23,18 @@ use Rattle.model.specs.declared.Model.{Model}
 use Rattle.marking.specs.declared.Marking.{Marking}
 use Rattle.marking.specs.Sizes.{sizes_for}
 use Rattle.reader.specs.Reading.{bounds, read_model, read_marking}
-use Rattle.reader.specs.Answers.{pair, read_pair, loaded, model_reading, restored, marking_or, marking_reading, held_both}
+use Rattle.reader.specs.Answers.{pair, read_triple, loaded, model_reading, restored, marking_or, marking_reading, held_both}
 use Rattle.step.specs.Reading.{read_step}
-use Rattle.step.specs.Verdict.{has_room, cause_pair}
+use Rattle.step.specs.Verdict.{has_room, cause_triple}
 use Rattle.step.proofs.StepFaults.{step_faults}
-use Rattle.runner.specs.Answers.{step_pair, step_judged, read_then, stepped, held_step, stepping, Stepped}
+use Rattle.runner.specs.Answers.{step_triple, step_judged, read_then, stepped, held_step, stepping, Stepped}
 use Rattle.runner.proofs.StepAnswers.{held_reads, step-long, step-unheld, step-held}
 use Rattle.keeper.specs.Reading.{read_weight_file}
-use Rattle.keeper.specs.Answers.{weight_pair, weight_cause_pair, passed_weights, turned_or, judged_weights, weight_checking}
+use Rattle.keeper.specs.Answers.{weight_triple, weight_cause_triple, passed_weights, turned_or, judged_weights, weight_checking}
 use Rattle.keeper.specs.declared.WeightCheck.{WeightCheck}
 use Rattle.keeper.proofs.CheckLaws.{check_long, check_unheld, check_bad, check_got}
 use Rattle.promises.specs.WholeRun.{racks}
-use Rattle.promises.specs.Numbers.{Among, model_numbers, marking_numbers, weight_numbers, step_numbers, Lent, Numbered, untested, step_tests, weight_tests}
+use Rattle.promises.specs.Numbers.{faulted, Among, model_numbers, marking_numbers, weight_numbers, step_numbers, Lent, Numbered, untested, step_tests, weight_tests}
 use Rattle.promises.proofs.NumberLaws.{Goes, Caused, numbered}
 use Rattle.listing.proofs.FileFaults.{marking_faults, weight_file_faults, model_faults}
 use Rattle.promises.proofs.TestNumbers.{step-first, step_right, weight_first, weight_right}
@@ -74,7 +74,7 @@ untested_none a c e = some_not (sym e)
 -- ---- reading a model
 
 module _ (s : Text) where
-  pub model_goes : Goes model_numbers longest s true (read_model s) untested (read_pair (model_reading s))
+  pub model_goes : Goes model_numbers longest s true (read_model s) untested (read_triple (model_reading s))
   unfolding model_reading loaded
   model_goes = record {
     long = λ h. rw (lt-leb (length s) longest h, model_reading);
@@ -89,17 +89,18 @@ module _ (s : Text) where
     unheld = λ h. absurd (true≢false h);
     lines = model_faults (Among model_numbers.lines) (inl refl) s (inr (inl refl)) (inr (inr (inl refl)));
     tests_are = λ a c e. untested_none a c e;
+    no_column = λ a c e. untested_none a c e;
     low = two_five;
     high = λ n h. absurd h;
   }
 
-  pub model-number : Numbered model_numbers longest s true (read_model s) untested (read_pair (model_reading s))
+  pub model-number : Numbered model_numbers longest s true (read_model s) untested (read_triple (model_reading s))
   model-number = numbered model_numbers longest s true (read_model s) untested _ model_goes (model_caused longest _)
 
 -- ---- reading a marking
 
 module _ (m : Model) (s : Text) where
-  marking_goes : Goes marking_numbers longest s (held_model m) (read_marking (sizes_for m) s) untested (read_pair (marking_reading m s))
+  marking_goes : Goes marking_numbers longest s (held_model m) (read_marking (sizes_for m) s) untested (read_triple (marking_reading m s))
   unfolding marking_reading marking_or restored
   marking_goes = record {
     long = λ h. rw (lt-leb (length s) longest h, marking_reading);
@@ -109,16 +110,17 @@ module _ (m : Model) (s : Text) where
     passed = λ w a n b e. rw (le-leb (length s) longest w.short, marking_reading, w.is_held, b);
   }
 
-  pub marking_number : Numbered marking_numbers longest s (held_model m) (read_marking (sizes_for m) s) untested (read_pair (marking_reading m s))
+  pub marking_number : Numbered marking_numbers longest s (held_model m) (read_marking (sizes_for m) s) untested (read_triple (marking_reading m s))
   marking_number = numbered marking_numbers longest s (held_model m) (read_marking (sizes_for m) s) untested _ marking_goes (record {
     unheld = λ _. inl refl;
     lines = marking_faults (Among marking_numbers.lines) (inl refl) s (inr (inl refl)) (sizes_for m);
     tests_are = λ a c e. untested_none a c e;
+    no_column = λ a c e. untested_none a c e;
     low = two_three;
     high = λ n h. absurd h;
   })
 
--- ---- what is judged: the pair of the first cause, or 0,0
+-- ---- what is judged: the triple of the first cause, or 0,0,0
 
 abbrev or_good : Option Refusal → Refusal
 or_good none = pair 0 0
@@ -134,33 +136,34 @@ module _ (m : Model) (k : Marking) (s : Text) where
   tests = step_tests (model_of m) (racks m k)
 
   step-judged : (t : Step) (next : ℕ) (o : Option Cause)
-      → step_pair (stepped k (step_judged (racks m k) t next o)).answer ≡ or_good (renamed (cause_pair (length t.taken)) o)
+      → step_triple (stepped k (step_judged (racks m k) t next o)).answer ≡ or_good (renamed (cause_triple (length t.taken)) o)
   unfolding step_judged stepped
   step-judged t next none = refl
   step-judged t next (some c) = refl
 
   -- a step whose lines are read is answered by its tests
-  step-got : (t : Step) (next : ℕ) → lines ≡ got t next → step_pair (held_step room_limit m k s).answer ≡ or_good (first (tests t))
+  step-got : (t : Step) (next : ℕ) → lines ≡ got t next → step_triple (held_step room_limit m k s).answer ≡ or_good (first (tests t))
   unfolding read_then
   step-got t next e =
-      ap (λ (r : Stepped). step_pair r.answer) (held_reads m k s room_limit ∙ ap (λ (o : Outcome Step). stepped k (read_then room_limit (model_of m) (racks m k) s o)) e)
+      ap (λ (r : Stepped). step_triple r.answer) (held_reads m k s room_limit ∙ ap (λ (o : Outcome Step). stepped k (read_then room_limit (model_of m) (racks m k) s o)) e)
       ∙ step-judged t next (refusal (has_room room_limit) (model_of m) t (racks m k))
       ∙ ap or_good (sym (step-first (model_of m) (racks m k) t))
 
-  step-bad : (e : Fault) → lines ≡ bad e → step_pair (held_step room_limit m k s).answer ≡ pair (cause_number e.cause) (line_at s e.at)
+  step-bad : (e : Fault) → lines ≡ bad e → step_triple (held_step room_limit m k s).answer ≡ faulted s e
   unfolding read_then stepped
-  step-bad e b = ap (λ (r : Stepped). step_pair r.answer) (held_reads m k s room_limit ∙ ap (λ (o : Outcome Step). stepped k (read_then room_limit (model_of m) (racks m k) s o)) b)
+  step-bad e b = ap (λ (r : Stepped). step_triple r.answer) (held_reads m k s room_limit ∙ ap (λ (o : Outcome Step). stepped k (read_then room_limit (model_of m) (racks m k) s o)) b)
 
   step_caused : (held : Bool) (r : Refusal) → Caused step_numbers longest s held lines tests r
   step_caused held r = record {
     unheld = λ _. inl refl;
     lines = step_faults (Among step_numbers.lines) (inl refl) (inr (inl refl)) bounds (sizes_for m) m.listed s 0;
     tests_are = λ t c e. (step_right (model_of m) (racks m k) t c e).0;
+    no_column = λ t c e. (step_right (model_of m) (racks m k) t c e).2;
     low = two_three;
     high = eight-twelve;
   }
 
-  held_goes : length s ≤ longest → Goes step_numbers longest s true lines tests (step_pair (held_step room_limit m k s).answer)
+  held_goes : length s ≤ longest → Goes step_numbers longest s true lines tests (step_triple (held_step room_limit m k s).answer)
   held_goes few = record {
     long = λ h. absurd (omega (arith, few));
     unheld = λ _ h. absurd (true≢false h);
@@ -170,34 +173,34 @@ module _ (m : Model) (k : Marking) (s : Text) where
   }
 
   -- a step of a run, which has passed 1 and 14
-  pub held_number : length s ≤ longest → Numbered step_numbers longest s true lines tests (step_pair (held_step room_limit m k s).answer)
+  pub held_number : length s ≤ longest → Numbered step_numbers longest s true lines tests (step_triple (held_step room_limit m k s).answer)
   held_number few = numbered step_numbers longest s true lines tests _ (held_goes few) (step_caused true _)
 
   -- number 0 is a step that fired
   fired-got : (t : Step) (next : ℕ) → lines ≡ got t next → first (tests t) ≡ none → (held_step room_limit m k s).answer ≡ Ok next
   unfolding read_then step_judged stepped
   fired-got t next b e =
-      let q = renamed_none (cause_pair (length t.taken)) (refusal (has_room room_limit) (model_of m) t (racks m k)) (sym (step-first (model_of m) (racks m k) t) ∙ e) in
+      let q = renamed_none (cause_triple (length t.taken)) (refusal (has_room room_limit) (model_of m) t (racks m k)) (sym (step-first (model_of m) (racks m k) t) ∙ e) in
       ap (λ (r : Stepped). r.answer) (held_reads m k s room_limit) ∙ rw (b, q)
 
-  pub held-fired : length s ≤ longest → (step_pair (held_step room_limit m k s).answer).number ≡ 0 → (next : ℕ) × ((held_step room_limit m k s).answer ≡ Ok next)
+  pub held-fired : length s ≤ longest → (step_triple (held_step room_limit m k s).answer).number ≡ 0 → (next : ℕ) × ((held_step room_limit m k s).answer ≡ Ok next)
   held-fired few z =
       let (w, t, next, b, c) = (held_number few).good.0 z in
       (next, fired-got t next b ((clear_exactly (tests t)).1 c))
 
-  is_held : Lent longest s (held_both m k) → step_pair (stepping m k s).answer ≡ step_pair (held_step room_limit m k s).answer
-  is_held w = ap (λ (r : Stepped). step_pair r.answer) (sym (step-held m k s w.short w.is_held))
+  is_held : Lent longest s (held_both m k) → step_triple (stepping m k s).answer ≡ step_triple (held_step room_limit m k s).answer
+  is_held w = ap (λ (r : Stepped). step_triple r.answer) (sym (step-held m k s w.short w.is_held))
 
-  step_goes : Goes step_numbers longest s (held_both m k) lines tests (step_pair (stepping m k s).answer)
+  step_goes : Goes step_numbers longest s (held_both m k) lines tests (step_triple (stepping m k s).answer)
   step_goes = record {
-    long = λ h. ap (λ (r : Stepped). step_pair r.answer) (sym (step-long m k s h));
-    unheld = λ few h. ap (λ (r : Stepped). step_pair r.answer) (sym (step-unheld m k s few h));
+    long = λ h. ap (λ (r : Stepped). step_triple r.answer) (sym (step-long m k s h));
+    unheld = λ few h. ap (λ (r : Stepped). step_triple r.answer) (sym (step-unheld m k s few h));
     faulty = λ w e b. is_held w ∙ step-bad e b;
     turned = λ w t n b c e. is_held w ∙ step-got t n b ∙ ap or_good e;
     passed = λ w t n b e. is_held w ∙ step-got t n b ∙ ap or_good e;
   }
 
-  pub step-number : Numbered step_numbers longest s (held_both m k) lines tests (step_pair (stepping m k s).answer)
+  pub step-number : Numbered step_numbers longest s (held_both m k) lines tests (step_triple (stepping m k s).answer)
   step-number = numbered step_numbers longest s (held_both m k) lines tests _ step_goes (step_caused (held_both m k) _)
 
 -- ---- checking weights
@@ -206,25 +209,25 @@ module _ (m : Model) (k : Marking) (s : Text) where
   abbrev last : ℕ
   last = 2 + length (model_of m).nets
 
-  weight_judged : (o : Option WeightCause) (c : WeightCheck) → weight_pair (turned_or last o c) ≡ or_good (renamed (weight_cause_pair last) o)
+  weight_judged : (o : Option WeightCause) (c : WeightCheck) → weight_triple (turned_or last o c) ≡ or_good (renamed (weight_cause_triple last) o)
   unfolding turned_or
   weight_judged none c = refl
   weight_judged (some why) c = refl
 
   -- weights that are read are answered by their tests
   weight_got : Lent longest s (held_both m k) → (a : Weights) (n : ℕ) → read_weight_file (model_of m) s ≡ got a n
-      → weight_pair (weight_checking m k s) ≡ or_good (first (weight_tests last (model_of m) a))
+      → weight_triple (weight_checking m k s) ≡ or_good (first (weight_tests last (model_of m) a))
   unfolding judged_weights
   weight_got w a n b =
-      ap weight_pair (check_got m k s w.short w.is_held a n b)
+      ap weight_triple (check_got m k s w.short w.is_held a n b)
       ∙ weight_judged (weight_refusal (model_of m) a) (passed_weights cover_limit a (weigh (model_of m) a (racks m k)))
       ∙ ap or_good (sym (weight_first last (model_of m) a))
 
-  pub weights_goes : Goes weight_numbers longest s (held_both m k) (read_weight_file (model_of m) s) (weight_tests last (model_of m)) (weight_pair (weight_checking m k s))
+  pub weights_goes : Goes weight_numbers longest s (held_both m k) (read_weight_file (model_of m) s) (weight_tests last (model_of m)) (weight_triple (weight_checking m k s))
   weights_goes = record {
-    long = λ h. ap weight_pair (sym (check_long m k s h));
-    unheld = λ few h. ap weight_pair (sym (check_unheld m k s few h));
-    faulty = λ w e b. ap weight_pair (check_bad m k s w.short w.is_held e b);
+    long = λ h. ap weight_triple (sym (check_long m k s h));
+    unheld = λ few h. ap weight_triple (sym (check_unheld m k s few h));
+    faulty = λ w e b. ap weight_triple (check_bad m k s w.short w.is_held e b);
     turned = λ w a n b c e. weight_got w a n b ∙ ap or_good e;
     passed = λ w a n b e. weight_got w a n b ∙ ap or_good e;
   }
@@ -234,17 +237,18 @@ module _ (m : Model) (k : Marking) (s : Text) where
     unheld = λ _. inl refl;
     lines = weight_file_faults (Among weight_numbers.lines) (inl refl) s (inr (inl refl)) (model_of m);
     tests_are = λ a c e. (weight_right last (model_of m) a c e).0;
+    no_column = λ a c e. (weight_right last (model_of m) a c e).2;
     low = two_three;
     high = six-seven;
   }
 
-  pub weight_number : Numbered weight_numbers longest s (held_both m k) (read_weight_file (model_of m) s) (weight_tests last (model_of m)) (weight_pair (weight_checking m k s))
+  pub weight_number : Numbered weight_numbers longest s (held_both m k) (read_weight_file (model_of m) s) (weight_tests last (model_of m)) (weight_triple (weight_checking m k s))
   weight_number = numbered weight_numbers longest s (held_both m k) (read_weight_file (model_of m) s) (weight_tests last (model_of m)) _ weights_goes (weights_caused longest _)
 
   -- number 0 is weights that passed
-  pub weight_passed : (weight_pair (weight_checking m k s)).number ≡ 0 → (c : WeightCheck) × (weight_checking m k s ≡ Ok c)
+  pub weight_passed : (weight_triple (weight_checking m k s)).number ≡ 0 → (c : WeightCheck) × (weight_checking m k s ≡ Ok c)
   unfolding judged_weights turned_or
   weight_passed z =
       let (w, a, n, b, c) = weight_number.good.0 z in
-      let q = renamed_none (weight_cause_pair last) (weight_refusal (model_of m) a) (sym (weight_first last (model_of m) a) ∙ (clear_exactly (weight_tests last (model_of m) a)).1 c) in
+      let q = renamed_none (weight_cause_triple last) (weight_refusal (model_of m) a) (sym (weight_first last (model_of m) a) ∙ (clear_exactly (weight_tests last (model_of m) a)).1 c) in
       (passed_weights cover_limit a (weigh (model_of m) a (racks m k)), check_got m k s w.short w.is_held a n b ∙ rw q)

@@ -7,16 +7,18 @@ use mathlib.Core.List.{List, [], ◌∷◌, ◌++◌}
 use mathlib.Core.Option.{Option, none, some}
 use native.Mathlib.Omega.{arith}
 use lib.ListN.{length}
-use Rattle.text.specs.Bytes.{Text, newlines, line_at}
-use Rattle.text.specs.Lines.{Outcome, got, bad, cause_number}
+use Rattle.text.specs.Bytes.{Text, newlines, column_at}
+use Rattle.text.specs.Lines.{Outcome, got, bad, cause_number, column_for}
+use Rattle.text.specs.declared.Cause.{Cause}
+use Rattle.text.specs.declared.Cause.TheVariants.{Syntax, Range, Idling}
 use Rattle.text.specs.declared.Fault.{Fault}
 use Rattle.text.proofs.Basics.{by_test, by_le}
 use Rattle.text.proofs.FaultLaws.{Faults}
-use Rattle.text.proofs.LineCounts.{line-within}
+use Rattle.text.proofs.LineCounts.{line-within, column-within}
 use Rattle.eos.specs.Causes.{Refusal, first, First, Clear}
 use Rattle.eos.proofs.FirstLaws.{first_exactly, clear_exactly}
 use Rattle.reader.specs.Answers.{pair}
-use Rattle.promises.specs.Numbers.{Among, Numbers, all_of, Lent, Numbered}
+use Rattle.promises.specs.Numbers.{Among, Numbers, all_of, faulted, Lent, Numbered}
 
 -- ---- numbers of a list
 
@@ -36,6 +38,32 @@ num e = ap (λ (x : Refusal). x.number) e
 pub side : {r c : Refusal} → r ≡ c → r.beside ≡ c.beside
 side e = ap (λ (x : Refusal). x.beside) e
 
+pub col : {r c : Refusal} → r ≡ c → r.column ≡ c.column
+col e = ap (λ (x : Refusal). x.column) e
+
+-- 2 and 3
+pub two_or_three : (n : ℕ) → Among (2 ∷ 3 ∷ []) n → (2 ≤ n) × (n ≤ 3)
+two_or_three n (inl e) = (omega arith, omega arith)
+two_or_three n (inr (inl e)) = (omega arith, omega arith)
+two_or_three n (inr (inr e)) = absurd e
+
+-- the column of a fault, where its cause has one
+pub column_some : (s : Text) (e : Fault) → Among (2 ∷ 3 ∷ []) (cause_number e.cause) → (1 ≤ (faulted s e).column) × ((faulted s e).column ≤ length s + 1)
+column_some s e = go e.cause
+  where
+    go : (c : Cause) → Among (2 ∷ 3 ∷ []) (cause_number c) → (1 ≤ column_for c (column_at s e.at e.byte)) × (column_for c (column_at s e.at e.byte) ≤ length s + 1)
+    go Syntax h = column-within s e.at e.byte
+    go Range h = column-within s e.at e.byte
+    go Idling h = let k = two_or_three 5 h in absurd (omega (arith, k.1))
+
+pub column_none : (s : Text) (e : Fault) → (Among (2 ∷ 3 ∷ []) (cause_number e.cause) → ⊥) → (faulted s e).column ≡ 0
+column_none s e = go e.cause
+  where
+    go : (c : Cause) → (Among (2 ∷ 3 ∷ []) (cause_number c) → ⊥) → column_for c (column_at s e.at e.byte) ≡ 0
+    go Syntax h = absurd (h (inl refl))
+    go Range h = absurd (h (inr (inl refl)))
+    go Idling h = refl
+
 module _ {A : Type 0} (ns : Numbers) (most : ℕ) (s : Text) (held : Bool) (reading : Outcome A) (tests : A → List (Option Refusal)) (r : Refusal) where
   abbrev Open : Type 0
   Open = Lent most s held
@@ -44,7 +72,7 @@ module _ {A : Type 0} (ns : Numbers) (most : ℕ) (s : Text) (held : Bool) (read
   pub record Goes : Type 0 where
     pub long : most < length s → r ≡ pair 1 0
     pub unheld : length s ≤ most → held ≡ false → r ≡ pair 14 0
-    pub faulty : Open → (e : Fault) → reading ≡ bad e → r ≡ pair (cause_number e.cause) (line_at s e.at)
+    pub faulty : Open → (e : Fault) → reading ≡ bad e → r ≡ faulted s e
     pub turned : Open → (a : A) (next : ℕ) → reading ≡ got a next → (c : Refusal) → first (tests a) ≡ some c → r ≡ c
     pub passed : Open → (a : A) (next : ℕ) → reading ≡ got a next → first (tests a) ≡ none → r ≡ pair 0 0
 
@@ -53,6 +81,7 @@ module _ {A : Type 0} (ns : Numbers) (most : ℕ) (s : Text) (held : Bool) (read
     pub unheld : held ≡ false → Among ns.unheld 14
     pub lines : Faults (Among ns.lines) reading
     pub tests_are : (a : A) (c : Refusal) → first (tests a) ≡ some c → Among ns.tests c.number
+    pub no_column : (a : A) (c : Refusal) → first (tests a) ≡ some c → c.column ≡ 0
     pub low : (n : ℕ) → Among ns.lines n → (2 ≤ n) × (n ≤ 5)
     pub high : (n : ℕ) → Among ns.tests n → (6 ≤ n) × (n ≤ 12)
 
@@ -61,7 +90,7 @@ module _ {A : Type 0} (ns : Numbers) (most : ℕ) (s : Text) (held : Bool) (read
     by_way : {G : Type 0}
         → (most < length s → r ≡ pair 1 0 → G)
         → (length s ≤ most → held ≡ false → r ≡ pair 14 0 → G)
-        → (Open → (e : Fault) → reading ≡ bad e → r ≡ pair (cause_number e.cause) (line_at s e.at) → Among ns.lines (cause_number e.cause) → G)
+        → (Open → (e : Fault) → reading ≡ bad e → r ≡ faulted s e → Among ns.lines (cause_number e.cause) → G)
         → (Open → (a : A) (next : ℕ) → reading ≡ got a next → (c : Refusal) → first (tests a) ≡ some c → r ≡ c → Among ns.tests c.number → G)
         → (Open → (a : A) (next : ℕ) → reading ≡ got a next → first (tests a) ≡ none → r ≡ pair 0 0 → G)
         → G
@@ -125,7 +154,7 @@ module _ {A : Type 0} (ns : Numbers) (most : ℕ) (s : Text) (held : Bool) (read
     )
 
     line : (c : Refusal) → Among ns.lines c.number
-        → (r ≡ c) ↔ (Open × (e : Fault) × (reading ≡ bad e) × (c ≡ pair (cause_number e.cause) (line_at s e.at)))
+        → (r ≡ c) ↔ (Open × (e : Fault) × (reading ≡ bad e) × (c ≡ faulted s e))
     line c h = (
       λ z.
           by_way
@@ -174,6 +203,25 @@ module _ {A : Type 0} (ns : Numbers) (most : ℕ) (s : Text) (held : Bool) (read
         (λ w a n b c d q i. absurd (omega (arith, num q, k.low r.number h, k.high c.number i)))
         (λ w a n b d q. absurd (omega (arith, num q, k.low r.number h)))
 
+    a_column : Among (2 ∷ 3 ∷ []) r.number → (1 ≤ r.column) × (r.column ≤ length s + 1)
+    a_column h =
+        let two = two_or_three r.number h in
+        by_way
+        (λ o q. absurd (omega (arith, num q, two)))
+        (λ o u q. absurd (omega (arith, num q, two)))
+        (λ w e b q i. rw (col q) (column_some s e (rw (num q) at h)))
+        (λ w a n b c d q i. absurd (omega (arith, num q, two, k.high c.number i)))
+        (λ w a n b d q. absurd (omega (arith, num q, two)))
+
+    no_column : (Among (2 ∷ 3 ∷ []) r.number → ⊥) → r.column ≡ 0
+    no_column h =
+        by_way
+        (λ o q. col q)
+        (λ o u q. col q)
+        (λ w e b q i. col q ∙ column_none s e (λ x. h (rw (num q) x)))
+        (λ w a n b c d q i. col q ∙ k.no_column a c d)
+        (λ w a n b d q. col q)
+
     pub numbered : Numbered ns most s held reading tests r
     numbered = record {
       listed = listed;
@@ -184,4 +232,6 @@ module _ {A : Type 0} (ns : Numbers) (most : ℕ) (s : Text) (held : Bool) (read
       good = good;
       nothing = nothing;
       a_line = a_line;
+      a_column = a_column;
+      no_column = no_column;
     }

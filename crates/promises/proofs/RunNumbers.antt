@@ -7,13 +7,16 @@ use mathlib.Core.List.{List, [], ◌∷◌}
 use native.Mathlib.Omega.{arith}
 use lib.ListN.{length, drop, length-drop}
 use borrow.Author.Tests.{le-leb, lt-leb}
-use Rattle.text.specs.Bytes.{Text, bytes, starts, line_at, newlines}
-use Rattle.text.specs.Lines.{Outcome, got, bad, need, read_head, cause_number}
+use Rattle.text.specs.Bytes.{Text, bytes, newlines, column_at}
+use Rattle.text.specs.Number.{Read, missing, found, literal}
+use Rattle.text.specs.Lines.{Outcome, got, bad, fault_at, judged, read_head}
 use Rattle.text.specs.declared.Fault.{Fault}
 use Rattle.text.specs.declared.Cause.TheVariants.{Syntax}
 use Rattle.text.proofs.Basics.{by_test, by_le}
 use Rattle.text.proofs.Exactly.{bad≢got}
 use Rattle.text.proofs.LinesExactly.{head_exactly}
+use Rattle.text.proofs.LineCounts.{column-within}
+use Rattle.text.proofs.Refusals.{bad-is}
 use Rattle.eos.specs.Model as eos
 use Rattle.eos.specs.Causes.{Refusal}
 use Rattle.model.specs.Limits.{longest, room_limit}
@@ -21,31 +24,33 @@ use Rattle.model.specs.declared.Model.{Model}
 use Rattle.marking.specs.Held.{hold_marking}
 use Rattle.marking.specs.Printed.{marking_text}
 use Rattle.marking.specs.declared.Marking.{Marking}
-use Rattle.reader.specs.Answers.{pair, write_pair, held_both, Answered, lay_whole, marking_writing}
+use Rattle.reader.specs.Answers.{triple, pair, write_triple, held_both, Answered, lay_whole, marking_writing}
 use Rattle.reader.proofs.WriteAnswers.{whole-fits, whole-short}
-use Rattle.runner.specs.Answers.{Tried, fires, stops, step_pair, held_step, stepping, Stepped}
+use Rattle.runner.specs.Answers.{Tried, fires, stops, step_triple, held_step, stepping, Stepped}
 use Rattle.runner.proofs.StepAnswers.{step-held}
 use Rattle.runner_trace.specs.Running.{onward, run_from, headed, run_where_held, running, Ran}
 use Rattle.runner_trace.proofs.TraceSteps.{run_keeps, fired≢turned}
 use Rattle.runner_trace.proofs.TraceLaws.{trace_headed}
 use Rattle.runner_trace.proofs.StopLaws.{StopsAt, run_stops_at}
-use Rattle.spread.specs.Call.{spread_pair, spread_call}
+use Rattle.spread.specs.Call.{spread_triple, spread_call}
 use Rattle.promises.specs.WholeRun.{racks}
-use Rattle.promises.specs.Numbers.{Among, step_numbers, Lent, RunNumbered, WriteNumbered, SpreadNumbered}
-use Rattle.promises.proofs.NumberLaws.{num, side}
+use Rattle.promises.specs.Numbers.{faulted, Among, step_numbers, Lent, RunNumbered, WriteNumbered, SpreadNumbered}
+use Rattle.promises.proofs.NumberLaws.{num, side, col, two_or_three}
 use Rattle.promises.proofs.CallNumbers.{eight-twelve, held_number, held-fired}
 use Rattle.std.specs.Prelude.{Result}
 use Rattle.runner.specs.declared.StepRefusal.{StepRefusal}
 
 -- ---- a run
 
--- a bad header is 2 beside line 1
-header-pair : (line s : Text) (e : Fault) → read_head line s 0 ≡ bad e → pair (cause_number e.cause) (line_at s e.at) ≡ pair 2 1
-unfolding read_head need newlines
-header-pair line s e h =
-    by_test (starts line (drop 0 s))
-    (λ t. absurd (bad≢got (sym (rw t at h))))
-    (λ t. let z = rw t at h in let w : e ≡ record { cause = Syntax; at = 0; byte = 0 } = cc in rw w)
+-- a bad header is 2 beside line 1, at the byte at fault
+head_faulted : (s : Text) (r : Read (Unit {0})) (e : Fault) → judged (λ _. true) (λ _. 0) 0 r ≡ bad e → faulted s e ≡ triple 2 1 (column_at s 0 e.byte)
+unfolding judged newlines
+head_faulted s (missing b) e h = let w : fault_at Syntax 0 b ≡ e = bad-is h in rw (← w)
+head_faulted s (found a next) e h = absurd (bad≢got (sym h))
+
+header_triple : (line s : Text) (e : Fault) → read_head line s 0 ≡ bad e → faulted s e ≡ triple 2 1 (column_at s 0 e.byte)
+unfolding read_head
+header_triple line s e h = head_faulted s (literal line s 0) e h
 
 -- a run goes on from where it begins
 onward-behind : (rest : ℕ → eos.Marking → Ran) (n at : ℕ) (k : Marking) (s : Text) (t : Tried) → ((used : ℕ) (μ : eos.Marking) → at ≤ (rest used μ).at)
@@ -69,7 +74,7 @@ module _ (m : Model) (k : Marking) (s : Text) where
   head = read_head (bytes "run=1\n") s 0
 
   abbrev r : Refusal
-  r = step_pair (running m k s).stop
+  r = step_triple (running m k s).stop
 
   run_long : longest < length s → r ≡ pair 1 0
   unfolding running
@@ -79,11 +84,11 @@ module _ (m : Model) (k : Marking) (s : Text) where
   unfolding running run_where_held
   run-unheld few h = rw (le-leb (length s) longest few, running, h)
 
-  run-header : Open → (e : Fault) → head ≡ bad e → r ≡ pair 2 1
+  run-header : Open → (e : Fault) → head ≡ bad e → r ≡ triple 2 1 (column_at s 0 e.byte)
   unfolding running run_where_held headed
   run-header w e b =
-      let z : r ≡ pair (cause_number e.cause) (line_at s e.at) = rw (le-leb (length s) longest w.short, running, w.is_held, b) in
-      z ∙ header-pair (bytes "run=1\n") s e b
+      let z : r ≡ faulted s e = rw (le-leb (length s) longest w.short, running, w.is_held, b) in
+      z ∙ header_triple (bytes "run=1\n") s e b
 
   header_at : Open → (e : Fault) → head ≡ bad e → (running m k s).at ≡ 0
   unfolding running run_where_held headed
@@ -107,23 +112,26 @@ module _ (m : Model) (k : Marking) (s : Text) where
     abbrev answer : Result ℕ StepRefusal
     answer = (held_step room_limit m (running m k s).marking left).answer
 
-    few-left : length left ≤ longest
-    few-left = omega (arith, w.short, length-drop (running m k s).at s)
+    left-within : length left ≤ length s
+    left-within = omega (arith, length-drop (running m k s).at s)
 
-    run_step : (running m k s).at < length s → r ≡ step_pair answer
-    run_step h = let t = stops_at.turned h in ap step_pair t.1 ∙ sym (ap step_pair t.2)
+    few-left : length left ≤ longest
+    few-left = omega (arith, w.short, left-within)
+
+    run_step : (running m k s).at < length s → r ≡ step_triple answer
+    run_step h = let t = stops_at.turned h in ap step_triple t.1 ∙ sym (ap step_triple t.2)
 
     -- on a marking as every one in code is, that is the step call
-    pub run_call : length k.tokens ≡ room_limit → (running m k s).at < length s → r ≡ step_pair (stepping m (running m k s).marking left).answer
+    pub run_call : length k.tokens ≡ room_limit → (running m k s).at < length s → r ≡ step_triple (stepping m (running m k s).marking left).answer
     run_call long h =
         let kept = run_keeps m k s (record { held = w.is_held; long = long }) in
-        run_step h ∙ ap (λ (x : Stepped). step_pair x.answer) (step-held m (running m k s).marking left few-left kept.held)
+        run_step h ∙ ap (λ (x : Stepped). step_triple x.answer) (step-held m (running m k s).marking left few-left kept.held)
 
     run_done_lem : (running m k s).at ≡ length s → r ≡ pair 0 0
-    run_done_lem h = ap step_pair (stops_at.done h)
+    run_done_lem h = ap step_triple (stops_at.done h)
 
     -- where it stopped before the end, no step was fired
-    turned_down : (running m k s).at < length s → (step_pair answer).number ≡ 0 → ⊥
+    turned_down : (running m k s).at < length s → (step_triple answer).number ≡ 0 → ⊥
     turned_down h z =
         let f = held-fired m (running m k s).marking left few-left z in
         fired≢turned f.1 (stops_at.turned h).2
@@ -138,8 +146,8 @@ module _ (m : Model) (k : Marking) (s : Text) where
   by_way : {G : Type 0}
       → (longest < length s → r ≡ pair 1 0 → G)
       → (length s ≤ longest → held_both m k ≡ false → r ≡ pair 14 0 → G)
-      → (Open → (e : Fault) → head ≡ bad e → r ≡ pair 2 1 → G)
-      → ((w : Open) (next : ℕ) → head ≡ got tt next → (t : Text) (j : Marking) → length t ≤ longest → r ≡ step_pair (held_step room_limit m j t).answer → (r.number ≡ 0 → ⊥) → G)
+      → (Open → (e : Fault) → head ≡ bad e → r ≡ triple 2 1 (column_at s 0 e.byte) → G)
+      → ((w : Open) (next : ℕ) → head ≡ got tt next → (t : Text) (j : Marking) → length t ≤ length s → r ≡ step_triple (held_step room_limit m j t).answer → (r.number ≡ 0 → ⊥) → G)
       → ((w : Open) (next : ℕ) → head ≡ got tt next → (running m k s).at ≡ length s → r ≡ pair 0 0 → G)
       → G
   by_way {G} l u f t p =
@@ -152,7 +160,7 @@ module _ (m : Model) (k : Marking) (s : Text) where
       read w (got v next) b =
           by_le (length s) (running m k s).at
           (λ h. let q : (running m k s).at ≡ length s = omega (arith, h, (stops_at w next b).within) in p w next b q (run_done_lem w next b q))
-          (λ h. t w next b (left w next b) (running m k s).marking (few-left w next b) (run_step w next b h) (λ z. omega (arith, run_zero w next b z)))
+          (λ h. t w next b (left w next b) (running m k s).marking (left-within w next b) (run_step w next b h) (λ z. omega (arith, run_zero w next b z)))
 
   -- a run with a number of 8 to 12 stopped behind its header and before the end
   pub run_stopped : Among step_numbers.tests r.number → Open × (next : ℕ) × (head ≡ got tt next) × ((running m k s).at < length s)
@@ -172,22 +180,22 @@ module _ (m : Model) (k : Marking) (s : Text) where
     one = (
       λ h.
           by_way (λ o q. o) (λ o u q. absurd (omega (arith, h, num q))) (λ w e b q. absurd (omega (arith, h, num q)))
-          (λ w n b t j c q z. absurd (omega (arith, c, (held_number m j t c).one.0 (sym (num q) ∙ h))))
+          (λ w n b t j c q z. absurd (omega (arith, c, (held_number m j t (omega (arith, c, w.short))).one.0 (sym (num q) ∙ h))))
           (λ w n b a q. absurd (omega (arith, h, num q))),
       λ o. num (run_long o),
     );
     fourteen = (
       λ h.
           by_way (λ o q. absurd (omega (arith, h, num q))) (λ o u q. (o, u)) (λ w e b q. absurd (omega (arith, h, num q)))
-          (λ w n b t j c q z. absurd (true≢false ((held_number m j t c).fourteen.0 (sym (num q) ∙ h)).1))
+          (λ w n b t j c q z. absurd (true≢false ((held_number m j t (omega (arith, c, w.short))).fourteen.0 (sym (num q) ∙ h)).1))
           (λ w n b a q. absurd (omega (arith, h, num q))),
       λ (o, u). num (run-unheld o u),
     );
-    header = (
-      λ (h, z).
-          by_way (λ o q. absurd (omega (arith, num h, num q))) (λ o u q. absurd (omega (arith, num h, num q))) (λ w e b q. (w, e, b))
-          (λ w n b t j c q y. absurd (omega (arith, z, past_header w n b))) (λ w n b a q. absurd (omega (arith, num h, num q))),
-      λ (w, e, b). (run-header w e b, header_at w e b),
+    header = λ c. (
+      λ (h, two, z).
+          by_way (λ o q. absurd (omega (arith, two, num h, num q))) (λ o u q. absurd (omega (arith, two, num h, num q))) (λ w e b q. (w, e, b, sym h ∙ q))
+          (λ w n b t j l q y. absurd (omega (arith, z, past_header w n b))) (λ w n b a q. absurd (omega (arith, two, num h, num q))),
+      λ (w, e, b, q). (run-header w e b ∙ sym q, num q, header_at w e b),
     );
     good = (
       λ h.
@@ -200,12 +208,22 @@ module _ (m : Model) (k : Marking) (s : Text) where
     as_a_step = λ w next b h. rw (run_step w next b h) (held_number m (running m k s).marking (left w next b) (few-left w next b));
     listed =
         by_way (λ o q. inr (inl (num q))) (λ o u q. inr (inr (inl (num q)))) (λ w e b q. inr (inr (inr (inl (num q)))))
-        (λ w n b t j c q z. rw (num q) (held_number m j t c).listed)
+        (λ w n b t j c q z. rw (num q) (held_number m j t (omega (arith, c, w.short))).listed)
         (λ w n b a q. inl (num q));
     nothing = λ h.
         by_way (λ o q. side q) (λ o u q. side q) (λ w e b q. absurd (not_two h (num q)))
-        (λ w n b t j c q z. side q ∙ (held_number m j t c).nothing (rw (num q) at h))
+        (λ w n b t j c q z. side q ∙ (held_number m j t (omega (arith, c, w.short))).nothing (rw (num q) at h))
         (λ w n b a q. side q);
+    a_column = λ h.
+        let two = two_or_three r.number h in
+        by_way (λ o q. absurd (omega (arith, num q, two))) (λ o u q. absurd (omega (arith, num q, two)))
+        (λ w e b q. rw (col q) (column-within s 0 e.byte))
+        (λ w n b t j c q z. let k = (held_number m j t (omega (arith, c, w.short))).a_column (rw (num q) at h) in rw (col q) (k.0, omega (arith, k.1, c)))
+        (λ w n b a q. absurd (omega (arith, num q, two)));
+    no_column = λ h.
+        by_way (λ o q. col q) (λ o u q. col q) (λ w e b q. absurd (h (rw (num q) (inl refl))))
+        (λ w n b t j c q z. col q ∙ (held_number m j t (omega (arith, c, w.short))).no_column (λ x. h (rw (num q) x)))
+        (λ w n b a q. col q);
   }
     where
       not_two : Among (0 ∷ 1 ∷ 14 ∷ []) r.number → r.number ≡ 2 → ⊥
@@ -237,27 +255,27 @@ module _ (held : Bool) (text : Text) (room : ℕ) (r : Refusal) where
       by_way a b c = by_test held (λ h. by_le (length text) room (λ n. c h n (g h n)) (λ n. b h n (f h n))) (λ h. a h (u h))
 
 -- a text laid into a lent buffer, as a listing is
-pub laid-number : (text : Text) (out : List ℕ) → WriteNumbered true text (length out) (write_pair (lay_whole text out).answer)
+pub laid-number : (text : Text) (out : List ℕ) → WriteNumbered true text (length out) (write_triple (lay_whole text out).answer)
 laid-number text out =
     write_numbered true text (length out) _ (λ h. absurd (true≢false h))
-    (λ _ n. ap (λ (a : Answered). write_pair a.answer) (sym (whole-short text out n)))
-    (λ _ n. ap (λ (a : Answered). write_pair a.answer) (sym (whole-fits text out n)))
+    (λ _ n. ap (λ (a : Answered). write_triple a.answer) (sym (whole-short text out n)))
+    (λ _ n. ap (λ (a : Answered). write_triple a.answer) (sym (whole-fits text out n)))
 
 -- a marking that is written
 pub write_number : (m : Model) (k : Marking) (out : List ℕ)
-    → WriteNumbered (held_both m k) (marking_text (racks m k)) (length out) (write_pair (marking_writing m k out).answer)
+    → WriteNumbered (held_both m k) (marking_text (racks m k)) (length out) (write_triple (marking_writing m k out).answer)
 unfolding marking_writing
 write_number m k out =
     let text = marking_text (racks m k) in
     write_numbered (held_both m k) text (length out) _ (λ h. rw (h, marking_writing))
-    (λ h n. rw (h, marking_writing) (ap (λ (a : Answered). write_pair a.answer) (sym (whole-short text out n))))
-    (λ h n. rw (h, marking_writing) (ap (λ (a : Answered). write_pair a.answer) (sym (whole-fits text out n))))
+    (λ h n. rw (h, marking_writing) (ap (λ (a : Answered). write_triple a.answer) (sym (whole-short text out n))))
+    (λ h n. rw (h, marking_writing) (ap (λ (a : Answered). write_triple a.answer) (sym (whole-fits text out n))))
 
 -- ---- the spread
 
 module _ (n k : ℕ) where
   abbrev shared : Refusal
-  shared = spread_pair (spread_call n k)
+  shared = spread_triple (spread_call n k)
 
   tokens_over : 31 < n → shared ≡ pair 3 1
   unfolding spread_call

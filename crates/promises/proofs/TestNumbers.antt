@@ -15,8 +15,8 @@ use Rattle.eos.specs.Weights.{Weights, effect, is_zero, all_zero, weightless, un
 use Rattle.eos.proofs.FirstLaws.{renamed, first_renamed, unless_renamed, at_renamed, first-each, unless-each, at_each, failing-least, lacking-within}
 use Rattle.model.specs.Limits.{room_limit}
 use Rattle.reader.specs.Answers.{pair}
-use Rattle.step.specs.Verdict.{has_room, cause_pair}
-use Rattle.keeper.specs.Answers.{weight_cause_pair}
+use Rattle.step.specs.Verdict.{has_room, cause_triple}
+use Rattle.keeper.specs.Answers.{weight_cause_triple}
 use Rattle.promises.specs.Numbers.{Among, step_numbers, weight_numbers, step_tests, StepBeside, weight_tests, WeightBeside}
 
 -- ---- a step
@@ -29,7 +29,7 @@ module _ (d : eos.Model) (μ : eos.Marking) (t : Step) where
   nets = length d.nets
 
   abbrev numbers : Cause → Refusal
-  numbers = cause_pair (length t.taken)
+  numbers = cause_triple (length t.taken)
 
   tests_are : step_tests d μ t ≡ map (renamed numbers) (causes (has_room room_limit) d t μ)
   unfolding step_tests causes
@@ -46,9 +46,9 @@ module _ (d : eos.Model) (μ : eos.Marking) (t : Step) where
   unfolding refusal
   step-first = ap first tests_are ∙ first_renamed numbers (causes (has_room room_limit) d t μ)
 
-  -- its number and what stands beside it
+  -- its number, what stands beside it, and no column
   abbrev Right : Refusal → Type 0
-  Right c = Among step_numbers.tests c.number × StepBeside nets (length t.taken) c
+  Right c = Among step_numbers.tests c.number × StepBeside nets (length t.taken) c × (c.column ≡ 0)
 
   on_places : (b : ℕ) → (b ≡ 2) ⊎ (b ≡ 3 + length t.taken) → Right (pair 8 b)
   on_places b h = (
@@ -60,6 +60,7 @@ module _ (d : eos.Model) (μ : eos.Marking) (t : Step) where
       eleven = λ z. absurd (omega (arith, z));
       twelve = λ z. absurd (omega (arith, z));
     },
+    refl,
   )
 
   on_short : (n : ℕ) → n < nets → Right (pair 9 (suc n))
@@ -72,6 +73,7 @@ module _ (d : eos.Model) (μ : eos.Marking) (t : Step) where
       eleven = λ z. absurd (omega (arith, z));
       twelve = λ z. absurd (omega (arith, z));
     },
+    refl,
   )
 
   on_unequal : (n : ℕ) → n < nets → Right (pair 10 (suc n))
@@ -84,6 +86,7 @@ module _ (d : eos.Model) (μ : eos.Marking) (t : Step) where
       eleven = λ z. absurd (omega (arith, z));
       twelve = λ z. absurd (omega (arith, z));
     },
+    refl,
   )
 
   on_missing : (i : ℕ) → i < length t.taken → Right (pair 11 (3 + i))
@@ -96,6 +99,7 @@ module _ (d : eos.Model) (μ : eos.Marking) (t : Step) where
       eleven = λ _. (omega arith, omega arith);
       twelve = λ z. absurd (omega (arith, z));
     },
+    refl,
   )
 
   on_room : Right (pair 12 (3 + length t.taken))
@@ -108,6 +112,7 @@ module _ (d : eos.Model) (μ : eos.Marking) (t : Step) where
       eleven = λ z. absurd (omega (arith, z));
       twelve = λ _. refl;
     },
+    refl,
   )
 
   pub step_right : (c : Refusal) → first (step_tests d μ t) ≡ some c → Right c
@@ -145,28 +150,28 @@ module _ (last : ℕ) (d : eos.Model) (w : Weights) where
   abbrev balanced : ℕ → Bool
   balanced k = is_zero (effect d w (eos.event d k))
 
-  pub weight_first : first (weight_tests last d w) ≡ renamed (weight_cause_pair last) (weight_refusal d w)
+  pub weight_first : first (weight_tests last d w) ≡ renamed (weight_cause_triple last) (weight_refusal d w)
   unfolding weight_tests weight_refusal
   weight_first =
       ap first (
-      ap₂ ◌∷◌ (unless_renamed (weight_cause_pair last) (not (all_zero w)) weightless)
-      (ap₂ ◌∷◌ (at_renamed (weight_cause_pair last) unbalanced (failing events 0 balanced)) refl)
+      ap₂ ◌∷◌ (unless_renamed (weight_cause_triple last) (not (all_zero w)) weightless)
+      (ap₂ ◌∷◌ (at_renamed (weight_cause_triple last) unbalanced (failing events 0 balanced)) refl)
       )
-      ∙ first_renamed (weight_cause_pair last) (unless (not (all_zero w)) weightless ∷ at unbalanced (failing events 0 balanced) ∷ [])
+      ∙ first_renamed (weight_cause_triple last) (unless (not (all_zero w)) weightless ∷ at unbalanced (failing events 0 balanced) ∷ [])
 
   abbrev Fit : Refusal → Type 0
-  Fit c = Among weight_numbers.tests c.number × WeightBeside last events c
+  Fit c = Among weight_numbers.tests c.number × WeightBeside last events c × (c.column ≡ 0)
 
   pub weight_right : (c : Refusal) → first (weight_tests last d w) ≡ some c → Fit c
   unfolding weight_tests
   weight_right =
       first-each Fit (weight_tests last d w) (
-        unless-each Fit (not (all_zero w)) (pair 6 last) (inl refl, record { six = λ _. refl; seven = λ z. absurd (omega (arith, z)) }),
+        unless-each Fit (not (all_zero w)) (pair 6 last) (inl refl, record { six = λ _. refl; seven = λ z. absurd (omega (arith, z)) }, refl),
         (
           at_each Fit (λ k. pair 7 (suc k)) (failing events 0 balanced)
               (λ k q.
               let h = (failing-least events balanced k q).within in
-              (inr (inl refl), record { six = λ z. absurd (omega (arith, z)); seven = λ _. (omega arith, omega (arith, h)) })),
+              (inr (inl refl), record { six = λ z. absurd (omega (arith, z)); seven = λ _. (omega arith, omega (arith, h)) }, refl)),
           tt,
         ),
       )

@@ -29,18 +29,18 @@ use Rattle.marking.specs.declared.Marking.{Marking}
 use Rattle.marking.proofs.BlockExactly.{block_exactly}
 use Rattle.reader.specs.Reading.{Loaded, bounds, read_model, read_marking, right_loaded}
 use Rattle.reader.specs.Printed.{model_text}
-use Rattle.reader.specs.Answers.{pair, read_pair, loaded, model_reading, marking_reading, held_both, lay_whole, marking_writing, model_given}
+use Rattle.reader.specs.Answers.{triple, pair, read_triple, loaded, model_reading, marking_reading, held_both, lay_whole, marking_writing, model_given}
 use Rattle.reader.specs.declared.ModelReading.{ModelReading}
 use Rattle.reader.proofs.EndLaws.{ended}
 use Rattle.reader.proofs.ReadsWhatItSays.{reads_what_marking_says}
 use Rattle.reader.proofs.HeldExactly.{accepted_is_printed}
 use Rattle.step.specs.Reading.{read_step}
-use Rattle.runner.specs.Answers.{step_pair, stepping, Stepped, unfired_pair}
+use Rattle.runner.specs.Answers.{step_triple, stepping, Stepped, unfired_triple}
 use Rattle.runner.proofs.StepAnswers.{step-held}
 use Rattle.runner.proofs.FiresExactly.{Brings, fires_exactly, unfired≢fired}
 use Rattle.runner_trace.specs.Running.{running}
 use Rattle.keeper.specs.Reading.{read_weight_file}
-use Rattle.keeper.specs.Answers.{weight_pair, weight_checking, check_given}
+use Rattle.keeper.specs.Answers.{weight_triple, weight_checking, check_given}
 use Rattle.keeper.specs.Covering.{Covering}
 use Rattle.keeper.proofs.WeightsExactly.{weights_exactly, sum_exactly, cover_exactly}
 use Rattle.spread.specs.Call.{spread_call}
@@ -61,54 +61,54 @@ use Rattle.runner.specs.declared.StepRefusal.{StepRefusal}
 use Rattle.keeper.specs.declared.WeightCheck.{WeightCheck}
 use Rattle.keeper.specs.declared.WeightRefusal.{WeightRefusal}
 
--- ---- the numbers, call by call: each is the pair of the call's own answer
+-- ---- the numbers, call by call: each is the triple of the call's own answer
 
-pub model_number_to_c : (s : Text) → let r = model_read (model_reading s) in Numbered model_numbers longest s true (read_model s) untested (pair r.number r.beside)
+pub model_number_to_c : (s : Text) → let r = model_read (model_reading s) in Numbered model_numbers longest s true (read_model s) untested (triple r.number r.beside r.column)
 model_number_to_c = model-number
 
 pub marking_number_to_c : (m : Model) (s : Text) → let r = marking_read (marking_reading m s) in
-    Numbered marking_numbers longest s (held_model m) (read_marking (sizes_for m) s) untested (pair r.number r.beside)
+    Numbered marking_numbers longest s (held_model m) (read_marking (sizes_for m) s) untested (triple r.number r.beside r.column)
 marking_number_to_c = marking_number
 
 pub step_number_to_c : (m : Model) (k : Marking) (s : Text) → let r = step_done (stepping m k s) in
-    Numbered step_numbers longest s (held_both m k) (read_step bounds (sizes_for m) m.listed s 0) (step_tests (model_of m) (racks m k)) (pair r.number r.beside)
+    Numbered step_numbers longest s (held_both m k) (read_step bounds (sizes_for m) m.listed s 0) (step_tests (model_of m) (racks m k)) (triple r.number r.beside r.column)
 step_number_to_c = step-number
 
 pub weight_number_to_c : (m : Model) (k : Marking) (s : Text) → let r = weights_checked (weight_checking m k s) in
-    Numbered weight_numbers longest s (held_both m k) (read_weight_file (model_of m) s) (weight_tests (2 + length (model_of m).nets) (model_of m)) (pair r.number r.beside)
+    Numbered weight_numbers longest s (held_both m k) (read_weight_file (model_of m) s) (weight_tests (2 + length (model_of m).nets) (model_of m)) (triple r.number r.beside r.column)
 weight_number_to_c = weight_number
 
-pub run_number_to_c : (m : Model) (k : Marking) (s : Text) → let r = run_done (running m k s) in RunNumbered m k s (pair r.number r.beside)
+pub run_number_to_c : (m : Model) (k : Marking) (s : Text) → let r = run_done (running m k s) in RunNumbered m k s (triple r.number r.beside r.column)
 run_number_to_c = run-number
 
 pub write_number_to_c : (m : Model) (k : Marking) (out : List ℕ) → let r = (written_to_c (marking_writing m k out)).answer in
-    WriteNumbered (held_both m k) (marking_text (racks m k)) (length out) (pair r.number r.beside)
+    WriteNumbered (held_both m k) (marking_text (racks m k)) (length out) (triple r.number r.beside r.column)
 write_number_to_c = write_number
 
 pub listing_number_to_c : (model weights trace : Text) (out : List ℕ) → let r = (written_to_c (lay_whole (listing_text model weights trace) out)).answer in
-    WriteNumbered true (listing_text model weights trace) (length out) (pair r.number r.beside)
+    WriteNumbered true (listing_text model weights trace) (length out) (triple r.number r.beside r.column)
 listing_number_to_c model weights trace out = laid-number (listing_text model weights trace) out
 
-pub spread_number_to_c : (n k : ℕ) → let r = shared (spread_call n k) in SpreadNumbered n k (pair r.number r.beside)
+pub spread_number_to_c : (n k : ℕ) → let r = shared (spread_call n k) in SpreadNumbered n k (triple r.number r.beside r.column)
 spread_number_to_c = spread-number
 
 -- ---- reading a model
 
 -- the number 0 is an accepted model
-accepted_zero : (s : Text) → (read_pair (model_reading s)).number ≡ 0 → (r : ModelReading) × (model_reading s ≡ Ok r)
+accepted_zero : (s : Text) → (read_triple (model_reading s)).number ≡ 0 → (r : ModelReading) × (model_reading s ≡ Ok r)
 unfolding model_reading loaded
 accepted_zero s z =
     let (w, l, next, b, c) = (model-number s).good.0 z in
     (model_given (model_reading s), rw (le-leb (length s) longest w.short, model_reading, b))
 
 accepted_to_c : (o : Result ModelReading ReadRefusal) (r : ModelReading) (m : Model) (k : Marking) → o ≡ Ok r
-    → model_read o ≡ record { number = 0; beside = 0; model = m; start = k } → o ≡ Ok (record { model = m; start = k })
+    → model_read o ≡ record { number = 0; beside = 0; column = 0; model = m; start = k } → o ≡ Ok (record { model = m; start = k })
 accepted_to_c o r m k a e =
-    let f : model_read (Ok r) ≡ record { number = 0; beside = 0; model = m; start = k } = ap model_read (sym a) ∙ e in
+    let f : model_read (Ok r) ≡ record { number = 0; beside = 0; column = 0; model = m; start = k } = ap model_read (sym a) ∙ e in
     a ∙ (λ i. Ok (record { model = (f i).model; start = (f i).start }))
 
 -- the reading answers 0 exactly where the text is the printed text of a right model and of its start, and gives these as they are held
-pub model_to_c : (s : Text) (m : Model) (k : Marking) → (model_read (model_reading s) ≡ record { number = 0; beside = 0; model = m; start = k })
+pub model_to_c : (s : Text) (m : Model) (k : Marking) → (model_read (model_reading s) ≡ record { number = 0; beside = 0; column = 0; model = m; start = k })
     ↔ ((l : Loaded) × (s ≡ model_text l) × (right_loaded l ≡ true) × (length s ≤ longest) × (m ≡ hold_model l.model) × (k ≡ hold_marking (eos.canonical l.start)))
 model_to_c s m k = (
   λ e. let a = accepted_zero s (ap (λ (r : ModelRead). r.number) e) in (accepted_is_printed s m k).0 (accepted_to_c (model_reading s) a.0 m k a.1 e),
@@ -134,12 +134,12 @@ marking_to_c m s =
 -- ---- a step
 
 -- the number 0 is a step that fired
-fired_zero : (m : Model) (k : Marking) (s : Text) → (step_pair (stepping m k s).answer).number ≡ 0
+fired_zero : (m : Model) (k : Marking) (s : Text) → (step_triple (stepping m k s).answer).number ≡ 0
     → Lent longest s (held_both m k) × (next : ℕ) × ((stepping m k s).answer ≡ Ok next)
 fired_zero m k s z =
     let w = ((step-number m k s).good.0 z).0 in
     let same = ap (λ (r : Stepped). r.answer) (step-held m k s w.short w.is_held) in
-    let f = held-fired m k s w.short (ap (λ (a : Result ℕ StepRefusal). (step_pair a).number) same ∙ z) in
+    let f = held-fired m k s w.short (ap (λ (a : Result ℕ StepRefusal). (step_triple a).number) same ∙ z) in
     (w, f.0, sym same ∙ f.1)
 
 -- the step call answers 0 exactly where the text brings a step that the rule allows and that leaves room
@@ -147,12 +147,12 @@ pub step_to_c : (m : Model) (k : Marking) (s : Text) → ((step_done (stepping m
     ↔ (Lent longest s (held_both m k) × (next : ℕ) × Brings m k s next)
 step_to_c m k s = (
   λ z. let (w, next, f) = fired_zero m k s z in (w, next, (fires_exactly m k s next w.is_held w.short).only f),
-  λ (w, next, b). ap (λ (a : Result ℕ StepRefusal). (step_pair a).number) ((fires_exactly m k s next w.is_held w.short).always b),
+  λ (w, next, b). ap (λ (a : Result ℕ StepRefusal). (step_triple a).number) ((fires_exactly m k s next w.is_held w.short).always b),
 )
 
 -- and then it says the bytes used and returns the marking after the step
 pub fired_to_c : (m : Model) (k : Marking) (s : Text) (next : ℕ) → Lent longest s (held_both m k) → (b : Brings m k s next)
-    → step_done (stepping m k s) ≡ record { number = 0; beside = 0; used = next; marking = hold_marking (eos.canonical (after b.step (racks m k))) }
+    → step_done (stepping m k s) ≡ record { number = 0; beside = 0; column = 0; used = next; marking = hold_marking (eos.canonical (after b.step (racks m k))) }
 fired_to_c m k s next w b =
     let x = fires_exactly m k s next w.is_held w.short in
     let p = x.always b in
@@ -177,7 +177,7 @@ weights_to_c m k s = (
       let u = ((weight_number m k s).good.0 z).0 in
       let (w, x, e, p) = (weights_exactly m k s u.is_held u.short).0 (weight_passed m k s z) in
       (u, w, x, e, p),
-  λ (u, w, x, e, p). ap (λ (a : Result WeightCheck WeightRefusal). (weight_pair a).number) ((weights_exactly m k s u.is_held u.short).1 (w, x, e, p)).1,
+  λ (u, w, x, e, p). ap (λ (a : Result WeightCheck WeightRefusal). (weight_triple a).number) ((weights_exactly m k s u.is_held u.short).1 (w, x, e, p)).1,
 )
 
 cover_one : (b : Bool) → ◌≡◌ {A = ℕ} (cond b 1 0) 1 ↔ (b ≡ true)
@@ -198,12 +198,12 @@ passed_to_c m k s u w x e p =
 
 -- ---- demand 3
 
-said_zero : (m : Model) (k : Marking) (s : Text) → eqb (step_pair (stepping m k s).answer).number 0 ≡ says_fired (stepping m k s).answer
+said_zero : (m : Model) (k : Marking) (s : Text) → eqb (step_triple (stepping m k s).answer).number 0 ≡ says_fired (stepping m k s).answer
 said_zero m k s = go (stepping m k s).answer (λ z. let (w, n, e) = fired_zero m k s z in (n, e))
   where
-    go : (a : Result ℕ StepRefusal) → ((step_pair a).number ≡ 0 → (n : ℕ) × (a ≡ Ok n)) → eqb (step_pair a).number 0 ≡ says_fired a
+    go : (a : Result ℕ StepRefusal) → ((step_triple a).number ≡ 0 → (n : ℕ) × (a ≡ Ok n)) → eqb (step_triple a).number 0 ≡ says_fired a
     go (Ok n) h = refl
-    go (Err e) h = ne_eqb (unfired_pair e).number 0 (λ z. unfired≢fired (h z).1)
+    go (Err e) h = ne_eqb (unfired_triple e).number 0 (λ z. unfired≢fired (h z).1)
 
 module _ (m : Model) where
   left_to_c_lem : (texts : List Text) (k : Marking) → left_to_c m k texts ≡ left_by m k texts

@@ -23,7 +23,7 @@ use Rattle.marking.specs.declared.Marking.{Marking}
 use Rattle.reader.specs.Reading.{Loaded, read_model, right_loaded}
 use Rattle.reader.proofs.ReadsWhatItSays.{reads_what_it_says}
 use Rattle.reader.proofs.HeldExactly.{accepted_is_printed}
-use Rattle.runner.specs.Answers.{step_pair, stepping}
+use Rattle.runner.specs.Answers.{step_triple, stepping}
 use Rattle.keeper.specs.Answers.{weight_checking}
 use Rattle.keeper.proofs.WeightsExactly.{covers_parts}
 use Rattle.promises.specs.WholeRun.{brings, own_run, own_fired, left_by, answers_of, says_fired, racks, Covered, WholeRun}
@@ -53,7 +53,7 @@ module _ (m : Model) where
   said_fired (s ∷ texts) k = ap₂ ◌∷◌ (said_cause (stepping m k s).answer) (said_fired texts (stepping m k s).marking)
 
 -- a call that said fired has number 0
-fired-number : (a : Result ℕ StepRefusal) → says_fired a ≡ true → (step_pair a).number ≡ 0
+fired-number : (a : Result ℕ StepRefusal) → says_fired a ≡ true → (step_triple a).number ≡ 0
 fired-number (Ok n) h = refl
 fired-number (Err e) h = absurd (false≢true h)
 
@@ -62,7 +62,7 @@ abbrev none_said : Result ℕ StepRefusal
 none_said = Err (Unread NotHeld)
 
 -- and so has the call at an index at which the run fired
-number_at : (l : List (Result ℕ StepRefusal)) (fs : List Bool) → map says_fired l ≡ fs → (i : ℕ) → get_or fs i false ≡ true → (step_pair (get_or l i none_said)).number ≡ 0
+number_at : (l : List (Result ℕ StepRefusal)) (fs : List Bool) → map says_fired l ≡ fs → (i : ℕ) → get_or fs i false ≡ true → (step_triple (get_or l i none_said)).number ≡ 0
 number_at l fs e i h =
     fired-number (get_or l i none_said) (sym (get_or-map says_fired l i none_said) ∙ ap (λ (bs : List Bool). get_or bs i false) e ∙ h)
 

@@ -1,9 +1,10 @@
 -- Demand 1 (00) at what the caller sees: a call answers with one number of 01's table ("Why a thing is turned down"), for the first cause in
--- the stated order, and beside it stands what the table says. 0 is no cause: accepted, written, passed, fired, at the trace's end.
+-- the stated order, and beside it stands what the table says, and the column of a fault in a line (02, K5). 0 is no cause: accepted, written,
+-- passed, fired, at the trace's end.
 use Rattle.std.specs.Prelude.{ℕ, suc, ◌+◌, ◌≤◌, ◌<◌, ◌≡◌, ◌↔◌, ◌⊎◌, Bool, true, false, not, List, [], ◌∷◌, ◌++◌, leb, length, drop}
 use Rattle.std.proofs.Math.Option.{Option}
-use Rattle.text.specs.Bytes.{Text, bytes, newlines, line_at}
-use Rattle.text.specs.Lines.{Outcome, got, bad, read_head, cause_number}
+use Rattle.text.specs.Bytes.{Text, bytes, newlines, line_at, column_at}
+use Rattle.text.specs.Lines.{Outcome, got, bad, read_head, cause_number, column_for}
 use Rattle.text.specs.Printed.{texts, number_text}
 use Rattle.text.specs.declared.Fault.{Fault}
 use Rattle.eos.specs.Model as eos
@@ -17,9 +18,9 @@ use Rattle.marking.specs.Printed.{net_token_text}
 use Rattle.marking.specs.Sizes.{sizes_for}
 use Rattle.marking.specs.declared.Marking.{Marking}
 use Rattle.reader.specs.Reading.{bounds}
-use Rattle.reader.specs.Answers.{pair, held_both}
+use Rattle.reader.specs.Answers.{triple, pair, held_both}
 use Rattle.step.specs.Reading.{read_step}
-use Rattle.runner.specs.Answers.{step_pair, held_step}
+use Rattle.runner.specs.Answers.{step_triple, held_step}
 use Rattle.runner_trace.specs.Running.{running}
 use Rattle.promises.specs.WholeRun.{racks}
 
@@ -52,6 +53,10 @@ weight_numbers = record { unheld = 14 ∷ []; lines = 2 ∷ 3 ∷ []; tests = 6 
 abbrev pub step_numbers : Numbers
 step_numbers = record { unheld = 14 ∷ []; lines = 2 ∷ 3 ∷ []; tests = 8 ∷ 9 ∷ 10 ∷ 11 ∷ 12 ∷ [] }
 
+-- the answer to a fault of a text: the number of its cause, its line, and its column
+abbrev pub faulted : Text → Fault → Refusal
+faulted s e = triple (cause_number e.cause) (line_at s e.at) (column_for e.cause (column_at s e.at e.byte))
+
 -- no cause 1, and none 14
 pub record Lent (most : ℕ) (s : Text) (held : Bool) : Type 0 where
   pub short : length s ≤ most
@@ -65,13 +70,16 @@ pub record Numbered {A : Type 0} (ns : Numbers) (most : ℕ) (s : Text) (held : 
   pub one : (r.number ≡ 1) ↔ (most < length s)
   pub fourteen : (r.number ≡ 14) ↔ ((length s ≤ most) × (held ≡ false))
   pub line : (c : Refusal) → Among ns.lines c.number
-      → (r ≡ c) ↔ (Lent most s held × (e : Fault) × (reading ≡ bad e) × (c ≡ pair (cause_number e.cause) (line_at s e.at)))
+      → (r ≡ c) ↔ (Lent most s held × (e : Fault) × (reading ≡ bad e) × (c ≡ faulted s e))
   pub test : (c : Refusal) → Among ns.tests c.number
       → (r ≡ c) ↔ (Lent most s held × (a : A) × (next : ℕ) × (reading ≡ got a next) × First (tests a) c)
   pub good : (r.number ≡ 0) ↔ (Lent most s held × (a : A) × (next : ℕ) × (reading ≡ got a next) × Clear (tests a))
   -- beside 0, 1 and 14 stands 0; beside the cause of a line a line of the text, or the line after its last
   pub nothing : Among (0 ∷ 1 ∷ 14 ∷ []) r.number → r.beside ≡ 0
   pub a_line : Among ns.lines r.number → (1 ≤ r.beside) × (r.beside ≤ newlines s + 1)
+  -- 2 and 3 have a column, from 1 to the one behind the last byte; all else has 0
+  pub a_column : Among (2 ∷ 3 ∷ []) r.number → (1 ≤ r.column) × (r.column ≤ length s + 1)
+  pub no_column : (Among (2 ∷ 3 ∷ []) r.number → ⊥) → r.column ≡ 0
 
 -- what was read meets no test
 abbrev pub untested : {A : Type 0} → A → List (Option Refusal)
@@ -136,16 +144,19 @@ pub record WeightBeside (last events : ℕ) (r : Refusal) : Type 0 where
 pub record RunNumbered (m : Model) (k : Marking) (s : Text) (r : Refusal) : Type 0 where
   pub one : (r.number ≡ 1) ↔ (longest < length s)
   pub fourteen : (r.number ≡ 14) ↔ ((length s ≤ longest) × (held_both m k ≡ false))
-  pub header : ((r ≡ pair 2 1) × ((running m k s).at ≡ 0)) ↔ (Lent longest s (held_both m k) × (e : Fault) × (read_head (bytes "run=1\n") s 0 ≡ bad e))
+  pub header : (c : Refusal) → ((r ≡ c) × (c.number ≡ 2) × ((running m k s).at ≡ 0))
+      ↔ (Lent longest s (held_both m k) × (e : Fault) × (read_head (bytes "run=1\n") s 0 ≡ bad e) × (c ≡ triple 2 1 (column_at s 0 e.byte)))
   pub good : (r.number ≡ 0)
       ↔ (Lent longest s (held_both m k) × (next : ℕ) × (read_head (bytes "run=1\n") s 0 ≡ got tt next) × ((running m k s).at ≡ length s))
   pub step : Lent longest s (held_both m k) → (next : ℕ) → read_head (bytes "run=1\n") s 0 ≡ got tt next → (running m k s).at < length s
-      → r ≡ step_pair (held_step room_limit m (running m k s).marking (drop (running m k s).at s)).answer
+      → r ≡ step_triple (held_step room_limit m (running m k s).marking (drop (running m k s).at s)).answer
   pub as_a_step : Lent longest s (held_both m k) → (next : ℕ) → read_head (bytes "run=1\n") s 0 ≡ got tt next → (running m k s).at < length s
       → let left = drop (running m k s).at s in
       Numbered step_numbers longest left true (read_step bounds (sizes_for m) m.listed left 0) (step_tests (model_of m) (racks m (running m k s).marking)) r
   pub listed : Among (all_of step_numbers) r.number
   pub nothing : Among (0 ∷ 1 ∷ 14 ∷ []) r.number → r.beside ≡ 0
+  pub a_column : Among (2 ∷ 3 ∷ []) r.number → (1 ≤ r.column) × (r.column ≤ length s + 1)
+  pub no_column : (Among (2 ∷ 3 ∷ []) r.number → ⊥) → r.column ≡ 0
 
 -- ---- writing into a lent buffer
 

@@ -21,8 +21,8 @@ numbers_to_c m k (s ∷ texts) = (step_done (stepping m k s)).number ∷ numbers
 
 -- the model reading answered 0, and the weight check for what it gave answered 0 with this sum and cover 1
 pub record CoveredToC (text file : Text) (m : Model) (k : Marking) (sum : ℤ) : Type 0 where
-  pub accepted : model_read (model_reading text) ≡ record { number = 0; beside = 0; model = m; start = k }
-  pub passed : weights_checked (weight_checking m k file) ≡ record { number = 0; beside = 0; above = above sum; below = below sum; cover = 1 }
+  pub accepted : model_read (model_reading text) ≡ record { number = 0; beside = 0; column = 0; model = m; start = k }
+  pub passed : weights_checked (weight_checking m k file) ≡ record { number = 0; beside = 0; column = 0; above = above sum; below = below sum; cover = 1 }
 
 -- a whole run, in which the marking held is the one returned, and a call answered 0 exactly when its text brought the run a step that fired
 pub record WholeRunToC (text file : Text) (m : Model) (k : Marking) (sum : ℤ) (texts : List Text) : Type 0 where

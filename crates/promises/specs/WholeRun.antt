@@ -18,7 +18,7 @@ use Rattle.reader.specs.Reading.{Loaded, read_model}
 use Rattle.marking.specs.Sizes.{sizes_for}
 use Rattle.reader.specs.Answers.{model_reading}
 use Rattle.step.specs.Reading.{read_step}
-use Rattle.runner.specs.Answers.{step_pair, stepping}
+use Rattle.runner.specs.Answers.{step_triple, stepping}
 use Rattle.keeper.specs.Reading.{read_weight_file}
 use Rattle.keeper.specs.Answers.{weight_checking}
 use Rattle.keeper.specs.Covering.{Covering}
@@ -87,7 +87,7 @@ pub record WholeRun (text file : Text) (m : Model) (k : Marking) (sum : ℤ) (te
   pub fired : map says_fired (answers_of m k texts) ≡ own_fired plant texts
   -- and no such text was answered 3 or 12
   pub room : (i : ℕ) → get_or (own_fired plant texts) i false ≡ true
-      → ((step_pair (get_or (answers_of m k texts) i (Err (Unread NotHeld)))).number ≢ 3) × ((step_pair (get_or (answers_of m k texts) i (Err (Unread NotHeld)))).number ≢ 12)
+      → ((step_triple (get_or (answers_of m k texts) i (Err (Unread NotHeld)))).number ≢ 3) × ((step_triple (get_or (answers_of m k texts) i (Err (Unread NotHeld)))).number ≢ 12)
   -- the weighted sum of the held marking equals the sum reported, which is not below 0
   pub kept : weigh (model_of m) weights (racks m (left_by m k texts)) ≡ sum
   pub whole : sum ≡ pos (nat_abs sum)

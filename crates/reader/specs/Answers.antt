@@ -22,38 +22,42 @@ use Rattle.reader.specs.declared.ModelReading.{ModelReading}
 use Rattle.reader.specs.declared.WriteRefusal.{WriteRefusal}
 use Rattle.reader.specs.declared.WriteRefusal.TheVariants.{Unheld, TooSmall}
 
--- ---- 01's table: the number, and what stands beside it
+-- ---- 01's table: the number, what stands beside it, and 02's column (K5)
 
+abbrev pub triple : ℕ → ℕ → ℕ → Refusal
+triple n b c = record { number = n; beside = b; column = c }
+
+-- without a column
 abbrev pub pair : ℕ → ℕ → Refusal
-pair n b = record { number = n; beside = b }
+pair n b = triple n b 0
 
--- what is answered is 0, and what is refused has its refusal's pair
-abbrev pub pair_of : {A E : Type 0} → (E → Refusal) → Result A E → Refusal
-pair_of refused (Ok a) = pair 0 0
-pair_of refused (Err e) = refused e
+-- what is answered is 0, and what is refused has its refusal's triple
+abbrev pub triple_of : {A E : Type 0} → (E → Refusal) → Result A E → Refusal
+triple_of refused (Ok a) = pair 0 0
+triple_of refused (Err e) = refused e
 
-abbrev pub unread_pair : ReadRefusal → Refusal
-unread_pair TooLong = pair 1 0
-unread_pair NotHeld = pair 14 0
-unread_pair (Faulty e) = pair (cause_number e.cause) e.line
+abbrev pub unread_triple : ReadRefusal → Refusal
+unread_triple TooLong = pair 1 0
+unread_triple NotHeld = pair 14 0
+unread_triple (Faulty e) = triple (cause_number e.cause) e.line e.column
 
-abbrev pub read_pair : {A : Type 0} → Result A ReadRefusal → Refusal
-read_pair r = pair_of unread_pair r
+abbrev pub read_triple : {A : Type 0} → Result A ReadRefusal → Refusal
+read_triple r = triple_of unread_triple r
 
-abbrev pub unwritten_pair : WriteRefusal → Refusal
-unwritten_pair Unheld = pair 14 0
-unwritten_pair (TooSmall n) = pair 13 n
+abbrev pub unwritten_triple : WriteRefusal → Refusal
+unwritten_triple Unheld = pair 14 0
+unwritten_triple (TooSmall n) = pair 13 n
 
-abbrev pub write_pair : Result ℕ WriteRefusal → Refusal
-write_pair r = pair_of unwritten_pair r
+abbrev pub write_triple : Result ℕ WriteRefusal → Refusal
+write_triple r = triple_of unwritten_triple r
 
 -- ---- reading
 
--- a fault as its line
+-- a fault as its line and its column
 abbrev pub faulty : Text → Fault → ReadRefusal
 faulty s e = Faulty (spot_of s e)
 
--- what was read of a text, where a fault is named by its line
+-- what was read of a text, where a fault is named by its line and its column
 abbrev pub named : {A : Type 0} → Text → Result A Fault → Result A ReadRefusal
 named s (Ok a) = Ok a
 named s (Err e) = Err (faulty s e)

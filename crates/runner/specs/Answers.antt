@@ -13,20 +13,20 @@ use Rattle.marking.specs.Held.{Sizes, hold_marking, tokens_of}
 use Rattle.marking.specs.declared.Marking.{Marking}
 use Rattle.reader.specs.Reading.{bounds}
 use Rattle.marking.specs.Sizes.{sizes_for}
-use Rattle.reader.specs.Answers.{pair_of, unread_pair, faulty, held_in}
+use Rattle.reader.specs.Answers.{triple_of, unread_triple, faulty, held_in}
 use Rattle.reader.specs.declared.ReadRefusal.TheVariants.{TooLong, NotHeld}
 use Rattle.step.specs.Reading.{read_step}
-use Rattle.step.specs.Verdict.{has_room, turned_by, turned_pair}
+use Rattle.step.specs.Verdict.{has_room, turned_by, turned_triple}
 use Rattle.runner.specs.declared.StepRefusal.{StepRefusal}
 use Rattle.runner.specs.declared.StepRefusal.TheVariants.{Unread, Turned}
 
 -- 01's table: the number, and what stands beside it
-abbrev pub unfired_pair : StepRefusal → Refusal
-unfired_pair (Unread e) = unread_pair e
-unfired_pair (Turned r) = turned_pair r
+abbrev pub unfired_triple : StepRefusal → Refusal
+unfired_triple (Unread e) = unread_triple e
+unfired_triple (Turned r) = turned_triple r
 
-abbrev pub step_pair : {A : Type 0} → Result A StepRefusal → Refusal
-step_pair a = pair_of unfired_pair a
+abbrev pub step_triple : {A : Type 0} → Result A StepRefusal → Refusal
+step_triple a = triple_of unfired_triple a
 
 -- the bytes that a step used; a refused step used none
 abbrev pub used_by : Result ℕ StepRefusal → ℕ

@@ -1,4 +1,4 @@
--- The spread call at five pairs, by computation: no token and no rack, tokens and no rack, a small spread, and the two refusals.
+-- The spread call at five triples, by computation: no token and no rack, tokens and no rack, a small spread, and the two refusals.
 use mathlib.Core.Path.{◌≡◌, refl}
 use Rattle.eos.specs.Spread.{binomial, spread}
 use Rattle.spread.specs.Call.{spread_call}

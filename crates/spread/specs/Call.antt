@@ -6,13 +6,13 @@ use Rattle.spread.specs.declared.Beyond.{Beyond}
 use Rattle.spread.specs.declared.Beyond.TheVariants.{Tokens, Racks}
 
 -- 01's number, what stands beside it, and the value
-abbrev pub beyond_pair : Beyond → Refusal
-beyond_pair Tokens = record { number = 3; beside = 1 }
-beyond_pair Racks = record { number = 3; beside = 2 }
+abbrev pub beyond_triple : Beyond → Refusal
+beyond_triple Tokens = record { number = 3; beside = 1; column = 0 }
+beyond_triple Racks = record { number = 3; beside = 2; column = 0 }
 
-abbrev pub spread_pair : Result ℕ Beyond → Refusal
-spread_pair (Ok v) = record { number = 0; beside = 0 }
-spread_pair (Err b) = beyond_pair b
+abbrev pub spread_triple : Result ℕ Beyond → Refusal
+spread_triple (Ok v) = record { number = 0; beside = 0; column = 0 }
+spread_triple (Err b) = beyond_triple b
 
 abbrev pub spread_value : Result ℕ Beyond → ℕ
 spread_value (Ok v) = v

@@ -1,11 +1,12 @@
 -- What the calls compute by: a proof that says `unfolding opened` evaluates them.
-use Rattle.text.specs.Bytes.{starts, newlines}
-use Rattle.text.specs.Number.{digits, number_of, number, plainly, negated, signed, ended, item}
-use Rattle.text.specs.Lists.{stop_of, prepended, items, list_end}
+use Rattle.text.specs.Bytes.{meet, far, newlines}
+use Rattle.text.specs.Number.{made, both, either, literal, digits, number_of, number, negated, signed, ended, item}
+use Rattle.text.specs.Lists.{stop_of, items, list_end}
 use Rattle.text.specs.Lines as lines
-use Rattle.text.specs.Lines.{then, need, many, behind, read_number, read_list, read_weights, read_head}
+use Rattle.text.specs.Lines.{then, need, many, behind, read_number, read_row, read_head}
 use Rattle.text.specs.Repeat.{many_at, fill}
-use Rattle.text.specs.Token.{counts_at, token_at, read_token}
+use Rattle.text.specs.Keyed.{keyed_form, read_keyed}
+use Rattle.text.specs.TokenLine.{counts_at, token_form, read_token}
 use Rattle.text.specs.Answers.{padded}
 use Rattle.text.specs.Printed.{decimal_of, decimal, items_text, end_text, texts, number_text, token_text}
 use Rattle.eos.specs.Firing.{outer, inner, outer_of, inner_of, outer_taken, outer_given, inner_taken, inner_given}
@@ -16,7 +17,7 @@ use Rattle.model.specs.Rules.{takes_part, right_act}
 use Rattle.model.specs.Acts.{held_act}
 use Rattle.model.specs.Held.{hold_model, hold_net, hold_nets, hold_event, hold_events, tabled, model_of, net_of, event_of}
 use Rattle.model.specs.Test.{empty_past, held_types, held_moves, held_net, held_nets, held_event, empty_event, held_events, held_model}
-use Rattle.model_text.specs.Reading.{read_sides, read_net, read_idle, read_move, read_act, read_sync, read_event, read_plant}
+use Rattle.model_text.specs.Reading.{read_sides, read_net, read_act, read_sync, read_event, read_plant}
 use Rattle.marking.specs.Held.{hold_marking, tokens_of, held_token, held_tokens}
 use Rattle.marking.specs.Printed.{net_token_text, block_text, marking_text}
 use Rattle.marking.specs.Reading.{read_net_token, read_block}
@@ -32,13 +33,13 @@ use Rattle.spread.specs.Call.{spread_call}
 
 -- numbers, lists, lines
 unfoldable pub lined : Unit {0}
-unfolding starts newlines digits number_of number plainly negated signed ended item stop_of prepended items list_end then need many many_at lines.judged behind
-    read_number read_list read_weights read_head counts_at token_at read_token
+unfolding literal both made far meet newlines digits number_of number negated signed ended item stop_of items list_end then need many many_at lines.judged behind
+    read_number read_row read_head counts_at token_form read_token
 lined = tt
 
 -- models, markings, steps, weight files
 unfoldable pub read : Unit {0}
-unfolding takes_part read_sides read_net read_idle read_move read_act read_sync read_event read_plant read_net_token read_block read_end
+unfolding takes_part read_sides read_net read_keyed keyed_form either read_act read_sync read_event read_plant read_net_token read_block read_end
     read_lines read_model_at read_taking read_step read_inner read_weights_at
 read = tt
 

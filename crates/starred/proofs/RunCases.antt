@@ -3,12 +3,12 @@
 use Prim.Native.Nat.{ℕ}
 use mathlib.Core.Path.{◌≡◌, refl}
 use mathlib.Core.List.{List, [], ◌∷◌}
-use Rattle.text.specs.Bytes.{bytes, starts}
-use Rattle.text.specs.Number.{digits, number_of, number, ended, item}
-use Rattle.text.specs.Lists.{stop_of, prepended, items, list_end}
+use Rattle.text.specs.Bytes.{bytes, meet, far}
+use Rattle.text.specs.Number.{made, both, either, literal, digits, number_of, number, negated, signed, ended, item}
+use Rattle.text.specs.Lists.{stop_of, items, list_end}
 use Rattle.text.specs.Lines as lines
 use Rattle.text.specs.Lines.{then, need, many, behind, read_number, read_head}
-use Rattle.text.specs.Token.{counts_at, token_at, read_token}
+use Rattle.text.specs.TokenLine.{counts_at, token_form, read_token}
 use Rattle.eos.specs.Model.{NetToken, Marking, Transition, move, idle, Model, canonical}
 use Rattle.eos.specs.Firing.{outer, inner, outer_of, inner_of, outer_taken, outer_given, inner_taken, inner_given}
 use Rattle.eos.specs.Causes.{first, unless, at, causes, refusal}
@@ -52,8 +52,8 @@ pub step-cases :
     (tried room_limit listing (sizes_of listing) start (bytes "fire=1\ntake=1\ntoken=1:1,0\ngive=1\ntoken=2:0,1\n")
     ≡ fires 45 (token 0 (0 ∷ 0 ∷ []) ∷ token 1 (0 ∷ 1 ∷ []) ∷ []))
     × (tried room_limit listing (sizes_of listing) start (bytes "fire=1\ntake=1\ntoken=1:0,0\ngive=1\ntoken=2:0,0\n") ≡ stops (Turned (Short 1)))
-unfolding tried read_then step_judged read_taking read_step read_block read_net_token read_token token_at counts_at read_number behind lines.judged many need then list_end items item prepended
-    ended stop_of number number_of digits starts refusal causes first unless at outer_taken outer_given inner_taken inner_given outer inner outer_of inner_of
+unfolding tried read_then step_judged read_taking read_step read_block read_net_token read_token token_form counts_at read_number behind lines.judged many need then list_end items item
+    ended stop_of number number_of digits literal both made far meet refusal causes first unless at outer_taken outer_given inner_taken inner_given outer inner outer_of inner_of
 step-cases = (refl, refl)
 
 -- the run over the listing's trace: one step fires, and the second stops it
@@ -63,6 +63,6 @@ pub run-case :
     ≡ ran 1 51 (Err (Turned (Short 1))) (hold_marking (token 0 (0 ∷ 0 ∷ []) ∷ token 1 (0 ∷ 1 ∷ []) ∷ []))
 unfolding running run_where_held headed run_from onward held_in held_model held_types held_moves held_nets held_net held_events held_event empty_event held_act right_act empty_past
     takes_part held_tokens held_token hold_model hold_net hold_nets hold_event hold_events tabled fill padded hold_marking model_of net_of event_of tokens_of sizes_in
-    tried read_then step_judged read_taking read_step read_block read_net_token read_token token_at counts_at read_head read_number behind lines.judged many need then list_end items item
-    prepended ended stop_of number number_of digits starts refusal causes first unless at outer_taken outer_given inner_taken inner_given outer inner outer_of inner_of
+    tried read_then step_judged read_taking read_step read_block read_net_token read_token token_form counts_at read_head read_number behind lines.judged many need then list_end items item
+    ended stop_of number number_of digits literal both made far meet refusal causes first unless at outer_taken outer_given inner_taken inner_given outer inner outer_of inner_of
 run-case = refl

@@ -3,12 +3,12 @@
 use Prim.Native.Nat.{ℕ}
 use mathlib.Core.Path.{◌≡◌, refl}
 use mathlib.Core.List.{List, [], ◌∷◌}
-use Rattle.text.specs.Bytes.{Text, bytes, starts}
-use Rattle.text.specs.Number.{digits, number_of, number, ended, item}
-use Rattle.text.specs.Lists.{stop_of, prepended, items, list_end}
-use Rattle.text.specs.Lines.{got, bad, fault, then, need, many, judged, behind, read_number}
+use Rattle.text.specs.Bytes.{Text, bytes, meet, far}
+use Rattle.text.specs.Number.{made, both, either, literal, digits, number_of, number, negated, signed, ended, item}
+use Rattle.text.specs.Lists.{stop_of, items, list_end}
+use Rattle.text.specs.Lines.{got, bad, fault_at, out_at, then, need, many, judged, behind, read_number}
 use Rattle.text.specs.Printed.{decimal_of, decimal, items_text, end_text, texts, number_text, token_text}
-use Rattle.text.specs.Token.{counts_at, token_at, read_token}
+use Rattle.text.specs.TokenLine.{counts_at, token_form, token_out, read_token}
 use Rattle.eos.specs.Model.{NetToken, Marking}
 use Rattle.eos.specs.Firing.{Step}
 use Rattle.model.specs.Limits.{line_limit, count_limit}
@@ -44,10 +44,10 @@ pub step-cases :
     × (read_step free listed 2 first 0 ≡ got (step 0 (token 0 (1 ∷ 0 ∷ []) ∷ []) (token 1 (0 ∷ 1 ∷ []) ∷ [])) 45)
     × (read_step (limits line_limit count_limit) listed 2 second 0 ≡ got (step 0 (token 0 (0 ∷ 0 ∷ []) ∷ []) (token 1 (0 ∷ 0 ∷ []) ∷ [])) 45)
     × (read_step free listed 2 second 0 ≡ got (step 0 (token 0 (0 ∷ 0 ∷ []) ∷ []) (token 1 (0 ∷ 0 ∷ []) ∷ [])) 45)
-    × (read_step (limits line_limit count_limit) listed 2 large 0 ≡ bad (fault Range 21))
+    × (read_step (limits line_limit count_limit) listed 2 large 0 ≡ bad (fault_at Range 21 29))
     × (read_step free listed 2 large 0 ≡ got (step 1 [] (token 1 (70000 ∷ 0 ∷ []) ∷ [])) 37)
-unfolding read_taking read_step read_block read_net_token read_token token_at counts_at read_number behind judged many need then list_end items item prepended ended stop_of
-    number number_of digits starts
+unfolding read_taking read_step read_block read_net_token read_token token_form counts_at read_number behind judged many need then list_end items item ended stop_of
+    number number_of digits literal both made far meet token_out out_at decimal decimal_of
 step-cases = (refl, refl, refl, refl, refl, refl)
 
 pub printed-cases :

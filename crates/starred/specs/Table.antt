@@ -9,14 +9,14 @@ use Rattle.marking.specs.Held.{tokens_of}
 use Rattle.marking.specs.Printed.{marking_text}
 use Rattle.marking.specs.Sizes.{sizes_for}
 use Rattle.marking.specs.declared.Marking.{Marking}
-use Rattle.reader.specs.Answers.{pair, unread_pair, model_reading, marking_reading}
+use Rattle.reader.specs.Answers.{pair, unread_triple, model_reading, marking_reading}
 use Rattle.reader.specs.declared.ReadRefusal.{ReadRefusal}
 use Rattle.reader.specs.declared.ModelReading.{ModelReading}
-use Rattle.runner.specs.Answers.{Stepped, step_pair, stepping}
-use Rattle.keeper.specs.Answers.{weight_pair, check_given, weight_checking}
+use Rattle.runner.specs.Answers.{Stepped, step_triple, stepping}
+use Rattle.keeper.specs.Answers.{weight_triple, check_given, weight_checking}
 use Rattle.keeper.specs.declared.WeightRefusal.{WeightRefusal}
 use Rattle.keeper.specs.declared.WeightCheck.{WeightCheck}
-use Rattle.spread.specs.Call.{spread_pair, spread_value, spread_call}
+use Rattle.spread.specs.Call.{spread_triple, spread_value, spread_call}
 use Rattle.starred.specs.Texts.{listed_model, listed_weights, first_step, second_step}
 
 -- ---- inputs and outcomes
@@ -46,16 +46,16 @@ pub data Result : Type 0 where
 -- a refused reading ends a case
 unfoldable pub once_read : {A : Type 0} → code.Result A ReadRefusal → (A → Result) → Result
 once_read (Ok a) f = f a
-once_read (Err e) f = unread (unread_pair e)
+once_read (Err e) f = unread (unread_triple e)
 
 unfoldable pub checked : code.Result WeightCheck WeightRefusal → Result
-checked c = of_weights (weight_pair c) (check_given c).sum (check_given c).cover
+checked c = of_weights (weight_triple c) (check_given c).sum (check_given c).cover
 
 unfoldable pub step_outcome : Model → Stepped → Result
-step_outcome m r = of_step (step_pair r.answer) (marking_text (tokens_of (sizes_for m) r.marking))
+step_outcome m r = of_step (step_triple r.answer) (marking_text (tokens_of (sizes_for m) r.marking))
 
 unfoldable pub counted : ℕ → ℕ → Result
-counted n k = let a = spread_call n k in of_spread (spread_pair a) (spread_value a)
+counted n k = let a = spread_call n k in of_spread (spread_triple a) (spread_value a)
 
 -- once the model is read, and once the marking is
 unfoldable pub check_for : Text → ModelReading → Result

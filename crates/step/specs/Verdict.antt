@@ -81,15 +81,15 @@ turned_by lines (missing i) = Missing (3 + i)
 turned_by lines crowded = Crowded (3 + lines)
 
 -- its number in 01's table, and what stands beside it
-abbrev pub turned_pair : refusal.Refusal → Refusal
-turned_pair (Places line) = record { number = 8; beside = line }
-turned_pair (Short net) = record { number = 9; beside = net }
-turned_pair (Unequal net) = record { number = 10; beside = net }
-turned_pair (Missing line) = record { number = 11; beside = line }
-turned_pair (Crowded line) = record { number = 12; beside = line }
+abbrev pub turned_triple : refusal.Refusal → Refusal
+turned_triple (Places line) = record { number = 8; beside = line; column = 0 }
+turned_triple (Short net) = record { number = 9; beside = net; column = 0 }
+turned_triple (Unequal net) = record { number = 10; beside = net; column = 0 }
+turned_triple (Missing line) = record { number = 11; beside = line; column = 0 }
+turned_triple (Crowded line) = record { number = 12; beside = line; column = 0 }
 
-abbrev pub cause_pair : ℕ → Cause → Refusal
-cause_pair lines c = turned_pair (turned_by lines c)
+abbrev pub cause_triple : ℕ → Cause → Refusal
+cause_triple lines c = turned_triple (turned_by lines c)
 
 -- a step fires where it meets no cause, and is turned down by the first that it meets
 unfoldable pub verdict_of : ℕ → Option Cause → Result (Unit {0}) refusal.Refusal

@@ -4,13 +4,17 @@ use mathlib.Core.Path.{◌≡◌, refl}
 use mathlib.Core.List.{List, [], ◌∷◌, ◌++◌}
 use lib.IntN.{ℤ, pos, negsuc}
 use lib.ListN.{length, take}
-use Rattle.text.specs.Bytes.{Text, bytes, starts, newlines}
-use Rattle.text.specs.Number.{digits, number_of, number, plainly, negated, signed, ended, item}
-use Rattle.text.specs.Lists.{stop_of, prepended, items, list_end, any_items, any_list}
-use Rattle.text.specs.Lines.{Outcome, got, bad, fault, then, need, many, judged, in_range, modest, behind, read_number, read_list, read_weights, read_head}
-use Rattle.text.specs.Token.{Token, counts_at, token_at, read_token}
+use Rattle.text.specs.Bytes.{Text, bytes, meet, far, newlines}
+use Rattle.text.specs.Number.{made, both, either, literal, digits, number_of, number, negated, signed, ended, item}
+use Rattle.text.specs.Lists.{stop_of, items, list_end, any_items, any_list}
+use Rattle.text.specs.Lines.{Outcome, got, bad, fault_at, spot_of, then, many, judged, out_at, in_range, modest, behind, read_number, read_row, read_list, read_weights, read_head}
+use Rattle.text.specs.Token.{Token}
+use Rattle.text.specs.TokenLine.{counts_at, token_form, token_out, read_token}
+use Rattle.text.specs.Keyed.{keyed_form, read_keyed}
 use Rattle.text.specs.Printed.{decimal_of, decimal, signed_text, items_text, end_text, texts, number_text, list_text, weights_text, token_text}
-use Rattle.text.specs.declared.Cause.TheVariants.{Syntax, Range}
+use Rattle.text.specs.declared.Cause.TheVariants.{Syntax, Range, Idling}
+use Rattle.text.specs.declared.Keyed.{Keyed}
+use Rattle.text.specs.declared.Keyed.TheVariants.{Former, Latter}
 
 abbrev token : ℕ → List ℕ → Token
 token p cs = record { place = p; counts = cs }
@@ -48,8 +52,8 @@ pub model_reads : (read_head (bytes "eos=1\n") model 0 ≡ got tt 6)
     × (token_of model 147 ≡ got (token 1 (0 ∷ 0 ∷ [])) 159)
     × (many (token_of model) 2 135 ≡ got (token 1 (1 ∷ 0 ∷ []) ∷ token 1 (0 ∷ 0 ∷ []) ∷ []) 159)
     × (length model ≡ 159)
-unfolding read_head read_number read_list read_token token_at counts_at many then need judged behind starts
-    list_end items item ended prepended stop_of number number_of digits
+unfolding read_head read_number read_row read_token token_form counts_at many then judged behind literal both made far meet
+    list_end items item ended stop_of number number_of digits
 model_reads = (refl, refl, refl, refl, refl, refl, refl, refl, refl, refl, refl, refl, refl, refl, refl, refl, refl, refl, refl, refl, refl)
 
 abbrev weights : Text
@@ -60,7 +64,7 @@ pub weights_read : (read_head (bytes "inv=1\n") weights 0 ≡ got tt 6)
     × (read_weights (bytes "outer=") 2 (modest 1000) weights 6 ≡ got (pos 1 ∷ pos 1 ∷ []) 16)
     × (read_weights (bytes "inner=") 2 (modest 1000) weights 16 ≡ got (pos 1 ∷ pos 1 ∷ []) 26)
     × (length weights ≡ 26)
-unfolding read_head read_number read_weights then need judged behind starts list_end items item ended prepended stop_of signed plainly negated number number_of digits
+unfolding read_head read_row judged behind literal both made far meet list_end items item ended stop_of signed negated number number_of digits
 weights_read = (refl, refl, refl, refl)
 
 abbrev nets : Text → Outcome ℕ
@@ -68,25 +72,25 @@ nets s = read_number (bytes "nets=") (in_range 0 8) s 0
 
 -- a line of one number: its end, its key, its digits and its range
 pub number_edges : (nets (bytes "nets=8\n") ≡ got 8 7)
-    × (nets (bytes "nets=9\n") ≡ bad (fault Range 0))
-    × (nets (bytes "nets=123456789012345678901234567890\n") ≡ bad (fault Range 0))
-    × (nets (bytes "nets=1") ≡ bad (fault Syntax 0))
-    × (nets (bytes "nets=9") ≡ bad (fault Syntax 0))
-    × (nets (bytes "") ≡ bad (fault Syntax 0))
-    × (nets (bytes "nets=\n") ≡ bad (fault Syntax 0))
-    × (nets (bytes "nets=1\r\n") ≡ bad (fault Syntax 0))
-    × (nets (bytes "nets=1 \n") ≡ bad (fault Syntax 0))
-    × (nets (bytes "nets=-1\n") ≡ bad (fault Syntax 0))
-    × (nets (bytes "nets=+1\n") ≡ bad (fault Syntax 0))
-    × (nets (bytes "nets=00\n") ≡ bad (fault Syntax 0))
-    × (nets (bytes "Nets=1\n") ≡ bad (fault Syntax 0))
-    × (read_number (bytes "places=") (in_range 1 32) (bytes "nets=1\nplaces=0\n") 7 ≡ bad (fault Range 7))
-    × (read_head (bytes "inv=1\n") (bytes "inv=2\n") 0 ≡ bad (fault Syntax 0))
-    × (read_head (bytes "inv=1\n") (bytes "inv=123456789012345678901234567890\n") 0 ≡ bad (fault Syntax 0))
-    × (read_head (bytes "inv=1\n") (bytes "inv=01\n") 0 ≡ bad (fault Syntax 0))
-    × (read_head (bytes "inv=1\n") (bytes "inv=11\n") 0 ≡ bad (fault Syntax 0))
-    × (read_head (bytes "inv=1\n") (bytes "inv=1") 0 ≡ bad (fault Syntax 0))
-unfolding read_head read_number then need judged behind starts item ended number number_of digits
+    × (nets (bytes "nets=9\n") ≡ bad (fault_at Range 0 5))
+    × (nets (bytes "nets=123456789012345678901234567890\n") ≡ bad (fault_at Range 0 5))
+    × (nets (bytes "nets=1") ≡ bad (fault_at Syntax 0 6))
+    × (nets (bytes "nets=9") ≡ bad (fault_at Syntax 0 6))
+    × (nets (bytes "") ≡ bad (fault_at Syntax 0 0))
+    × (nets (bytes "nets=\n") ≡ bad (fault_at Syntax 0 5))
+    × (nets (bytes "nets=1\r\n") ≡ bad (fault_at Syntax 0 6))
+    × (nets (bytes "nets=1 \n") ≡ bad (fault_at Syntax 0 6))
+    × (nets (bytes "nets=-1\n") ≡ bad (fault_at Syntax 0 5))
+    × (nets (bytes "nets=+1\n") ≡ bad (fault_at Syntax 0 5))
+    × (nets (bytes "nets=00\n") ≡ bad (fault_at Syntax 0 6))
+    × (nets (bytes "Nets=1\n") ≡ bad (fault_at Syntax 0 0))
+    × (read_number (bytes "places=") (in_range 1 32) (bytes "nets=1\nplaces=0\n") 7 ≡ bad (fault_at Range 7 14))
+    × (read_head (bytes "inv=1\n") (bytes "inv=2\n") 0 ≡ bad (fault_at Syntax 0 4))
+    × (read_head (bytes "inv=1\n") (bytes "inv=123456789012345678901234567890\n") 0 ≡ bad (fault_at Syntax 0 5))
+    × (read_head (bytes "inv=1\n") (bytes "inv=01\n") 0 ≡ bad (fault_at Syntax 0 4))
+    × (read_head (bytes "inv=1\n") (bytes "inv=11\n") 0 ≡ bad (fault_at Syntax 0 5))
+    × (read_head (bytes "inv=1\n") (bytes "inv=1") 0 ≡ bad (fault_at Syntax 0 5))
+unfolding read_head read_number judged behind literal both made far meet item ended number number_of digits
 number_edges = (refl, refl, refl, refl, refl, refl, refl, refl, refl, refl, refl, refl, refl, refl, refl, refl, refl, refl, refl)
 
 abbrev pre : Text → Outcome (List ℕ)
@@ -97,16 +101,16 @@ sync n s = read_list (bytes "sync=") n (in_range 0 255) s 0
 
 -- a line of several numbers: its length and syntax are judged before any range
 pub list_edges : (pre (bytes "pre=1,2\n") ≡ got (1 ∷ 2 ∷ []) 8)
-    × (pre (bytes "pre=1,300\n") ≡ bad (fault Range 0))
-    × (pre (bytes "pre=1,2,300\n") ≡ bad (fault Syntax 0))
-    × (pre (bytes "pre=300\n") ≡ bad (fault Syntax 0))
-    × (pre (bytes "pre=300,01\n") ≡ bad (fault Syntax 0))
-    × (pre (bytes "pre=1,\n") ≡ bad (fault Syntax 0))
-    × (pre (bytes "pre=\n") ≡ bad (fault Syntax 0))
-    × (sync 1 (bytes "sync=01\n") ≡ bad (fault Syntax 0))
+    × (pre (bytes "pre=1,300\n") ≡ bad (fault_at Range 0 6))
+    × (pre (bytes "pre=1,2,300\n") ≡ bad (fault_at Syntax 0 7))
+    × (pre (bytes "pre=300\n") ≡ bad (fault_at Syntax 0 7))
+    × (pre (bytes "pre=300,01\n") ≡ bad (fault_at Syntax 0 9))
+    × (pre (bytes "pre=1,\n") ≡ bad (fault_at Syntax 0 6))
+    × (pre (bytes "pre=\n") ≡ bad (fault_at Syntax 0 4))
+    × (sync 1 (bytes "sync=01\n") ≡ bad (fault_at Syntax 0 6))
     × (sync 0 (bytes "sync=\n") ≡ got [] 6)
-    × (sync 0 (bytes "sync=0\n") ≡ bad (fault Syntax 0))
-unfolding read_list need judged behind starts list_end items item ended prepended stop_of number number_of digits
+    × (sync 0 (bytes "sync=0\n") ≡ bad (fault_at Syntax 0 5))
+unfolding read_row judged behind literal both made far meet out_at list_end items item ended stop_of number number_of digits decimal decimal_of
 list_edges = (refl, refl, refl, refl, refl, refl, refl, refl, refl, refl)
 
 abbrev outer : Text → Outcome (List ℤ)
@@ -116,30 +120,54 @@ outer s = read_weights (bytes "outer=") 1 (modest 1000) s 0
 pub weight_edges : (outer (bytes "outer=-5\n") ≡ got (negsuc 4 ∷ []) 9)
     × (outer (bytes "outer=0\n") ≡ got (pos 0 ∷ []) 8)
     × (outer (bytes "outer=-1000\n") ≡ got (negsuc 999 ∷ []) 12)
-    × (outer (bytes "outer=-1001\n") ≡ bad (fault Range 0))
-    × (outer (bytes "outer=1001\n") ≡ bad (fault Range 0))
-    × (outer (bytes "outer=-0\n") ≡ bad (fault Syntax 0))
-    × (outer (bytes "outer=-01\n") ≡ bad (fault Syntax 0))
-    × (outer (bytes "outer=--1\n") ≡ bad (fault Syntax 0))
-    × (outer (bytes "outer=-\n") ≡ bad (fault Syntax 0))
-unfolding read_weights need judged behind starts list_end items item ended prepended stop_of signed plainly negated number number_of digits
+    × (outer (bytes "outer=-1001\n") ≡ bad (fault_at Range 0 6))
+    × (outer (bytes "outer=1001\n") ≡ bad (fault_at Range 0 6))
+    × (outer (bytes "outer=-0\n") ≡ bad (fault_at Syntax 0 7))
+    × (outer (bytes "outer=-01\n") ≡ bad (fault_at Syntax 0 7))
+    × (outer (bytes "outer=--1\n") ≡ bad (fault_at Syntax 0 7))
+    × (outer (bytes "outer=-\n") ≡ bad (fault_at Syntax 0 7))
+unfolding read_row judged behind literal both made far meet out_at list_end items item ended stop_of signed negated number number_of digits signed_text decimal decimal_of
 weight_edges = (refl, refl, refl, refl, refl, refl, refl, refl, refl)
 
 -- a token: out of range, its place is 3 whatever the length of the list, whose syntax is judged
 pub token_edges : (token_of (bytes "token=2:65535,0\n") 0 ≡ got (token 2 (65535 ∷ 0 ∷ [])) 16)
-    × (token_of (bytes "token=2:65536,0\n") 0 ≡ bad (fault Range 0))
-    × (token_of (bytes "token=2:1\n") 0 ≡ bad (fault Syntax 0))
-    × (token_of (bytes "token=2:1,0,0\n") 0 ≡ bad (fault Syntax 0))
-    × (token_of (bytes "token=2,1,0\n") 0 ≡ bad (fault Syntax 0))
-    × (token_of (bytes "token=3:9\n") 0 ≡ bad (fault Range 0))
-    × (token_of (bytes "token=3:9,9,70000\n") 0 ≡ bad (fault Range 0))
-    × (token_of (bytes "token=3:9,\n") 0 ≡ bad (fault Syntax 0))
-    × (token_of (bytes "token=3:9") 0 ≡ bad (fault Syntax 0))
-    × (token_of (bytes "token=3:01\n") 0 ≡ bad (fault Syntax 0))
-    × (token_of (bytes "token=0:\n") 0 ≡ bad (fault Range 0))
+    × (token_of (bytes "token=2:65536,0\n") 0 ≡ bad (fault_at Range 0 8))
+    × (token_of (bytes "token=2:1\n") 0 ≡ bad (fault_at Syntax 0 9))
+    × (token_of (bytes "token=2:1,0,0\n") 0 ≡ bad (fault_at Syntax 0 11))
+    × (token_of (bytes "token=2,1,0\n") 0 ≡ bad (fault_at Syntax 0 7))
+    × (token_of (bytes "token=3:9\n") 0 ≡ bad (fault_at Range 0 6))
+    × (token_of (bytes "token=3:9,9,70000\n") 0 ≡ bad (fault_at Range 0 6))
+    × (token_of (bytes "token=3:9,\n") 0 ≡ bad (fault_at Syntax 0 10))
+    × (token_of (bytes "token=3:9") 0 ≡ bad (fault_at Syntax 0 9))
+    × (token_of (bytes "token=3:01\n") 0 ≡ bad (fault_at Syntax 0 9))
+    × (token_of (bytes "token=0:\n") 0 ≡ bad (fault_at Range 0 6))
     × (read_token (bytes "token=") 3 (λ p. 0) (in_range 0 65535) (bytes "token=3:\n") 0 ≡ got (token 3 []) 9)
-unfolding read_token token_at counts_at then need judged behind starts list_end items item ended prepended stop_of any_list any_items number number_of digits
+unfolding read_token token_form token_out counts_at judged behind literal both made either far meet out_at list_end items item ended stop_of any_list any_items number number_of digits
+    decimal decimal_of
 token_edges = (refl, refl, refl, refl, refl, refl, refl, refl, refl, refl, refl, refl)
+
+abbrev act : Text → Outcome Keyed
+act s = read_keyed (bytes "event=") (bytes "idle=") (in_range 1 3) (in_range 1 2) s 0
+
+-- a line of one of two keys: each in its own range, and a line that is neither goes wrong where the better of them does
+pub keyed_edges : (act (bytes "event=3\n") ≡ got (Former 3) 8)
+    × (act (bytes "idle=2\n") ≡ got (Latter 2) 7)
+    × (act (bytes "event=4\n") ≡ bad (fault_at Range 0 6))
+    × (act (bytes "idle=3\n") ≡ bad (fault_at Range 0 5))
+    × (act (bytes "xvent=1\n") ≡ bad (fault_at Syntax 0 0))
+    × (act (bytes "ivent=1\n") ≡ bad (fault_at Syntax 0 1))
+    × (act (bytes "even=1\n") ≡ bad (fault_at Syntax 0 4))
+    × (act (bytes "idle=2") ≡ bad (fault_at Syntax 0 6))
+unfolding read_keyed keyed_form judged behind literal both made either far meet item ended number number_of digits
+keyed_edges = (refl, refl, refl, refl, refl, refl, refl, refl)
+
+-- a fault by its line and its column, from 1, which only 2 and 3 have
+pub spots : (spot_of (bytes "eos=1\nnets=99\n") (fault_at Range 6 11) ≡ record { cause = Range; line = 2; column = 6 })
+    × (spot_of (bytes "eos=1\nnets=") (fault_at Syntax 6 11) ≡ record { cause = Syntax; line = 2; column = 6 })
+    × (spot_of (bytes "eos=1\n") (fault_at Syntax 6 6) ≡ record { cause = Syntax; line = 2; column = 1 })
+    × (spot_of (bytes "eos=1\nidle=1\n") (fault_at Idling 6 6) ≡ record { cause = Idling; line = 2; column = 0 })
+unfolding newlines
+spots = (refl, refl, refl, refl)
 
 -- the lines ended before a position
 pub lines-counted : (newlines model ≡ 19)

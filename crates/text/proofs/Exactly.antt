@@ -9,14 +9,13 @@ use lib.Dec.{eqb}
 use borrow.Author.Tests.{eqb-true, eq-eqb}
 use lib.ListN.{length}
 use Rattle.text.specs.Bytes.{Text}
-use Rattle.text.proofs.Basics.{and_true}
+use Rattle.text.proofs.Basics.{by_test, and_true}
 use Rattle.text.specs.Number.{Read, missing, found}
 use Rattle.text.specs.Lines.{Outcome, got, bad, then, need, many, judged, every}
 use Rattle.text.specs.Printed.{texts}
 use Rattle.text.specs.declared.Fault.{Fault}
 use Rattle.text.proofs.Standing.{Stands, Reaches, stands_left, stands_right, ends_join, nothing_reaches, reach_join}
 use Rattle.text.specs.declared.Cause.{Cause}
-use Rattle.text.specs.declared.Cause.TheVariants.{Range}
 
 -- a text stands there, and what it says is fine
 pub record Accepts (s : Text) (at : ℕ) (text : Text) (next : ℕ) (fine : Bool) : Type 0 where
@@ -59,18 +58,19 @@ module _ {A : Type 0} where
   need-got false cause at o a next e = absurd (bad≢got e)
 
   -- what is judged well was found
-  pub judged-got : (range : A → Bool) (at : ℕ) (r : Read A) (a : A) (next : ℕ) → judged range at r ≡ got a next → (r ≡ found a next) × (range a ≡ true)
+  judged-got : (range : A → Bool) (out : A → ℕ) (at : ℕ) (r : Read A) (a : A) (next : ℕ) → judged range out at r ≡ got a next
+      → (r ≡ found a next) × (range a ≡ true)
   unfolding judged
-  judged-got range at missing a next e = absurd (bad≢got e)
-  judged-got range at (found b u) a next e =
-      let p = need-got (range b) Range at (got b u) a next e in
-      let k = got-is p.1 in
-      (rw (k.0, k.1), rw k.0 at p.0)
+  judged-got range out at (missing b) a next e = absurd (bad≢got e)
+  judged-got range out at (found b u) a next e =
+      by_test (range b)
+      (λ h. let k = got-is (rw (h, judged) at e) in (rw (k.0, k.1), rw k.0 at h))
+      (λ h. absurd (bad≢got (rw (h, judged) at e)))
 
   -- what is found in range is judged well
-  pub judged-found : (range : A → Bool) (at : ℕ) (a : A) (next : ℕ) → range a ≡ true → judged range at (found a next) ≡ got a next
-  unfolding judged need
-  judged-found range at a next h = rw h
+  judged-found : (range : A → Bool) (out : A → ℕ) (at : ℕ) (a : A) (next : ℕ) → range a ≡ true → judged range out at (found a next) ≡ got a next
+  unfolding judged
+  judged-found range out at a next h = rw (h, judged)
 
 module _ {A B : Type 0} where
   -- two readings that are both accepted
@@ -93,15 +93,15 @@ module _ {A B : Type 0} where
 
 module _ {A : Type 0} (s : Text) (f : ℕ → Read A) (text : A → Text) (fine : A → Bool) (one : Finds s f text fine) where
   -- what is found, judged by a range
-  pub judged_exactly : (range : A → Bool) → Exactly s (λ at. judged range at (f at)) text (λ a. fine a && range a)
-  judged_exactly range = record {
+  pub judged_exactly : (range : A → Bool) (out : ℕ → A → ℕ) → Exactly s (λ at. judged range (out at) at (f at)) text (λ a. fine a && range a)
+  judged_exactly range out = record {
     back = λ at a next e.
-        let p = judged-got range at (f at) a next e in
+        let p = judged-got range (out at) at (f at) a next e in
         let b = one.back at a next p.0 in
         record { reaches = b.reaches; fine-is = rw b.fine-is p.1 };
     forth = λ at a st h.
         let p = and_true (fine a) (range a) h in
-        rw (one.forth at a st p.0) (judged-found range at a (at + length (text a)) p.1);
+        rw (one.forth at a st p.0) (judged-found range (out at) at a (at + length (text a)) p.1);
   }
 
 module _ {A : Type 0} (s : Text) (f : ℕ → Outcome A) (text : A → Text) (fine : A → Bool) (one : Exactly s f text fine) where

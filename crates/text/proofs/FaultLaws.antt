@@ -1,16 +1,15 @@
 -- Which causes a reading may have. One law for each combinator; a reader's law is then put together as the reader is.
 use Prim.Native.Nat.{ℕ, zero, suc}
 use mathlib.Core.Bool.{Bool, true, false}
-use lib.ListN.{drop}
-use lib.IntN.{ℤ}
-use Rattle.text.specs.Bytes.{Text, lf, colon, starts}
-use Rattle.text.specs.Number.{Read, missing, found, number, signed, item}
-use Rattle.text.specs.Lists.{list_end, any_list}
-use Rattle.text.specs.Lines.{Outcome, got, bad, then, need, many, judged, every, in_range, behind, read_number, read_list, read_weights, read_head, cause_number}
+use Rattle.text.specs.Bytes.{Text, lf}
+use Rattle.text.specs.Number.{Read, missing, found, literal, number, item}
+use Rattle.text.specs.Lists.{list_end}
+use Rattle.text.specs.Lines.{Outcome, got, bad, then, need, many, judged, every, behind, read_number, read_row, read_head, cause_number}
 use Rattle.text.specs.Repeat.{many_at}
-use Rattle.text.specs.Token.{counts_at, token_at, read_token}
+use Rattle.text.specs.TokenLine.{token_form, token_range, read_token}
+use Rattle.text.specs.Keyed.{by_key, keyed_form, read_keyed}
+use Rattle.text.proofs.Basics.{by_test}
 use Rattle.text.specs.declared.Cause.{Cause}
-use Rattle.text.specs.declared.Cause.TheVariants.{Syntax, Range}
 
 -- over a property of causes
 module _ (P : ℕ → Type 0) where
@@ -44,42 +43,35 @@ module _ (P : ℕ → Type 0) where
     many_at_faults f h i (suc n) at =
         then_faults (f i at) _ (h i at) (λ a next. then_faults (many_at f (suc i) n next) _ (many_at_faults f h (suc i) n next) (λ l end. tt))
 
-  -- the first line of a file is refused with 2 alone
-  module _ (two : P 2) where
-    pub head_faults : (line s : Text) (at : ℕ) → Faults (read_head line s at)
-    unfolding read_head
-    head_faults line s at = need_faults (starts line (drop at s)) Syntax at _ two tt
+  -- a line is refused with 2 or 3
+  module _ (two : P 2) (three : P 3) where
+    judged_faults : {A : Type 0} (range : A → Bool) (out : A → ℕ) (at : ℕ) (r : Read A) → Faults (judged range out at r)
+    unfolding judged
+    judged_faults range out at (missing b) = two
+    judged_faults range out at (found a next) = by_test (range a) (λ h. rw (h, judged) tt) (λ h. rw (h, judged) three)
 
-    -- a line of numbers with 2 or 3
-    module _ (three : P 3) where
-      pub judged_faults : {A : Type 0} (range : A → Bool) (at : ℕ) (r : Read A) → Faults (judged range at r)
-      unfolding judged
-      judged_faults range at missing = two
-      judged_faults range at (found a next) = need_faults (range a) Range at _ three tt
+    pub number_faults : (key : Text) (range : ℕ → Bool) (s : Text) (at : ℕ) → Faults (read_number key range s at)
+    unfolding read_number
+    number_faults key range s at = judged_faults range _ at (behind key (item number lf) s at)
 
-      pub number_faults : (key : Text) (range : ℕ → Bool) (s : Text) (at : ℕ) → Faults (read_number key range s at)
-      unfolding read_number
-      number_faults key range s at = judged_faults range at (behind key (item number lf s) s at)
+    pub row_faults : {A : Type 0} (value : Text → ℕ → Read A) (text : A → Text) (key : Text) (n : ℕ) (range : A → Bool) (s : Text) (at : ℕ)
+        → Faults (read_row value text key n range s at)
+    unfolding read_row
+    row_faults value text key n range s at = judged_faults (every range) _ at (behind key (list_end value n) s at)
 
-      pub list_faults : (key : Text) (n : ℕ) (range : ℕ → Bool) (s : Text) (at : ℕ) → Faults (read_list key n range s at)
-      unfolding read_list
-      list_faults key n range s at = judged_faults (every range) at (behind key (list_end number n s) s at)
+    pub keyed_faults : (one two : Text) (range₁ range₂ : ℕ → Bool) (s : Text) (at : ℕ) → Faults (read_keyed one two range₁ range₂ s at)
+    unfolding read_keyed
+    keyed_faults one two range₁ range₂ s at = judged_faults (by_key range₁ range₂) _ at (keyed_form one two s at)
 
-      pub weights_faults : (key : Text) (n : ℕ) (range : ℤ → Bool) (s : Text) (at : ℕ) → Faults (read_weights key n range s at)
-      unfolding read_weights
-      weights_faults key n range s at = judged_faults (every range) at (behind key (list_end signed n s) s at)
+    pub token_faults : (key : Text) (places : ℕ) (size : ℕ → ℕ) (range : ℕ → Bool) (s : Text) (at : ℕ) → Faults (read_token key places size range s at)
+    unfolding read_token
+    token_faults key places size range s at = judged_faults (token_range places range) _ at (token_form key places size s at)
 
-      -- and the line of a token
-      counts_faults : (b : Bool) (n : ℕ) (range : ℕ → Bool) (s : Text) (at p x : ℕ) → Faults (counts_at b n range s at p x)
-      unfolding counts_at
-      counts_faults true n range s at p x = then_faults (judged (every range) at (list_end number n s x)) _ (judged_faults (every range) at (list_end number n s x)) (λ cs next. tt)
-      counts_faults false n range s at p x = need_faults (any_list s x) Syntax at _ two three
-
-      token_at_lem : (places : ℕ) (size : ℕ → ℕ) (range : ℕ → Bool) (s : Text) (at : ℕ) (r : Read ℕ) → Faults (token_at places size range s at r)
-      unfolding token_at
-      token_at_lem places size range s at missing = two
-      token_at_lem places size range s at (found p x) = counts_faults (in_range 1 places p) (size p) range s at p x
-
-      pub token_faults : (key : Text) (places : ℕ) (size : ℕ → ℕ) (range : ℕ → Bool) (s : Text) (at : ℕ) → Faults (read_token key places size range s at)
-      unfolding read_token
-      token_faults key places size range s at = token_at_lem places size range s at (behind key (item number colon s) s at)
+  -- the first line of a file with 2 alone
+  pub head_faults : P 2 → (line s : Text) (at : ℕ) → Faults (read_head line s at)
+  unfolding read_head judged
+  head_faults two line s at = go (literal line s at)
+    where
+      go : (r : Read (Unit {0})) → Faults (judged (λ _. true) (λ _. at) at r)
+      go (missing b) = two
+      go (found a next) = tt

@@ -1,5 +1,5 @@
 -- How many lines a printed text has: a line of numbers, of weights or of a token is one line.
-use Prim.Native.Nat.{ℕ, zero, suc, ◌+◌, ◌≤◌}
+use Prim.Native.Nat.{ℕ, zero, suc, ◌+◌, ◌-◌, ◌≤◌}
 use mathlib.Core.Path.{◌≡◌, refl}
 use mathlib.Core.List.{List, [], ◌∷◌, ◌++◌}
 use mathlib.Core.Bool.{true}
@@ -7,11 +7,14 @@ use native.Mathlib.Omega.{arith}
 use lib.Dec.{eqb}
 use borrow.Author.Tests.{leb-true, ne_eqb}
 use lib.IntN.{ℤ, pos, negsuc}
-use lib.ListN.{length, take}
-use Rattle.text.specs.Bytes.{Text, lf, comma, colon, minus, newlines, line_at}
+use lib.ListN.{length, take, drop, length-take, length-drop}
+use Rattle.text.specs.Bytes.{Text, lf, comma, colon, minus, newlines, line_at, column_at}
 use Rattle.text.specs.Number.{is_digit}
 use Rattle.text.specs.Lists.{stop_of}
-use Rattle.text.specs.Lines.{every}
+use Rattle.text.specs.Lines.{every, column_for, spot_of}
+use Rattle.text.specs.declared.Cause.{Cause}
+use Rattle.text.specs.declared.Cause.TheVariants.{Syntax, Range, Idling}
+use Rattle.text.specs.declared.Fault.{Fault}
 use Rattle.text.specs.Printed.{decimal, signed_text, items_text, end_text, texts, number_text, weights_text, token_text}
 use Rattle.text.specs.Token.{Token}
 use Rattle.text.proofs.Basics.{by_test, and_true}
@@ -38,6 +41,19 @@ lines-take (suc n) (b ∷ s) =
 -- every position is in a line of the text, or in the line after its last
 pub line-within : (s : Text) (at : ℕ) → (1 ≤ line_at s at) × (line_at s at ≤ newlines s + 1)
 line-within s at = (omega arith, omega (arith, lines-take at s))
+
+-- a column is a byte of the text, counted from 1, or the one behind its last
+pub column-within : (s : Text) (at b : ℕ) → (1 ≤ column_at s at b) × (column_at s at b ≤ length s + 1)
+column-within s at b = (omega arith, omega (arith, length-take (b - at) (drop at s), length-drop at s))
+
+-- so is the column that a fault is named by, or 0
+pub spot-within : (s : Text) (e : Fault) → (spot_of s e).column ≤ length s + 1
+spot-within s e = go e.cause
+  where
+    go : (c : Cause) → column_for c (column_at s e.at e.byte) ≤ length s + 1
+    go Syntax = (column-within s e.at e.byte).1
+    go Range = (column-within s e.at e.byte).1
+    go Idling = omega arith
 
 -- ---- within a line
 

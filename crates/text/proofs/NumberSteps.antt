@@ -32,7 +32,7 @@ module _ (at b : ℕ) (s : Text) where
   of_digit n d = rw (ne_eqb b 48 n, d, number_of)
 
   -- no number begins with another byte
-  pub of_other : is_digit b ≡ false → number_of at (b ∷ s) ≡ missing
+  pub of_other : is_digit b ≡ false → number_of at (b ∷ s) ≡ missing at
   unfolding number_of
   of_other d = rw (ne_eqb b 48 (λ p. true≢false (ap is_digit (sym p) ∙ d)), d, number_of)
 

@@ -1,7 +1,7 @@
 -- With which faults a reading is refused: what that means, and how it carries over to tests, to one reading after another and to several
 -- things in a row.
-use Prim.Native.Nat.{ℕ, zero, suc, ◌+◌, ◌<◌}
-use mathlib.Core.Path.{◌≡◌, refl, ap, sym, ◌∙◌, subst, fun_ext}
+use Prim.Native.Nat.{ℕ, zero, suc, ◌+◌, ◌≤◌, ◌<◌, max}
+use mathlib.Core.Path.{◌≡◌, refl, ap, sym, subst, fun_ext}
 use mathlib.Core.List.{List, [], ◌∷◌, ◌++◌}
 use mathlib.Core.Bool.{Bool, true, false, ◌&&◌}
 use mathlib.Core.Logic.{◌↔◌, ◌⊎◌, inl, inr, ⊎_elim}
@@ -9,8 +9,8 @@ use native.Mathlib.Omega.{arith}
 use native.Mathlib.Nat.{add-zero}
 use lib.Dec.{eqb}
 use lib.ListN.{length}
-use Rattle.text.specs.Bytes.{Text}
-use Rattle.text.specs.Lines.{Outcome, got, bad, fault, then, need, many, every, cause_number}
+use Rattle.text.specs.Bytes.{Text, between}
+use Rattle.text.specs.Lines.{Outcome, got, bad, fault_at, fault, then, need, many, every, cause_number}
 use Rattle.text.specs.Repeat.{many_at, every_at}
 use Rattle.text.specs.Printed.{texts}
 use Rattle.text.specs.declared.Fault.{Fault}
@@ -35,9 +35,28 @@ module _ {A : Type 0} (s : Text) (text : A → Text) where
   abbrev pub Failing : (A → Bool) → (A → Bool) → ℕ → Type 0
   Failing fine test at = (a : A) × Stands s at (text a) × (fine a ≡ true) × (test a ≡ false)
 
-  -- the faults of a line: 2 where no line of its form stands there, 3 where one does that is out of range
-  abbrev pub LineFaults : (A → Bool) → (A → Bool) → ℕ → Fault → Type 0
-  LineFaults form range at e = ((e ≡ fault Syntax at) × Formless form at) ⊎ ((e ≡ fault Range at) × Failing form range at)
+  -- nothing of this form stands at `at`, and b is the first byte at which no text of the form could go on
+  pub record Wrong (form : A → Bool) (at b : ℕ) : Type 0 where
+    pub none : Formless form at
+    -- b lies in the text, or where it ends
+    pub inside : (at ≤ b) × (b ≤ max at (length s))
+    -- some text of the form begins with the bytes before b
+    pub could : (a : A) × (form a ≡ true) × (rest : Text) × (text a ≡ between s at b ++ rest)
+    -- and none with these and the byte at b
+    pub cannot : b < length s → (a : A) → form a ≡ true → (rest : Text) → text a ≡ between s at (b + 1) ++ rest → ⊥
+
+  -- something of this form stands there and is out of range; `out` says where the first of its numbers that is so begins, which is at b
+  pub record Beyond (form range : A → Bool) (out : ℕ → A → ℕ) (at b : ℕ) : Type 0 where
+    pub one : A
+    pub stands : Stands s at (text one)
+    pub formed : form one ≡ true
+    pub out_of_range : range one ≡ false
+    pub here : out at one ≡ b
+
+  -- the faults of a line: 2 at b where none of its form stands there, 3 at b where one does that is out of range
+  abbrev pub LineFaults : (A → Bool) → (A → Bool) → (ℕ → A → ℕ) → ℕ → Fault → Type 0
+  LineFaults form range out at e =
+      ((b : ℕ) × (e ≡ fault_at Syntax at b) × Wrong form at b) ⊎ ((b : ℕ) × (e ≡ fault_at Range at b) × Beyond form range out at b)
 
   -- those that come before, and `cause` where what is fine breaks a rule
   abbrev pub RuledFaults : (ℕ → Fault → Type 0) → (A → Bool) → (A → Bool) → Cause → ℕ → Fault → Type 0
@@ -57,25 +76,25 @@ abbrev pub ManyThen : {A : Type 0} → (s : Text) → (A → Text) → (ℕ → 
 ManyThen s text One fine n Next =
     ThenFaults s (texts text) (ManyFaults s text (λ i. One) (λ i. fine) 0 n) (λ l. eqb (length l) n && every fine l) Next
 
--- a fault has one cause, and one place
-pub one_cause : {m n : Cause} {x y : ℕ} → fault m x ≡ fault n y → cause_number m ≡ cause_number n
+-- a fault has one cause, one place and one byte
+pub one_cause : {m n : Cause} {x y b c : ℕ} → fault_at m x b ≡ fault_at n y c → cause_number m ≡ cause_number n
 one_cause h = ap (λ (e : Fault). cause_number e.cause) h
 
-pub one_place : {m n : Cause} {x y : ℕ} → fault m x ≡ fault n y → x ≡ y
+pub one_place : {m n : Cause} {x y b c : ℕ} → fault_at m x b ≡ fault_at n y c → x ≡ y
 one_place h = ap (λ (e : Fault). e.at) h
 
+one_byte : {m n : Cause} {x y b c : ℕ} → fault_at m x b ≡ fault_at n y c → b ≡ c
+one_byte h = ap (λ (e : Fault). e.byte) h
+
 -- a cause behind 3 is no cause of a line without a rule
-pub no_line_cause : {P Q : Type 0} {cause : Cause} {x y : ℕ} → 3 < cause_number cause → ((fault cause x ≡ fault Syntax y) × P) ⊎ ((fault cause x ≡ fault Range y) × Q) → ⊥
+pub no_line_cause : {P Q : ℕ → Type 0} {cause : Cause} {x y : ℕ} → 3 < cause_number cause
+    → ((b : ℕ) × (fault cause x ≡ fault_at Syntax y b) × P b) ⊎ ((b : ℕ) × (fault cause x ≡ fault_at Range y b) × Q b) → ⊥
 no_line_cause {cause} later =
-    ⊎_elim (λ k. let z : cause_number cause ≡ 2 = one_cause k.0 in omega (arith, z, later)) (λ k. let z : cause_number cause ≡ 3 = one_cause k.0 in omega (arith, z, later))
+    ⊎_elim (λ k. let z : cause_number cause ≡ 2 = one_cause k.1 in omega (arith, z, later)) (λ k. let z : cause_number cause ≡ 3 = one_cause k.1 in omega (arith, z, later))
 
 module _ {A : Type 0} where
   pub bad-is : {d e : Fault} → ◌≡◌ {A = Outcome A} (bad d) (bad e) → d ≡ e
   bad-is h = cc
-
-  pub by_outcome : {G : Type 0} (o : Outcome A) → ((a : A) (next : ℕ) → o ≡ got a next → G) → ((e : Fault) → o ≡ bad e → G) → G
-  by_outcome (got a next) f g = f a next refl
-  by_outcome (bad e) f g = g e refl
 
   pub need-bad : (t : Bool) (cause : Cause) (at : ℕ) (a : A) (next : ℕ) (e : Fault) → need t cause at (got a next) ≡ bad e → (t ≡ false) × (e ≡ fault cause at)
   unfolding need
@@ -88,21 +107,6 @@ module _ {A B : Type 0} where
   unfolding then
   then-bad (got a next) f e h = inr (a, next, refl, h)
   then-bad (bad d) f e h = inl (ap bad (bad-is h))
-
--- ---- a line
-
-module _ {A : Type 0} (s : Text) (f : ℕ → Outcome A) (text : A → Text) (form range : A → Bool)
-    (two : (at : ℕ) → (f at ≡ bad (fault Syntax at)) ↔ Formless s text form at) (three : (at : ℕ) → (f at ≡ bad (fault Range at)) ↔ Failing s text form range at)
-    (only : (at : ℕ) (e : Fault) → f at ≡ bad e → (e ≡ fault Syntax at) ⊎ (e ≡ fault Range at))
-  where
-    -- a line that is exact in its 2 and in its 3, and has no other cause
-    pub line_refuses : Refuses f (LineFaults s text form range)
-    line_refuses = record {
-      back = λ at e h.
-          ⊎_elim (λ k. inl (k, (two at).0 (h ∙ ap bad k))) (λ k. inr (k, (three at).0 (h ∙ ap bad k))) (only at e h);
-      forth = λ at e h.
-          ⊎_elim (λ k. (two at).1 k.1 ∙ ap bad (sym k.0)) (λ k. (three at).1 k.1 ∙ ap bad (sym k.0)) h;
-    }
 
 -- ---- readings in a row
 
@@ -233,29 +237,29 @@ many-then {s} {f} {text} {fine} one faults n two = then_refuses (many_exactly s 
 
 -- ---- a cause by its number
 
-module _ {A B : Type 0} (s : Text) (f : ℕ → Outcome B) (text : A → Text) (form range fine rule : A → Bool) (cause : Cause) (later : 3 < cause_number cause)
-    (faults : Refuses f (RuledFaults s text (LineFaults s text form range) fine rule cause)) (at : ℕ)
+module _ {A B : Type 0} (s : Text) (f : ℕ → Outcome B) (text : A → Text) (form range : A → Bool) (out : ℕ → A → ℕ) (fine rule : A → Bool) (cause : Cause)
+    (later : 3 < cause_number cause) (faults : Refuses f (RuledFaults s text (LineFaults s text form range out) fine rule cause)) (at : ℕ)
   where
-    -- where a line may break a rule too, it is 2 exactly where no line of its form stands there
-    pub ruled_two : (f at ≡ bad (fault Syntax at)) ↔ Formless s text form at
-    ruled_two = (
+    -- where a line may break a rule too, it is 2 at b exactly where no line of its form stands there and b is the byte at fault
+    pub ruled_two : (b : ℕ) → (f at ≡ bad (fault_at Syntax at b)) ↔ Wrong s text form at b
+    ruled_two b = (
       λ h.
           ⊎_elim
-          (⊎_elim (λ k. k.1) (λ k. let z : 2 ≡ 3 = one_cause k.0 in absurd (omega (arith, z))))
+          (⊎_elim (λ k. rw (one_byte k.1) k.2) (λ k. let z : 2 ≡ 3 = one_cause k.1 in absurd (omega (arith, z))))
           (λ k. let z : 2 ≡ cause_number cause = one_cause k.0 in absurd (omega (arith, z, later)))
-          (faults.back at (fault Syntax at) h),
-      λ h. faults.forth at (fault Syntax at) (inl (inl (refl, h))),
+          (faults.back at (fault_at Syntax at b) h),
+      λ h. faults.forth at (fault_at Syntax at b) (inl (inl (b, refl, h))),
     )
 
-    -- 3 exactly where one does that is out of range
-    pub ruled_three : (f at ≡ bad (fault Range at)) ↔ Failing s text form range at
-    ruled_three = (
+    -- 3 at b exactly where one does whose first number out of range begins at b
+    pub ruled_three : (b : ℕ) → (f at ≡ bad (fault_at Range at b)) ↔ Beyond s text form range out at b
+    ruled_three b = (
       λ h.
           ⊎_elim
-          (⊎_elim (λ k. let z : 3 ≡ 2 = one_cause k.0 in absurd (omega (arith, z))) (λ k. k.1))
+          (⊎_elim (λ k. let z : 3 ≡ 2 = one_cause k.1 in absurd (omega (arith, z))) (λ k. rw (one_byte k.1) k.2))
           (λ k. let z : 3 ≡ cause_number cause = one_cause k.0 in absurd (omega (arith, z, later)))
-          (faults.back at (fault Range at) h),
-      λ h. faults.forth at (fault Range at) (inl (inr (refl, h))),
+          (faults.back at (fault_at Range at b) h),
+      λ h. faults.forth at (fault_at Range at b) (inl (inr (b, refl, h))),
     )
 
     -- and the rule's number exactly where one that is fine breaks it

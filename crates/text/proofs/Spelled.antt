@@ -12,7 +12,7 @@ use lib.ListN.{length, drop, get_or, length-append}
 use lib.Seq.{append_snoc}
 use Rattle.text.specs.Bytes.{Text, minus}
 use Rattle.text.proofs.Basics.{by_test}
-use Rattle.text.specs.Number.{Read, missing, found, is_digit, digits, number_of, number, plainly, negated, signed}
+use Rattle.text.specs.Number.{Read, missing, found, is_digit, digits, number_of, number, made, negated, signed}
 use Rattle.text.specs.Printed.{decimal, signed_text}
 use Rattle.text.proofs.ReadLaws.{missing≢found, found-is}
 use Rattle.text.proofs.DecimalLaws.{decimal-small, decimal_large, decimal_more, decimal_leads, by_digits, is_digit_lem}
@@ -121,22 +121,22 @@ number_spelled = record { back = number-back; forth = number_forth }
 
 -- ---- signed numbers
 module _ (s : Text) (at : ℕ) where
-  signed-minus : get_or s at 0 ≡ minus → signed s at ≡ negated (number s (at + 1))
+  pub signed-minus : get_or s at 0 ≡ minus → signed s at ≡ negated (at + 1) (number s (at + 1))
   unfolding signed
   signed-minus e = rw (eq-eqb (get_or s at 0) minus e, signed)
 
-  signed_plain : (get_or s at 0 ≡ minus → ⊥) → signed s at ≡ plainly (number s at)
+  pub signed_plain : (get_or s at 0 ≡ minus → ⊥) → signed s at ≡ made pos (number s at)
   unfolding signed
   signed_plain e = rw (ne_eqb (get_or s at 0) minus e, signed)
 
-  plain_back : (r : Read ℕ) (w : ℤ) (end : ℕ) → number s at ≡ r → plainly r ≡ found w end → Reaches s at (signed_text w) end
-  unfolding plainly signed_text
-  plain_back missing w end q e = absurd (missing≢found e)
+  plain_back : (r : Read ℕ) (w : ℤ) (end : ℕ) → number s at ≡ r → made pos r ≡ found w end → Reaches s at (signed_text w) end
+  unfolding made signed_text
+  plain_back (missing b) w end q e = absurd (missing≢found e)
   plain_back (found n t) w end q e = let k = found-is e in rw (← k.0, ← k.1) (number-back s at n t q)
 
-  minus-back : get_or s at 0 ≡ minus → (r : Read ℕ) (w : ℤ) (end : ℕ) → number s (at + 1) ≡ r → negated r ≡ found w end → Reaches s at (signed_text w) end
+  minus-back : get_or s at 0 ≡ minus → (r : Read ℕ) (w : ℤ) (end : ℕ) → number s (at + 1) ≡ r → negated (at + 1) r ≡ found w end → Reaches s at (signed_text w) end
   unfolding negated signed_text
-  minus-back m missing w end q e = absurd (missing≢found e)
+  minus-back m (missing b) w end q e = absurd (missing≢found e)
   minus-back m (found zero t) w end q e = absurd (missing≢found e)
   minus-back m (found (suc n) t) w end q e =
       let k = found-is e in
@@ -151,7 +151,7 @@ module _ (s : Text) (at : ℕ) where
 
 signed_forth : (s : Text) (at : ℕ) (w : ℤ) (rest : Text) → drop at s ≡ signed_text w ++ rest → is_digit (get_or rest 0 0) ≡ false
     → signed s at ≡ found w (at + length (signed_text w))
-unfolding signed_text plainly negated
+unfolding signed_text made negated
 signed_forth s at (pos n) rest e d =
     let b = first_byte s at (decimal n ++ rest) e in
     let l = decimal_leads n rest in

@@ -19,7 +19,7 @@ use Rattle.text.proofs.DecimalLaws.{length-positive}
 use Rattle.text.proofs.Standing.{all_of, stands_all}
 use Rattle.text.proofs.Spelled.{Spelled, number_spelled, signed_spelled}
 use Rattle.text.proofs.Exactly.{Exactly, got-is}
-use Rattle.text.proofs.LinesExactly.{stop_other}
+use Rattle.text.proofs.LineParts.{stop_other}
 
 -- ---- of any exact reader
 module _ {A : Type 0} (read : Text → ℕ → Outcome A) (text : A → Text) (fine : A → Bool) (exact : (s : Text) → Exactly s (read s) text fine) where

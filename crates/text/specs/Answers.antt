@@ -1,13 +1,26 @@
 -- What the readers of lines answer for what a definition gives. A row has room for 32 values: it keeps the first 32, and unused
 -- room is 0.
-use Rattle.std.specs.Prelude.{ℕ, List, map, ℤ, pos, replicate, Result}
+use Rattle.std.specs.Prelude.{ℕ, Bool, true, false, List, map, ℤ, pos, replicate, Option, Result}
 use Rattle.std.proofs.lemmas.List.Edits.{sets}
+use Rattle.std.specs.declared.option.Option.TheVariants.{Some, None}
 use Rattle.std.specs.declared.result.Result.TheVariants.{Ok, Err}
-use Rattle.text.specs.Lines.{Outcome, got, bad}
+use Rattle.text.specs.Lines.{Outcome, got, bad, fault_at, fault}
 use Rattle.text.specs.Token.{Token}
+use Rattle.text.specs.declared.Cause.TheVariants.{Syntax}
 use Rattle.text.specs.declared.Fault.{Fault}
 use Rattle.text.specs.declared.Parsed.{Parsed}
 use Rattle.text.specs.declared.TokenLine.{TokenLine}
+
+-- the fault of a line that begins at `at`, where a reading within it finds nothing: of its syntax, at the byte that the reading names
+unfoldable pub syntax_fault : {A : Type 0} → ℕ → Result A ℕ → Fault
+syntax_fault at (Ok a) = fault Syntax at
+syntax_fault at (Err b) = fault_at Syntax at b
+
+-- where the first value out of range begins: the one that is known, or the value at `at`, if it is not inside
+abbrev pub first_out : Option ℕ → ℕ → Bool → Option ℕ
+first_out (Some b) at inside = Some b
+first_out None at true = None
+first_out None at false = Some at
 
 -- the same outcome, of the value as it is held
 unfoldable pub kept : {A B : Type 0} → (A → B) → Outcome A → Outcome B
@@ -31,5 +44,9 @@ padded l = sets (replicate 32 0) 0 l
 unfoldable pub row : {A : Type 0} → (ℤ → A) → List ℤ → List A
 row held l = sets (replicate 32 (held (pos 0))) 0 (map held l)
 
+-- a net-token, by its place and its counts
+abbrev pub counted : ℕ → List ℕ → TokenLine
+counted p counts = record { place = p; counts = padded counts }
+
 unfoldable pub token_line : Token → TokenLine
-token_line t = record { place = t.place; counts = padded t.counts }
+token_line t = counted t.place t.counts

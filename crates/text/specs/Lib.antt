@@ -2,10 +2,12 @@ pub mod Bytes
 pub mod Number
 pub mod Capped
 pub mod Lists
-pub mod Lines
-pub mod Repeat
 pub mod Token
 pub mod Printed
+pub mod Lines
+pub mod Repeat
+pub mod TokenLine
+pub mod Keyed
 pub mod Answers
 pub mod Values
 pub mod Writing

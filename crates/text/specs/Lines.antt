@@ -1,8 +1,9 @@
 -- Lines `key=value`: what is read, or the one fault that ends the reading.
-use Rattle.std.specs.Prelude.{ℕ, zero, suc, ◌+◌, List, [], ◌∷◌, Bool, true, false, ◌&&◌, leb, ℤ, nat_abs, length, drop}
-use Rattle.text.specs.Bytes.{Text, lf, starts, line_at}
-use Rattle.text.specs.Number.{Read, missing, found, number, signed, item}
+use Rattle.std.specs.Prelude.{ℕ, zero, suc, ◌+◌, List, [], ◌∷◌, Bool, true, false, ◌&&◌, leb, ℤ, nat_abs, length}
+use Rattle.text.specs.Bytes.{Text, lf, line_at, column_at}
+use Rattle.text.specs.Number.{Read, missing, found, both, literal, number, signed, item}
 use Rattle.text.specs.Lists.{list_end}
+use Rattle.text.specs.Printed.{decimal, signed_text}
 use Rattle.text.specs.declared.Cause.{Cause}
 use Rattle.text.specs.declared.Cause.TheVariants.{Syntax, Range, Idling}
 use Rattle.text.specs.declared.Fault.{Fault}
@@ -19,13 +20,23 @@ cause_number Syntax = 2
 cause_number Range = 3
 cause_number Idling = 5
 
--- the cause, and where the line at fault begins; its first byte stands for the byte at fault
-abbrev pub fault : Cause → ℕ → Fault
-fault cause at = record { cause = cause; at = at; byte = at }
+-- the cause, where the line at fault begins, and the byte at fault
+abbrev pub fault_at : Cause → ℕ → ℕ → Fault
+fault_at cause at b = record { cause = cause; at = at; byte = b }
 
--- a fault as an answer names it: by the number of its line
+-- the fault of a line as a whole: that of its first byte
+abbrev pub fault : Cause → ℕ → Fault
+fault cause at = fault_at cause at at
+
+-- 02, K5: the column of 2 and of 3; "the column 0 for all other outcomes"
+abbrev pub column_for : Cause → ℕ → ℕ
+column_for Syntax c = c
+column_for Range c = c
+column_for Idling c = 0
+
+-- a fault as an answer names it: by the number of its line, and by the column in it
 abbrev pub spot_of : Text → Fault → Spot
-spot_of s e = record { cause = e.cause; line = line_at s e.at }
+spot_of s e = record { cause = e.cause; line = line_at s e.at; column = column_for e.cause (column_at s e.at e.byte) }
 
 module _ {A B : Type 0} where
   -- one reading after another; the first fault ends both
@@ -34,7 +45,7 @@ module _ {A B : Type 0} where
   then (bad e) f = bad e
 
 module _ {A : Type 0} where
-  -- a test, and the cause where it fails
+  -- a test of a line as a whole, and the cause where it fails
   unfoldable pub need : Bool → Cause → ℕ → Outcome A → Outcome A
   need true cause at o = o
   need false cause at o = bad (fault cause at)
@@ -44,33 +55,42 @@ module _ {A : Type 0} where
   many f zero at = got [] at
   many f (suc n) at = then (f at) λ a next. then (many f n next) λ l end. got (a ∷ l) end
 
-  -- in a line, syntax (2) is judged before any range (3)
-  unfoldable pub judged : (A → Bool) → ℕ → Read A → Outcome A
-  judged range at missing = bad (fault Syntax at)
-  judged range at (found a next) = need (range a) Range at (got a next)
+  -- a line that begins at `at`: its syntax (2) is judged before any range (3), whose fault is at `out`
+  unfoldable pub judged : (A → Bool) → (A → ℕ) → ℕ → Read A → Outcome A
+  judged range out at (missing b) = bad (fault_at Syntax at b)
+  judged range out at (found a next) = elim (range a) [ true ↦ got a next | false ↦ bad (fault_at Range at (out a)) ]
 
   abbrev pub every : (A → Bool) → List A → Bool
   every f [] = true
   every f (a ∷ l) = f a && every f l
 
+  -- where the first value out of range begins, of values printed from `at` on, each with a byte behind it
+  unfoldable pub out_at : (A → Text) → (A → Bool) → ℕ → List A → ℕ
+  out_at text range at [] = at
+  out_at text range at (a ∷ l) = elim (range a) [ true ↦ out_at text range (at + length (text a) + 1) l | false ↦ at ]
+
+  -- what f finds behind the key, which has its '=' at its end
+  unfoldable pub behind : Text → (Text → ℕ → Read A) → Text → ℕ → Read A
+  behind key f s at = both (λ k a. a) (literal key s at) λ k next. f s next
+
 abbrev pub in_range : ℕ → ℕ → ℕ → Bool
 in_range lo hi v = leb lo v && leb v hi
 
--- what f finds behind the key, which has its '=' at its end
-unfoldable pub behind : {A : Type 0} → Text → (ℕ → Read A) → Text → ℕ → Read A
-behind key f s at = elim (starts key (drop at s)) [ true ↦ f (at + length key) | false ↦ missing ]
-
 -- the line of key and one number
 unfoldable pub read_number : Text → (ℕ → Bool) → Text → ℕ → Outcome ℕ
-read_number key range s at = judged range at (behind key (item number lf s) s at)
+read_number key range s at = judged range (λ n. at + length key) at (behind key (item number lf) s at)
+
+-- the line of key and n values, each printed by `text`
+unfoldable pub read_row : {A : Type 0} → (Text → ℕ → Read A) → (A → Text) → Text → ℕ → (A → Bool) → Text → ℕ → Outcome (List A)
+read_row value text key n range s at = judged (every range) (out_at text range (at + length key)) at (behind key (list_end value n) s at)
 
 -- the line of key and n numbers
-unfoldable pub read_list : Text → ℕ → (ℕ → Bool) → Text → ℕ → Outcome (List ℕ)
-read_list key n range s at = judged (every range) at (behind key (list_end number n s) s at)
+abbrev pub read_list : Text → ℕ → (ℕ → Bool) → Text → ℕ → Outcome (List ℕ)
+read_list = read_row number decimal
 
 -- the line of key and n weights
-unfoldable pub read_weights : Text → ℕ → (ℤ → Bool) → Text → ℕ → Outcome (List ℤ)
-read_weights key n range s at = judged (every range) at (behind key (list_end signed n s) s at)
+abbrev pub read_weights : Text → ℕ → (ℤ → Bool) → Text → ℕ → Outcome (List ℤ)
+read_weights = read_row signed signed_text
 
 -- a weight of at most `most` either side of 0
 abbrev pub modest : ℕ → ℤ → Bool
@@ -78,4 +98,4 @@ modest most w = leb (nat_abs w) most
 
 -- the first line of a file, which is the same in every file of its kind. 01: "In eos, inv and run any other number is 2"
 unfoldable pub read_head : Text → Text → ℕ → Outcome (Unit {0})
-read_head line s at = need (starts line (drop at s)) Syntax at (got tt (at + length line))
+read_head line s at = judged (λ _. true) (λ _. at) at (literal line s at)

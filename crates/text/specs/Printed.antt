@@ -45,5 +45,9 @@ list_text key vs = key ++ end_text decimal vs
 unfoldable pub weights_text : Text → List ℤ → Text
 weights_text key ws = key ++ end_text signed_text ws
 
+-- the key, a place and the colon behind it
+abbrev pub place_text : Text → ℕ → Text
+place_text key p = key ++ (decimal p ++ (colon ∷ []))
+
 unfoldable pub token_text : Text → Token → Text
 token_text key t = key ++ ((decimal t.place ++ (colon ∷ [])) ++ end_text decimal t.counts)

@@ -35,7 +35,7 @@ impl Cause {
     }
 }
 
-// A fault: its cause, the position at which the line at fault begins, and that of the byte at fault, for which the line's first stands.
+// A fault: its cause, the position at which the line at fault begins, and that of the byte at fault.
 #[derive(Clone, Copy, PartialEq, Eq, Debug)]
 pub struct Fault {
     pub cause: Cause,
@@ -43,11 +43,20 @@ pub struct Fault {
     pub byte: usize,
 }
 
-// A fault as an answer names it: its cause, and the number of its line, from 1.
+// A fault as an answer names it: its cause, the number of its line, from 1, and the column in it of the byte at fault, from 1; 0 where the
+// cause has none.
 #[derive(Clone, Copy, PartialEq, Eq, Debug)]
 pub struct Spot {
     pub cause: Cause,
     pub line: usize,
+    pub column: usize,
+}
+
+// The number in a line of one of two keys.
+#[derive(Clone, Copy)]
+pub enum Keyed {
+    Former(u16),
+    Latter(u16),
 }
 
 // A net-token's place, from 1, and its counts. Texts know no held thing: a held net-token is made of it.

@@ -3,13 +3,27 @@
 #![tactic(auto)]
 
 ghost use Rattle.std.specs.Prelude.{◌≡◌, leb};
-ghost use Rattle.text.specs.Number.{number, signed_if};
+ghost use Rattle.text.specs.Number.{signed_if};
 ghost use Rattle.text.specs.Lists.{items, list_end};
-ghost use Rattle.text.specs.Lines.{judged, every, modest, behind};
-ghost use Rattle.text.specs.Answers.{kept, parsed, row};
+ghost use Rattle.text.specs.Lines.{judged, every, modest, out_at, read_row};
+ghost use Rattle.text.specs.Printed.{signed_text};
+ghost use Rattle.text.specs.Answers.{kept, parsed, row, first_out};
 
 use text::{Cause, Fault, Parsed, Value};
-use text_scan::{byte_at, fault_at, starts, stop_of, value_item};
+use text_scan::{fault_at, literal, stop_of, syntax_fault, value_item};
+
+// Where the first value out of range begins: the one that is known, or the value at `at`, if it is more than hi from 0.
+fn first_out(out: Option<usize>, at: usize, value: i32, hi: u16) -> Option<usize>
+    ensures { result ≡ first_out out at (modest hi value) }
+{
+    if out.is_some() {
+        return out;
+    }
+    if value.unsigned_abs() <= u32::from(hi) {
+        return None;
+    }
+    Some(at)
+}
 
 // n values of at most hi either side of 0 from `from` on, joined by commas and ended by LF; their line begins at `top`.
 fn values<V: Value>(
@@ -19,28 +33,29 @@ fn values<V: Value>(
     n: usize,
     hi: u16,
 ) -> Result<Parsed<[V; 32]>, Fault>
-    ensures { result ≡ parsed (kept (row V.held) (judged (every (modest hi)) top (items (signed_if V.SIGNED) n s.now from))) }
+    ensures { result ≡ parsed (kept (row V.held) (judged (every (modest hi)) (out_at signed_text (modest hi) from) top (items (signed_if V.SIGNED) n s.now from))) }
 {
     let mut row = [V::held(0); 32];
-    let mut inside = true;
+    let mut out = None;
     let mut at = from;
     for i in 0..n {
-        let Some(Parsed { value, end }) = value_item(s, at, stop_of(n - i - 1), V::SIGNED) else {
-            return Err(fault_at(Cause::Syntax, top));
+        let read = value_item(s, at, stop_of(n - i - 1), V::SIGNED);
+        let Ok(Parsed { value, end }) = read else {
+            return Err(syntax_fault(top, read));
         };
-        inside = inside & (value.unsigned_abs() <= u32::from(hi));
+        out = first_out(out, at, value, hi);
         if i < 32 {
             row[i] = V::held(value);
         }
         at = end;
     }
-    if !inside {
-        return Err(fault_at(Cause::Range, top));
+    match out {
+        Some(byte) => Err(fault_at(Cause::Range, top, byte)),
+        None => Ok(Parsed {
+            value: row,
+            end: at,
+        }),
     }
-    Ok(Parsed {
-        value: row,
-        end: at,
-    })
 }
 
 // The list of n values from `at` to the end of its line, which begins at `top`.
@@ -51,17 +66,18 @@ pub fn list_end<V: Value>(
     n: usize,
     hi: u16,
 ) -> Result<Parsed<[V; 32]>, Fault>
-    ensures { result ≡ parsed (kept (row V.held) (judged (every (modest hi)) top (list_end (signed_if V.SIGNED) n s.now at))) }
+    ensures { result ≡ parsed (kept (row V.held) (judged (every (modest hi)) (out_at signed_text (modest hi) at) top (list_end (signed_if V.SIGNED) n s.now at))) }
 {
     if n != 0 {
         return values(s, top, at, n, hi);
     }
-    if byte_at(s, at) != b'\n' {
-        return Err(fault_at(Cause::Syntax, top));
-    }
+    let read = literal(s, at, b"\n");
+    let Ok(end) = read else {
+        return Err(syntax_fault(top, read));
+    };
     Ok(Parsed {
         value: [V::held(0); 32],
-        end: at + 1,
+        end,
     })
 }
 
@@ -73,10 +89,11 @@ pub fn list_line<V: Value>(
     n: usize,
     hi: u16,
 ) -> Result<Parsed<[V; 32]>, Fault>
-    ensures { result ≡ parsed (kept (row V.held) (judged (every (modest hi)) at (behind key.now (list_end (signed_if V.SIGNED) n s.now) s.now at))) }
+    ensures { result ≡ parsed (kept (row V.held) (read_row (signed_if V.SIGNED) signed_text key.now n (modest hi) s.now at)) }
 {
-    if !starts(s, at, key) {
-        return Err(fault_at(Cause::Syntax, at));
-    }
-    list_end(s, at, at + key.len(), n, hi)
+    let read = literal(s, at, key);
+    let Ok(from) = read else {
+        return Err(syntax_fault(at, read));
+    };
+    list_end(s, at, from, n, hi)
 }

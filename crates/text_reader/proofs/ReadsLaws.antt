@@ -5,11 +5,11 @@ use mathlib.Core.List.{List}
 use mathlib.Core.Bool.{false}
 use lib.Dec.{leb}
 use Rattle.text.specs.Number.{signed_if}
-use Rattle.text.specs.Lists.{list_end}
-use Rattle.text.specs.Lines.{judged, every, modest, behind, read_list}
+use Rattle.text.specs.Printed.{signed_text}
+use Rattle.text.specs.Lines.{modest, read_row, read_list}
 use Rattle.text.specs.Values.{number_in}
 use Rattle.text.specs.Answers.{padded, row}
-use Rattle.text.proofs.ListLaws.{numbers_kept, numbers_behind}
+use Rattle.text.proofs.ListLaws.{numbers_row}
 use mathlib.Core.Path.{◌≡◌, refl, sym, ap, subst, ◌∙◌}
 use native.Mathlib.Omega.{arith}
 use Rattle.std.specs.Prelude.{Result}
@@ -107,11 +107,9 @@ module _ {A : Type 0} {old : Reader} (o : Outcome A) (read : Result (Parsed A) F
 
 -- a line of n numbers, which are held as they are
 pub list_read : (most hi : ℕ) (key : Text) (n : ℕ) (s : Text) (at : ℕ) {old new : Reader} {r : Result (List ℕ) Fault} → hi ≤ most
-    → Reads (kept (row (number_in most)) (judged (every (modest hi)) at (behind key (list_end (signed_if false) n s) s at))) old new r
+    → Reads (kept (row (number_in most)) (read_row (signed_if false) signed_text key n (modest hi) s at)) old new r
     → Reads (kept padded (read_list key n (λ v. leb v hi) s at)) old new r
-unfolding read_list
-list_read most hi key n s at {old} {new} {r} h k =
-    subst (λ (o : Outcome (List ℕ)). Reads o old new r) (numbers_kept most hi at _ _ h (numbers_behind s key n at)) k
+list_read most hi key n s at {old} {new} {r} h k = subst (λ (o : Outcome (List ℕ)). Reads o old new r) (numbers_row most hi h n s key at) k
 
 -- ---- one after the other
 

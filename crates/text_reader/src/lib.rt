@@ -1,17 +1,17 @@
 // The reader of a file: the bytes that are lent, and the place that it has reached. Each reading moves it behind what was read.
 #![tactic(auto)]
 
-ghost use Rattle.std.specs.Prelude.{◌≡◌, ◌-◌, leb, get_or, drop, ℤ};
-ghost use Rattle.text.specs.Bytes.{starts};
+ghost use Rattle.std.specs.Prelude.{◌≡◌, ◌-◌, leb, get_or, ℤ};
 ghost use Rattle.text.specs.Number.{signed_if};
-ghost use Rattle.text.specs.Lists.{list_end};
-ghost use Rattle.text.specs.Lines.{Outcome, judged, every, modest, behind, in_range, read_number, read_head};
-ghost use Rattle.text.specs.Token.{read_token};
+ghost use Rattle.text.specs.Printed.{signed_text};
+ghost use Rattle.text.specs.Lines.{Outcome, modest, in_range, read_number, read_row, read_head};
+ghost use Rattle.text.specs.Keyed.{read_keyed};
+ghost use Rattle.text.specs.TokenLine.{read_token};
 ghost use Rattle.text.specs.Answers.{kept, parsed, accepted, row, token_line};
 ghost use Rattle.text_reader.specs.Place.{Reads, closed};
 
-use text::{Cause, Fault, Parsed, TokenLine, Value};
-use text_lines::{head_line, number_line};
+use text::{Cause, Fault, Keyed, Parsed, TokenLine, Value};
+use text_lines::{head_line, keyed_line, number_line};
 use text_lists::list_line;
 use text_scan::fault_at;
 use text_tokens::token_line;
@@ -39,13 +39,6 @@ impl<'a> Reader<'a> {
         self.take(head_line(self.src, self.at, line))
     }
 
-    // Whether key stands at the place reached.
-    pub fn starts(&self, key: &[u8]) -> bool
-        ensures { result ≡ starts key.now (drop self.now.at self.now.src.now) }
-    {
-        text_scan::starts(self.src, self.at, key)
-    }
-
     // The line of key and one number from lo to hi.
     pub fn number(&mut self, key: &[u8], lo: u16, hi: u16) -> Result<u16, Fault>
         ensures { Reads (read_number key.now (in_range lo hi) self.old.src.now self.old.at) self.old self.new result }
@@ -53,9 +46,16 @@ impl<'a> Reader<'a> {
         self.take(number_line(self.src, self.at, key, lo, hi))
     }
 
+    // The line of the key `one` and a number from 1 to `most`, or of the key `two` and one from 1 to `last`.
+    pub fn keyed(&mut self, one: &[u8], most: u16, two: &[u8], last: u16) -> Result<Keyed, Fault>
+        ensures { Reads (read_keyed one.now two.now (in_range 1 most) (in_range 1 last) self.old.src.now self.old.at) self.old self.new result }
+    {
+        self.take(keyed_line(self.src, self.at, one, most, two, last))
+    }
+
     // The line of key and n values of at most hi, either side of 0 where their type has a sign.
     pub fn list<V: Value>(&mut self, key: &[u8], n: usize, hi: u16) -> Result<[V; 32], Fault>
-        ensures { Reads (kept (row V.held) (judged (every (modest hi)) self.old.at (behind key.now (list_end (signed_if V.SIGNED) n self.old.src.now) self.old.src.now self.old.at))) self.old self.new result }
+        ensures { Reads (kept (row V.held) (read_row (signed_if V.SIGNED) signed_text key.now n (modest hi) self.old.src.now self.old.at)) self.old self.new result }
     {
         self.take(list_line(self.src, self.at, key, n, hi))
     }
@@ -78,7 +78,7 @@ impl<'a> Reader<'a> {
         ensures { result ≡ accepted (closed self.now.src.now self.now.at) }
     {
         if self.at < self.src.len() {
-            return Err(fault_at(Cause::Syntax, self.at));
+            return Err(fault_at(Cause::Syntax, self.at, self.at));
         }
         Ok(())
     }

@@ -102,6 +102,31 @@ deviations! {
     IdlingWithAnotherNet: "idling engages another net";
     IdlingWithoutTransitions: "idling with all counts 0 is read";
     RefusedReadingGivesNothing: "a refused reading leaves the model that stood there";
+    // Columns.
+    ColumnsFromZero: "columns are counted from 0";
+    ColumnsOfTheText: "columns are counted from the text's first byte";
+    ColumnsIn16Bits: "columns are kept in 16 bits";
+    ColumnOfTheLineEnd: "the column is that of the line's end";
+    ColumnOfIdling: "5 has a column";
+    MissingLineAtZero: "a missing line has column 0";
+    BytesAfterAtZero: "bytes after the last line have column 0";
+    UnendedAtItsLast: "an early end has the column of the last byte";
+    WrongKeyAtItsFirst: "a wrong key has the column of its first byte";
+    IdleKeyNotTried: "a key that is no event is not tried as idle";
+    HeaderAtItsNumber: "a header with another number has the column of its number";
+    ExtraNumberAfterComma: "a list that is too long has the column of the number after its comma";
+    ShortListAtItsNumber: "a list that is too short has the column of its last number";
+    UnknownPlaceIsBlack: "the list of an unknown place is tested as that of a black one";
+    LeadingZeroAtItself: "a leading zero has its own column";
+    MinusZeroAtItsSign: "-0 has the column of its sign";
+    RangeBeforeSyntax: "3 is judged before the rest of a list is read";
+    RangeBeforeEnd: "3 is judged before a line's end";
+    LastOutOfRange: "3 has the column of the last number out of range";
+    KeyNotCounted: "the column of a 3 is counted from behind the key";
+    RangeAtItsLastDigit: "3 has the column of the number's last digit";
+    RangeAtThePlace: "a token's count out of range has the column of its place";
+    SignNotCounted: "a weight out of range has the column behind its sign";
+    RunWithoutColumn: "a run's stop has no column";
     // Held models and markings.
     LeavingMovesNotHeld: "a held model with a move that gives none of a net that it takes is 14";
     UnusedRoomOfModel: "unused room of a held model is not tested";
@@ -117,6 +142,8 @@ deviations! {
     SpreadInvented: "the spread is a product";
     SpreadIn32Bits: "the spread is kept in 32 bits";
     SpreadRacksFirst: "the spread refuses racks before tokens";
+    SpreadColumn: "the spread's 3 has a column";
+    ListingWithoutColumns: "the listing prints no columns";
     FiredInvented: "fired counts the trace's steps";
     HeldInvented: "held is the start's";
     ListingGoesOn: "the listing goes on after refused weights";

@@ -8,12 +8,13 @@ use crate::model::{self, within_slice, Model};
 use crate::weights::Passed;
 use crate::{listing, spread, step, weights};
 
-/// A number of the table, and what stands beside it.
+/// A number of the table, what stands beside it, and the column.
 #[repr(C)]
 #[derive(Clone, Copy, Debug, Default, PartialEq, Eq)]
 pub struct Answer {
     pub number: usize,
     pub beside: usize,
+    pub column: usize,
 }
 
 /// A step: the bytes that it used; 0 where it was turned down.
@@ -22,6 +23,7 @@ pub struct Answer {
 pub struct Stepped {
     pub number: usize,
     pub beside: usize,
+    pub column: usize,
     pub used: usize,
 }
 
@@ -31,6 +33,7 @@ pub struct Stepped {
 pub struct Ran {
     pub number: usize,
     pub beside: usize,
+    pub column: usize,
     pub fired: usize,
     pub at: usize,
 }
@@ -41,6 +44,7 @@ pub struct Ran {
 pub struct Written {
     pub number: usize,
     pub beside: usize,
+    pub column: usize,
     pub bytes: usize,
 }
 
@@ -50,6 +54,7 @@ pub struct Written {
 pub struct Weighed {
     pub number: usize,
     pub beside: usize,
+    pub column: usize,
     pub above: u64,
     pub below: u64,
     pub cover: usize,
@@ -61,14 +66,15 @@ pub struct Weighed {
 pub struct Spread {
     pub number: usize,
     pub beside: usize,
+    pub column: usize,
     pub ways: u64,
 }
 
 impl Answer {
     fn of<T>(result: &Result<T, Refusal>) -> Answer {
-        match result {
-            Ok(_) => Answer::default(),
-            Err(Refusal { number, beside }) => Answer { number: *number, beside: *beside },
+        match result.as_ref().err() {
+            None => Answer::default(),
+            Some(&Refusal { number, beside, column }) => Answer { number, beside, column },
         }
     }
 }
@@ -116,18 +122,18 @@ pub fn test_marking(model: &HeldModel, marking: &HeldMarking) -> bool {
 pub fn write_marking(model: &HeldModel, marking: &HeldMarking, out: &mut [u8]) -> Written {
     match judged_marking(model, marking, &[]) {
         Ok((model, marking)) => lend_out(&marking::write_marking(&model, &marking), out),
-        Err(Refusal { number, beside }) => Written { number, beside, bytes: 0 },
+        Err(Refusal { number, beside, column }) => Written { number, beside, column, bytes: 0 },
     }
 }
 
 pub fn check_weights(model: &HeldModel, marking: &HeldMarking, text: &[u8]) -> Weighed {
     let checked = judged_marking(model, marking, text)
         .and_then(|(model, marking)| weights::check_weights(&model, &marking, text));
-    let Answer { number, beside } = Answer::of(&checked);
+    let Answer { number, beside, column } = Answer::of(&checked);
     let Passed { sum, cover } = checked.unwrap_or(Passed { sum: 0, cover: false });
     let above = sum.max(0).unsigned_abs();
     let below = sum.min(0).unsigned_abs();
-    Weighed { number, beside, above, below, cover: usize::from(cover) }
+    Weighed { number, beside, column, above, below, cover: usize::from(cover) }
 }
 
 pub fn step(held_model: &HeldModel, held: &mut HeldMarking, text: &[u8]) -> Stepped {
@@ -138,7 +144,7 @@ pub fn step(held_model: &HeldModel, held: &mut HeldMarking, text: &[u8]) -> Step
         }
         stepped
     });
-    let Answer { number, mut beside } = Answer::of(&stepped);
+    let Answer { number, mut beside, column } = Answer::of(&stepped);
     let beside_a_line = stepped.is_err_and(|refusal| refusal.beside_a_line());
     if beside_a_line && broken(Broken::LinesFromZero) {
         beside -= 1;
@@ -148,24 +154,25 @@ pub fn step(held_model: &HeldModel, held: &mut HeldMarking, text: &[u8]) -> Step
         Err(_) if broken(Broken::UsedWhenRefused) => text.len(),
         _ => stepped.unwrap_or(0),
     };
-    Stepped { number, beside, used }
+    Stepped { number, beside, column, used }
 }
 
 pub fn run(held_model: &HeldModel, held: &mut HeldMarking, text: &[u8]) -> Ran {
     let (model, mut marking) = match judged_marking(held_model, held, text) {
         Ok(parts) => parts,
-        Err(Refusal { number, beside }) => return Ran { number, beside, fired: 0, at: 0 },
+        Err(Refusal { number, beside, column }) => return Ran { number, beside, column, fired: 0, at: 0 },
     };
     let ran = step::run(&model, &mut marking, text);
     hold_again(held, &marking);
-    let Answer { number, beside } = Answer::of(&ran.stop);
-    Ran { number, beside, fired: ran.fired, at: ran.at }
+    let Answer { number, beside, column } = Answer::of(&ran.stop);
+    let column = if broken(Broken::RunWithoutColumn) { 0 } else { column };
+    Ran { number, beside, column, fired: ran.fired, at: ran.at }
 }
 
 pub fn ways(tokens: usize, racks: usize) -> Spread {
     let ways = spread::ways(tokens, racks);
-    let Answer { number, beside } = Answer::of(&ways);
-    Spread { number, beside, ways: ways.unwrap_or(0) }
+    let Answer { number, beside, column } = Answer::of(&ways);
+    Spread { number, beside, column, ways: ways.unwrap_or(0) }
 }
 
 pub fn listing(model: &[u8], weights: &[u8], trace: &[u8], out: &mut [u8]) -> Written {
@@ -221,11 +228,11 @@ fn lend_out(text: &[u8], out: &mut [u8]) -> Written {
             out.copy_from_slice(&text[..out.len()]);
         }
         let beside = needed - usize::from(broken(Broken::NeededOneFewer));
-        return Written { number: BUFFER, beside, bytes: 0 };
+        return Written { number: BUFFER, beside, ..Written::default() };
     }
     out[..needed].copy_from_slice(text);
     if broken(Broken::RoomAfterTextCleared) {
         out[needed..].fill(0);
     }
-    Written { number: 0, beside: 0, bytes: needed }
+    Written { bytes: needed, ..Written::default() }
 }

@@ -29,16 +29,22 @@ pub const BUFFER: usize = 13;
 /// A held model or marking that no accepted reading gives.
 pub const HELD: usize = 14;
 
-/// A refusal: its number, and what stands beside it.
+/// A refusal: its number, what stands beside it, and the column; 0 where no byte of a line is at fault.
 #[derive(Clone, Copy, Debug, PartialEq, Eq)]
 pub struct Refusal {
     pub number: usize,
     pub beside: usize,
+    pub column: usize,
 }
 
 impl Refusal {
     pub const fn new(number: usize, beside: usize) -> Refusal {
-        Refusal { number, beside }
+        Refusal { number, beside, column: 0 }
+    }
+
+    /// A refusal at a byte of a line.
+    pub const fn at(number: usize, line: usize, column: usize) -> Refusal {
+        Refusal { number, beside: line, column }
     }
 
     /// Whether a step's line stands beside it.

@@ -4,7 +4,7 @@ use crate::calls::{Answer, Ran, Spread, Stepped, Weighed, Written};
 use crate::engine::Engine;
 use crate::held::{HeldMarking, HeldModel};
 
-/// A model read: its number, what stands beside it, the model and its start.
+/// A model read: its answer, the model and its start.
 #[repr(C)]
 pub struct ModelRead {
     pub answer: Answer,

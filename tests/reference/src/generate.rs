@@ -3,6 +3,7 @@
 pub mod damage;
 pub mod held_damage;
 pub mod limits;
+pub mod line_damage;
 pub mod maker;
 pub mod plant;
 pub mod rng;

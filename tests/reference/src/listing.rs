@@ -5,7 +5,7 @@ use crate::cause::{within, Refusal};
 use crate::marking::{push_tokens, Marking};
 use crate::model::{read_model, Model, SLICE};
 use crate::step::{run, Run};
-use crate::text::{push_line, push_number};
+use crate::text::{push_line, push_list, push_number};
 use crate::weights::{check_weights, Passed};
 
 /// Bytes of a file that the program reads.
@@ -66,11 +66,10 @@ fn push_sum(out: &mut Vec<u8>, sum: i64) {
 }
 
 fn push_answer(out: &mut Vec<u8>, key: &str, refusal: Option<&Refusal>) {
-    let (number, beside) = refusal.map_or((0, 0), |refusal| (refusal.number, refusal.beside));
+    let answer = refusal.map_or([0; 3], |&Refusal { number, beside, column }| [number, beside, column]);
+    let printed = if broken(Broken::ListingWithoutColumns) { 2 } else { 3 };
     out.extend_from_slice(key.as_bytes());
     out.push(b'=');
-    push_number(out, number);
-    out.push(b',');
-    push_number(out, beside);
+    push_list(out, answer.into_iter().take(printed));
     out.push(b'\n');
 }

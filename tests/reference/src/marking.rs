@@ -1,9 +1,10 @@
 //! Markings: multisets of net-tokens, their projections, their reading and writing.
 
 use crate::broken::{broken, Broken};
-use crate::cause::{Refusal, RANGE, SYNTAX};
+use crate::cause::Refusal;
+use crate::column::Right;
 use crate::model::{within_slice, InnerCounts, Model, OuterCounts, COUNT, INNER, NETS, PLACES, TOKENS};
-use crate::text::{push_line, push_list, push_number, Reader};
+use crate::text::{first_over, push_line, push_list, push_number, Reader};
 
 /// A net-token: its place's number, from 1, and its counts; 0 past the net's inner places.
 /// The order of rows is the order of markings.
@@ -93,19 +94,22 @@ pub fn read_block(reader: &mut Reader, model: &Model, key: &str, most: usize) ->
 }
 
 fn read_token(reader: &mut Reader, model: &Model) -> Result<Row, Refusal> {
-    let value = reader.value("token")?;
-    let [syntax, range] = [SYNTAX, RANGE].map(|number| reader.refuse(number));
-    let (place, counts) = reader.place_and_counts(value)?;
+    let right = Right::Token(model);
+    let place = reader.token(right)?;
     if place == 0 || place > model.places() {
-        return Err(if broken(Broken::PlaceOutOfRangeIsSyntax) { syntax } else { range });
+        let syntax = broken(Broken::PlaceOutOfRangeIsSyntax);
+        return Err(if syntax { reader.refuse_syntax(right) } else { reader.refuse_range(0) });
     }
+    let counts = reader.numbers();
     if counts.len() != model.inner_places(place - 1) {
-        return Err(syntax);
+        return Err(reader.refuse_syntax(right));
     }
     let most = COUNT - usize::from(broken(Broken::CountsOneFewer));
-    if counts.iter().any(|&count| count as usize > most) {
-        return Err(range);
+    if let Some(index) = first_over(counts, most) {
+        let place_first = usize::from(!broken(Broken::RangeAtThePlace));
+        return Err(reader.refuse_range((1 + index) * place_first));
     }
+    reader.ended(right)?;
     let kept = if broken(Broken::StagesAbove16Lost) { 16 } else { INNER };
     let mut row = [0; 1 + INNER];
     row[0] = place as u16;

@@ -1,7 +1,8 @@
 //! Models: the system net, the object nets, the events, and their reading.
 
 use crate::broken::{broken, Broken};
-use crate::cause::{within, Refusal, IDLING, RETIRED, SYNTAX};
+use crate::cause::{within, Refusal, IDLING, RETIRED};
+use crate::column::Right;
 use crate::marking::{read_start, Marking};
 use crate::text::{value_of, Reader};
 
@@ -214,13 +215,14 @@ fn read_events(reader: &mut Reader, model: &mut Model) -> Result<(), Refusal> {
 }
 
 fn read_mode(reader: &mut Reader, model: &Model) -> Result<Mode, Refusal> {
-    let line = reader.line()?;
+    let right = Right::Number(&["event", "idle"]);
+    let line = reader.line(right)?;
     if let Some(value) = value_of(line, "event") {
-        let index = reader.in_range(value, 1, model.moves.len())?;
+        let index = reader.in_range(value, right, 1, model.moves.len())?;
         return Ok(Mode::Move(index - 1));
     }
-    let value = value_of(line, "idle").ok_or(reader.refuse(SYNTAX))?;
-    let place = reader.in_range(value, 1, model.places())? - 1;
+    let value = value_of(line, "idle").ok_or_else(|| reader.refuse_syntax(right))?;
+    let place = reader.in_range(value, right, 1, model.places())? - 1;
     if model.net_of(place).is_none() && !broken(Broken::IdlingAtBlackPlaces) {
         return Err(reader.refuse(IDLING));
     }

@@ -13,7 +13,7 @@ pub fn ways(tokens: usize, racks: usize) -> Result<u64, Refusal> {
         return Err(Refusal::new(RANGE, 2));
     }
     if tokens > MOST_TOKENS {
-        return Err(Refusal::new(RANGE, 1));
+        return Err(Refusal::at(RANGE, 1, usize::from(broken(Broken::SpreadColumn))));
     }
     if racks > MOST_RACKS {
         return Err(Refusal::new(RANGE, 2));

@@ -1,22 +1,24 @@
 //! Texts: lines of `key=value`, each ended by one LF.
 
 use crate::broken::{broken, Broken};
-use crate::cause::{Refusal, RANGE, SYNTAX};
+use crate::cause::{Refusal, IDLING, RANGE, SYNTAX};
+use crate::column::{of_number, of_syntax, Right};
 
 /// Every range ends below this; a larger number is kept as this one.
 const BEYOND: u32 = 1_000_000;
 
-/// A reader of lines: the lent bytes, the place it has reached, and the number of the line read last.
+/// A reader of lines: the lent bytes, the place it has reached, and the line read last with its number and its numbers.
 pub struct Reader<'a> {
     bytes: &'a [u8],
     at: usize,
     line: usize,
+    last: &'a [u8],
     numbers: Vec<u32>,
 }
 
 impl<'a> Reader<'a> {
     pub fn new(bytes: &'a [u8]) -> Reader<'a> {
-        Reader { bytes, at: 0, line: 0, numbers: Vec::new() }
+        Reader { bytes, at: 0, line: 0, last: &[], numbers: Vec::new() }
     }
 
     /// The bytes read so far.
@@ -24,118 +26,194 @@ impl<'a> Reader<'a> {
         self.at
     }
 
-    /// A refusal beside the line read last.
+    /// The numbers of the list read last.
+    pub fn numbers(&self) -> &[u32] {
+        &self.numbers
+    }
+
+    /// A refusal beside the line read last, for what it says.
     pub fn refuse(&self, number: usize) -> Refusal {
+        if number == IDLING && broken(Broken::ColumnOfIdling) {
+            return Refusal::at(number, self.line, of_number(self.last, 0));
+        }
         Refusal::new(number, self.line)
     }
 
+    /// A refusal of the line read last, where right lines are these.
+    pub fn refuse_syntax(&self, right: Right) -> Refusal {
+        self.refuse_at(SYNTAX, of_syntax(right, self.last))
+    }
+
+    /// A refusal of a number of the line read last, counted from 0.
+    pub fn refuse_range(&self, index: usize) -> Refusal {
+        self.refuse_at(RANGE, of_number(self.last, index))
+    }
+
+    fn refuse_at(&self, number: usize, column: usize) -> Refusal {
+        let column = if broken(Broken::ColumnsFromZero) {
+            column.wrapping_sub(1)
+        } else if broken(Broken::ColumnOfTheLineEnd) {
+            self.last.len()
+        } else if broken(Broken::ColumnsOfTheText) {
+            self.at - self.last.len() + column
+        } else if broken(Broken::ColumnsIn16Bits) {
+            usize::from(column as u16)
+        } else {
+            column
+        };
+        Refusal::at(number, self.line, column)
+    }
+
     /// The next line without its LF. A missing or unended line is refused at its own number.
-    pub fn line(&mut self) -> Result<&'a [u8], Refusal> {
+    pub fn line(&mut self, right: Right) -> Result<&'a [u8], Refusal> {
         let rest = &self.bytes[self.at..];
         if !(rest.is_empty() && broken(Broken::MissingLineIsTheLast)) {
             self.line += 1;
         }
-        match rest.iter().position(|&byte| byte == b'\n') {
-            Some(length) => {
-                self.at += length + 1;
-                Ok(&rest[..length])
-            }
-            None if broken(Broken::UnendedLine) && !rest.is_empty() => {
-                self.at = self.bytes.len();
-                Ok(rest)
-            }
-            None => Err(self.refuse(SYNTAX)),
+        let end = rest.iter().position(|&byte| byte == b'\n');
+        self.last = &rest[..end.map_or(rest.len(), |end| end + 1)];
+        self.at += self.last.len();
+        match end {
+            Some(end) => Ok(&rest[..end]),
+            None if !rest.is_empty() && reads_unended() => Ok(rest),
+            None => Err(self.refuse_syntax(right)),
         }
     }
 
     /// The value of the next line, whose key must be `key`.
-    pub fn value(&mut self, key: &str) -> Result<&'a [u8], Refusal> {
-        let line = self.line()?;
-        value_of(line, key).ok_or(self.refuse(SYNTAX))
+    fn value(&mut self, key: &str, right: Right) -> Result<&'a [u8], Refusal> {
+        let line = self.line(right)?;
+        value_of(line, key).ok_or_else(|| self.refuse_syntax(right))
+    }
+
+    /// Broken: an unended line that is right but for its end is refused now.
+    pub fn ended(&self, right: Right) -> Result<(), Refusal> {
+        if broken(Broken::RangeBeforeEnd) && !self.last.ends_with(b"\n") {
+            return Err(self.refuse_syntax(right));
+        }
+        Ok(())
     }
 
     /// A first line; its number must be 1.
     pub fn header(&mut self, key: &str) -> Result<(), Refusal> {
-        match self.value(key)? {
-            b"1" => Ok(()),
+        let right = Right::Header(key);
+        match self.value(key, right)? {
+            b"1" => self.ended(right),
             other if broken(Broken::OtherHeaderOutOfRange) && natural(other).is_some() => {
-                Err(self.refuse(RANGE))
+                Err(self.refuse_range(0))
             }
-            _ => Err(self.refuse(SYNTAX)),
+            _ => Err(self.refuse_syntax(right)),
         }
     }
 
     /// The next line, a number from `least` to `most`.
     pub fn number(&mut self, key: &str, least: usize, most: usize) -> Result<usize, Refusal> {
-        let value = self.value(key)?;
-        self.in_range(value, least, most)
+        let keys = [key];
+        let right = Right::Number(&keys);
+        let value = self.value(key, right)?;
+        self.in_range(value, right, least, most)
     }
 
     /// A value that is a number from `least` to `most`.
-    pub fn in_range(&self, value: &[u8], least: usize, most: usize) -> Result<usize, Refusal> {
-        let number = natural(value).ok_or(self.refuse(SYNTAX))? as usize;
+    pub fn in_range(&self, value: &[u8], right: Right, least: usize, most: usize) -> Result<usize, Refusal> {
+        let number = natural(value).ok_or_else(|| self.refuse_syntax(right))? as usize;
         if number < least || number > most {
-            return Err(self.refuse(RANGE));
+            return Err(self.refuse_range(0));
         }
+        self.ended(right)?;
         Ok(number)
     }
 
     /// The next line, a list of `length` numbers from 0 to `most`, which is at most 255.
     pub fn list(&mut self, key: &str, length: usize, most: usize) -> Result<Vec<u8>, Refusal> {
-        let value = self.value(key)?;
-        let numbers = self.naturals(value)?;
-        let too_large = numbers.iter().any(|&number| number as usize > most);
-        if numbers.len() != length && !(too_large && broken(Broken::RangeBeforeLength)) {
-            return Err(self.refuse(SYNTAX));
+        let right = Right::List(key, length);
+        let value = self.value(key, right)?;
+        if let Some(index) = hasty(value, most) {
+            return Err(self.refuse_range(index));
         }
-        if too_large {
-            return Err(self.refuse(RANGE));
+        self.read_numbers(value, right)?;
+        let too_large = first_over(&self.numbers, most);
+        if self.numbers.len() != length && !(too_large.is_some() && broken(Broken::RangeBeforeLength)) {
+            return Err(self.refuse_syntax(right));
         }
-        Ok(numbers.iter().map(|&number| number as u8).collect())
+        if let Some(index) = too_large {
+            return Err(self.refuse_range(index));
+        }
+        self.ended(right)?;
+        Ok(self.numbers.iter().map(|&number| number as u8).collect())
     }
 
-    /// A place's number, a colon and a list, as a token line has them.
-    pub fn place_and_counts(&mut self, value: &[u8]) -> Result<(usize, &[u32]), Refusal> {
-        let syntax = self.refuse(SYNTAX);
-        let colon = value.iter().position(|&byte| byte == b':').ok_or(syntax)?;
-        let place = natural(&value[..colon]).ok_or(syntax)?;
-        let counts = self.naturals(&value[colon + 1..])?;
-        Ok((place as usize, counts))
+    /// The next line, a token line: its place's number; its counts are then the numbers.
+    pub fn token(&mut self, right: Right) -> Result<usize, Refusal> {
+        let value = self.value("token", right)?;
+        let syntax = || self.refuse_syntax(right);
+        let colon = value.iter().position(|&byte| byte == b':').ok_or_else(syntax)?;
+        let place = natural(&value[..colon]).ok_or_else(syntax)?;
+        self.read_numbers(&value[colon + 1..], right)?;
+        Ok(place as usize)
     }
 
-    /// The numbers of a list; a list of length 0 is nothing.
-    fn naturals(&mut self, value: &[u8]) -> Result<&[u32], Refusal> {
-        let syntax = self.refuse(SYNTAX);
+    /// Reads the numbers of a list; a list of length 0 is nothing.
+    fn read_numbers(&mut self, value: &[u8], right: Right) -> Result<(), Refusal> {
         self.numbers.clear();
         if !value.is_empty() {
             for digits in value.split(|&byte| byte == b',') {
-                self.numbers.push(natural(digits).ok_or(syntax)?);
+                let number = natural(digits).ok_or_else(|| self.refuse_syntax(right))?;
+                self.numbers.push(number);
             }
         }
-        Ok(&self.numbers)
+        Ok(())
     }
 
     /// The next line, a list of `length` weights from −`most` to `most`.
     pub fn weights(&mut self, key: &str, length: usize, most: u32) -> Result<Vec<i64>, Refusal> {
-        let value = self.value(key)?;
+        let right = Right::Weights(key, length);
+        let value = self.value(key, right)?;
         let weights: Option<Vec<i64>> = match value {
             [] => Some(Vec::new()),
             _ => value.split(|&byte| byte == b',').map(weight).collect(),
         };
         let weights = weights.filter(|weights| weights.len() == length);
-        let weights = weights.ok_or(self.refuse(SYNTAX))?;
-        if weights.iter().any(|weight| weight.unsigned_abs() > u64::from(most)) {
-            return Err(self.refuse(RANGE));
+        let weights = weights.ok_or_else(|| self.refuse_syntax(right))?;
+        let sizes: Vec<u32> = weights.iter().map(|weight| weight.unsigned_abs() as u32).collect();
+        if let Some(index) = first_over(&sizes, most as usize) {
+            return Err(self.refuse_range(index));
         }
+        self.ended(right)?;
         Ok(weights)
     }
 
-    /// Refuses bytes after the last line.
+    /// Refuses bytes after the last line, where no line could begin.
     pub fn end(&self) -> Result<(), Refusal> {
         if self.at < self.bytes.len() && !broken(Broken::BytesAfterTheLastLine) {
-            return Err(Refusal::new(SYNTAX, self.line + 1));
+            let column = usize::from(!broken(Broken::BytesAfterAtZero));
+            return Err(Refusal::at(SYNTAX, self.line + 1, column));
         }
         Ok(())
+    }
+}
+
+/// Broken: whether an unended line is read.
+fn reads_unended() -> bool {
+    broken(Broken::UnendedLine) || broken(Broken::RangeBeforeEnd)
+}
+
+/// Which number, counted from 0, is the first one that is more than `most`.
+pub fn first_over(numbers: &[u32], most: usize) -> Option<usize> {
+    if broken(Broken::LastOutOfRange) {
+        return numbers.iter().rposition(|&number| number as usize > most);
+    }
+    numbers.iter().position(|&number| number as usize > most)
+}
+
+/// Broken: which number of a list, perhaps no right one, is the first one that is more than `most`.
+fn hasty(value: &[u8], most: usize) -> Option<usize> {
+    let read = value.split(|&byte| byte == b',').map_while(natural);
+    let over = |number: u32| number as usize > most;
+    if broken(Broken::RangeBeforeSyntax) {
+        read.map(over).position(|over| over)
+    } else {
+        None
     }
 }
 

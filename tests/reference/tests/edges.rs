@@ -14,21 +14,22 @@ const SECOND: &str = "fire=1\ntake=1\ntoken=1:0,0\ngive=1\ntoken=2:0,0\n";
 
 fn read(text: &str) -> (Box<HeldModel>, Box<HeldMarking>) {
     let read = calls::read_model(text.as_bytes());
-    assert_eq!(read.answer, Answer { number: 0, beside: 0 }, "{text}");
+    assert_eq!(read.answer, Answer::default(), "{text}");
     (Box::new(read.model), Box::new(read.start))
 }
 
-fn refused(text: &str) -> (usize, usize) {
+fn refused(text: &str) -> (usize, usize, usize) {
     let read = calls::read_model(text.as_bytes());
     assert!(read.model == HeldModel::empty() && read.start == HeldMarking::empty());
-    (read.answer.number, read.answer.beside)
+    (read.answer.number, read.answer.beside, read.answer.column)
 }
 
 /// The answer to a step on a start that has these token lines.
 fn stepped(model: &str, step: &str) -> (usize, usize) {
     let (model, mut marking) = read(model);
     let before = marking.clone();
-    let Stepped { number, beside, used } = calls::step(&model, &mut marking, step.as_bytes());
+    let Stepped { number, beside, column, used } = calls::step(&model, &mut marking, step.as_bytes());
+    assert_eq!(column > 0, [2, 3].contains(&number));
     if number == 0 {
         assert_eq!((beside, used), (0, step.len()));
     } else {
@@ -67,7 +68,7 @@ fn full_hall(racks: usize) -> String {
 fn listing_byte_for_byte() {
     let trace = format!("run=1\n{FIRST}{SECOND}");
     let printed =
-        "model=0,0\nweights=0,0\nsum=3\ncover=1\nfired=1\nstop=9,1\nheld=2\ntoken=1:0,0\ntoken=2:0,1\n";
+        "model=0,0,0\nweights=0,0,0\nsum=3\ncover=1\nfired=1\nstop=9,1,0\nheld=2\ntoken=1:0,0\ntoken=2:0,1\n";
     let out = listing(MODEL.as_bytes(), WEIGHTS.as_bytes(), trace.as_bytes());
     assert_eq!(String::from_utf8(out).unwrap(), printed);
 }
@@ -77,18 +78,22 @@ fn listing_ends_at_the_first_refusal() {
     let list = |model: &str, weights: &str, trace: &str| {
         String::from_utf8(listing(model.as_bytes(), weights.as_bytes(), trace.as_bytes())).unwrap()
     };
-    assert_eq!(list("", "", ""), "model=2,1\n");
-    assert_eq!(list(MODEL, "", ""), "model=0,0\nweights=2,1\n");
+    assert_eq!(list("", "", ""), "model=2,1,1\n");
+    assert_eq!(list(&MODEL.replace("nets=1", "nets=9"), "", ""), "model=3,2,6\n");
+    assert_eq!(list(MODEL, "", ""), "model=0,0,0\nweights=2,1,1\n");
+    assert_eq!(list(MODEL, "inv=1\nouter=1,1\ninner=1,-0\n", ""), "model=0,0,0\nweights=2,3,10\n");
     let start = "token=1:0,0\ntoken=1:1,0\n";
-    let head = "model=0,0\nweights=0,0\nsum=3\ncover=1\nfired=0\n";
-    assert_eq!(list(MODEL, WEIGHTS, ""), format!("{head}stop=2,1\nheld=2\n{start}"));
-    assert_eq!(list(MODEL, WEIGHTS, "run=2\n"), format!("{head}stop=2,1\nheld=2\n{start}"));
-    assert_eq!(list(MODEL, WEIGHTS, "run=1\n"), format!("{head}stop=0,0\nheld=2\n{start}"));
+    let head = "model=0,0,0\nweights=0,0,0\nsum=3\ncover=1\nfired=0\n";
+    let stopped = |stop: &str| format!("{head}stop={stop}\nheld=2\n{start}");
+    assert_eq!(list(MODEL, WEIGHTS, ""), stopped("2,1,1"));
+    assert_eq!(list(MODEL, WEIGHTS, "run=2\n"), stopped("2,1,5"));
+    assert_eq!(list(MODEL, WEIGHTS, "run=1\n"), stopped("0,0,0"));
+    assert_eq!(list(MODEL, WEIGHTS, "run=1\nfire=1\ntake=1\ntoken=1:1,70000\n"), stopped("3,3,11"));
     let long = "x".repeat(65_537);
-    assert_eq!(list(MODEL, WEIGHTS, &long), format!("{head}stop=1,0\nheld=2\n{start}"));
-    assert_eq!(list(MODEL, WEIGHTS, &long[1..]), format!("{head}stop=2,1\nheld=2\n{start}"));
-    assert_eq!(list(MODEL, &long, ""), "model=0,0\nweights=1,0\n");
-    assert_eq!(list(&long, "", ""), "model=1,0\n");
+    assert_eq!(list(MODEL, WEIGHTS, &long), stopped("1,0,0"));
+    assert_eq!(list(MODEL, WEIGHTS, &long[1..]), stopped("2,1,1"));
+    assert_eq!(list(MODEL, &long, ""), "model=0,0,0\nweights=1,0,0\n");
+    assert_eq!(list(&long, "", ""), "model=1,0,0\n");
 }
 
 #[test]
@@ -153,7 +158,7 @@ fn room_for_256() {
     assert_eq!(stepped(&black_hall(256, 2), two), (12, 4));
     assert_eq!(stepped(&black_hall(255, 2), two), (0, 0));
     assert_eq!(stepped(&black_hall(256, 1), one), (0, 0));
-    assert_eq!(refused(&black_hall(257, 1)), (3, 10));
+    assert_eq!(refused(&black_hall(257, 1)), (3, 10, 7));
 }
 
 #[test]
@@ -167,27 +172,27 @@ fn cover_of_256_racks() {
 fn counts_and_lists() {
     let with = |old: &str, new: &str| MODEL.replacen(old, new, 1);
     read(&with("token=1:1,0", "token=1:65535,0"));
-    assert_eq!(refused(&with("token=1:1,0", "token=1:65536,0")), (3, 18));
-    assert_eq!(refused(&with("sync=1", "sync=01")), (2, 14));
-    assert_eq!(refused(&with("type=1,1", "type=1,1,9")), (2, 4));
-    assert_eq!(refused(&with("type=1,1", "type=1,9")), (3, 4));
-    assert_eq!(refused(&with("token=1:1,0", "token=3:1")), (3, 18));
-    assert_eq!(refused(&with("token=1:1,0", "token=0:")), (3, 18));
-    assert_eq!(refused(&with("token=1:1,0", "token=3:,")), (2, 18));
-    assert_eq!(refused(&with("token=1:1,0", "token=1:70000")), (2, 18));
-    assert_eq!(refused(&with("eos=1", "eos=99999999999999999999")), (2, 1));
-    assert_eq!(refused(&with("nets=1", "nets=99999999999999999999")), (3, 2));
-    assert_eq!(refused(&with("idle=2\nsync=1", "idle=2\nsync=0")), (5, 16));
+    assert_eq!(refused(&with("token=1:1,0", "token=1:65536,0")), (3, 18, 9));
+    assert_eq!(refused(&with("sync=1", "sync=01")), (2, 14, 7));
+    assert_eq!(refused(&with("type=1,1", "type=1,1,9")), (2, 4, 9));
+    assert_eq!(refused(&with("type=1,1", "type=1,9")), (3, 4, 8));
+    assert_eq!(refused(&with("token=1:1,0", "token=3:1")), (3, 18, 7));
+    assert_eq!(refused(&with("token=1:1,0", "token=0:")), (3, 18, 7));
+    assert_eq!(refused(&with("token=1:1,0", "token=3:,")), (2, 18, 9));
+    assert_eq!(refused(&with("token=1:1,0", "token=1:70000")), (2, 18, 14));
+    assert_eq!(refused(&with("eos=1", "eos=99999999999999999999")), (2, 1, 5));
+    assert_eq!(refused(&with("nets=1", "nets=99999999999999999999")), (3, 2, 6));
+    assert_eq!(refused(&with("idle=2\nsync=1", "idle=2\nsync=0")), (5, 16, 0));
     assert_eq!(
         refused(
             &with("type=1,1", "type=1,0").replace("pre=1,0\npost=0,1\ninner", "pre=0,1\npost=0,1\ninner")
         ),
-        (5, 15)
+        (5, 15, 0)
     );
-    assert_eq!(refused(&format!("{MODEL}\n")), (2, 20));
-    assert_eq!(refused(&MODEL[..MODEL.len() - 1]), (2, 19));
-    assert_eq!(refused(&with("token=1:0,0\n", "")), (2, 19));
-    assert_eq!(refused(""), (2, 1));
+    assert_eq!(refused(&format!("{MODEL}\n")), (2, 20, 1));
+    assert_eq!(refused(&MODEL[..MODEL.len() - 1]), (2, 19, 12));
+    assert_eq!(refused(&with("token=1:0,0\n", "")), (2, 19, 1));
+    assert_eq!(refused(""), (2, 1, 1));
 }
 
 #[test]
@@ -221,7 +226,7 @@ fn sums_at_their_bound() {
 #[test]
 fn spread() {
     let value = |ways: u64| Spread { ways, ..Spread::default() };
-    let refused = |beside: usize| Spread { number: 3, beside, ways: 0 };
+    let refused = |beside: usize| Spread { number: 3, beside, ..Spread::default() };
     assert_eq!(calls::ways(0, 0), value(1));
     assert_eq!(calls::ways(3, 0), value(0));
     assert_eq!(calls::ways(2, 3), value(6));
@@ -256,15 +261,21 @@ fn slices_at_their_limit() {
     };
     let (model, start) = read(MODEL);
     let stepped = calls::step(&model, &mut start.clone(), &padded(FIRST, 1_048_576));
-    assert_eq!(stepped, Stepped { number: 0, beside: 0, used: FIRST.len() });
+    assert_eq!(stepped, Stepped { used: FIRST.len(), ..Stepped::default() });
     let stepped = calls::step(&model, &mut start.clone(), &padded(FIRST, 1_048_577));
-    assert_eq!(stepped, Stepped { number: 1, beside: 0, used: 0 });
+    assert_eq!(stepped, Stepped { number: 1, ..Stepped::default() });
     let stepped = calls::step(&HeldModel::empty(), &mut start.clone(), &padded(FIRST, 1_048_577));
-    assert_eq!(stepped, Stepped { number: 1, beside: 0, used: 0 });
+    assert_eq!(stepped, Stepped { number: 1, ..Stepped::default() });
     let stepped = calls::step(&HeldModel::empty(), &mut start.clone(), FIRST.as_bytes());
-    assert_eq!(stepped, Stepped { number: 14, beside: 0, used: 0 });
-    assert_eq!(calls::read_model(&padded(MODEL, 1_048_576)).answer, Answer { number: 2, beside: 20 });
-    assert_eq!(calls::read_model(&padded(MODEL, 1_048_577)).answer, Answer { number: 1, beside: 0 });
+    assert_eq!(stepped, Stepped { number: 14, ..Stepped::default() });
+    assert_eq!(
+        calls::read_model(&padded(MODEL, 1_048_576)).answer,
+        Answer { number: 2, beside: 20, column: 1 }
+    );
+    assert_eq!(
+        calls::read_model(&padded(MODEL, 1_048_577)).answer,
+        Answer { number: 1, ..Answer::default() }
+    );
 }
 
 #[test]
@@ -272,17 +283,17 @@ fn written_markings_read_back() {
     let (model, start) = read(MODEL);
     let written = b"start=2\ntoken=1:0,0\ntoken=1:1,0\n";
     let mut out = [b'#'; 40];
-    assert_eq!(calls::write_marking(&model, &start, &mut out), Written { number: 0, beside: 0, bytes: 32 });
+    assert_eq!(calls::write_marking(&model, &start, &mut out), Written { bytes: 32, ..Written::default() });
     assert!(out.starts_with(written) && out[32..] == [b'#'; 8]);
     let mut short = [b'#'; 31];
     assert_eq!(
         calls::write_marking(&model, &start, &mut short),
-        Written { number: 13, beside: 32, bytes: 0 }
+        Written { number: 13, beside: 32, ..Written::default() }
     );
     assert_eq!(short, [b'#'; 31]);
     assert!(calls::read_marking(&model, written).marking == *start);
     let late = calls::read_marking(&model, b"start=1\ntoken=1:0,0\n\n").answer;
-    assert_eq!(late, Answer { number: 2, beside: 3 });
+    assert_eq!(late, Answer { number: 2, beside: 3, column: 1 });
 }
 
 #[test]

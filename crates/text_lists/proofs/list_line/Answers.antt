@@ -1,29 +1,28 @@
 -- `list_line` meets its contract: the values are judged behind the key, and without the key there are none.
-use mathlib.Core.Path.{sym, ap, ◌∙◌}
-use native.Mathlib.Omega.{arith}
+use Prim.Native.Nat.{ℕ, ◌+◌}
+use mathlib.Core.Path.{◌≡◌, ap, sym, ◌∙◌}
+use lib.ListN.{length}
 use Rattle.text.specs.Number.{signed_if}
 use Rattle.text.specs.Lists.{list_end}
-use Rattle.text.specs.Lines.{judged, every, modest}
-use Rattle.text.specs.Answers.{kept, parsed, row}
-use Rattle.text.proofs.ByteLaws.{key_past}
-use Rattle.text.proofs.LineLaws.{behind-key, behind_other}
-use Rattle.text.proofs.ListLaws.{list_missing}
+use Rattle.text.specs.Lines.{read_row}
+use Rattle.text.specs.Answers.{row}
 use Rattle.std.specs.declared.result.Result.TheVariants.{Err}
+use Rattle.text.proofs.LineLaws.{behind-key, behind_other, kept_err, line_missing, literal_end}
+use Rattle.text.proofs.ListLaws.{answer}
 use Rattle.text_lists.proofs.list_line.Goals as goal
 
-pub returns-then-not-starts : goal.returns-then-not-starts
-returns-then-not-starts g c =
+pub returns-in_default : goal.returns-in_default
+unfolding read_row
+returns-in_default g c =
     let a = c.args in
-    ap Err c.fault_at.ensures
-    ∙ list_missing g.V.Value.held a.hi a.at _ (behind_other a.key.now (list_end (signed_if g.V.Value.SIGNED) a.n a.s.now) a.s.now a.at (sym c.starts.ensures ∙ c.if-not-starts.true))
-
-pub overflow_add-at : goal.overflow_add-at
-overflow_add-at g c =
-    let a = c.args in
-    omega (arith, key_past a.key.now a.s.now a.at (sym c.starts.ensures ∙ c.if-not-starts.false))
+    let none : (b : ℕ) → _ = λ b e. behind_other a.key.now (list_end (signed_if g.V.Value.SIGNED) a.n) a.s.now a.at b (e ∙ c.literal-read.ensures) in
+    kept_err (row g.V.Value.held) _ _ (ap Err c.syntax_fault.ensures ∙ line_missing _ _ _ _ _ none c.in_default.not-Ok)
 
 pub returns : goal.returns
+unfolding read_row
 returns g c =
     let a = c.args in
-    c.list_end.ensures
-    ∙ ap (λ x. parsed (kept (row g.V.Value.held) (judged (every (modest a.hi)) a.at x))) (sym (behind-key a.key.now (list_end (signed_if g.V.Value.SIGNED) a.n a.s.now) a.s.now a.at (sym c.starts.ensures ∙ c.if-not-starts.false)))
+    let k = sym c.in-Ok.is ∙ c.literal-read.ensures in
+    let e : c.in-Ok.from ≡ a.at + length a.key.now = literal_end a.key.now a.s.now a.at _ k in
+    (rw e at c.list_end.ensures)
+    ∙ ap (answer g.V.Value.held a.hi a.at (a.at + length a.key.now)) (sym (behind-key a.key.now (list_end (signed_if g.V.Value.SIGNED) a.n) a.s.now a.at _ (rw e at k)))

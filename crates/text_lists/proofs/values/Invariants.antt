@@ -1,17 +1,15 @@
--- `values` meets its contract. The invariant: the answer is that of going on from here with the row, the range so far and the position in
--- hand.
+-- `values` meets its contract. The invariant: the answer is that of going on from here with the row, the first value out of range and the
+-- position in hand.
 use lib.ListN.{length}
 use Prim.Native.Nat.{◌-◌}
 use mathlib.Core.Path.{◌≡◌}
 use Rattle.text.specs.Number.{signed_if}
 use Rattle.text.specs.Lists.{items}
-use Rattle.text.specs.Lines.{judged, every, modest}
-use Rattle.text.specs.Answers.{kept, parsed, row}
-use Rattle.text.proofs.ListLaws.{going}
+use Rattle.text.proofs.ListLaws.{answer, going}
 use Rattle.text_lists.proofs.values.Given as goal
 
 abbrev pub invariant-loop-i : goal.invariant-loop-i
 invariant-loop-i g l =
     (length l.row ≡ 32)
-    × (parsed (kept (row g.V.Value.held) (judged (every (modest l.hi)) l.top (items (signed_if g.V.Value.SIGNED) l.n l.s l.from)))
-    ≡ going g.V.Value.held l.hi l.top l.inside l.i l.row (items (signed_if g.V.Value.SIGNED) (l.n - l.i) l.s l.at))
+    × (answer g.V.Value.held l.hi l.top l.from (items (signed_if g.V.Value.SIGNED) l.n l.s l.from)
+    ≡ going g.V.Value.held l.hi l.top l.out l.i l.row l.at (items (signed_if g.V.Value.SIGNED) (l.n - l.i) l.s l.at))

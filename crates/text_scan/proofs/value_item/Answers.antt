@@ -1,26 +1,17 @@
--- `value_item` meets its contract, by the byte at the position; past the end there is no minus sign.
-use Rattle.std.proofs.Common.{rules}
-use mathlib.Core.Path.{sym, ap, ◌∙◌}
-use Rattle.text.specs.Capped.{capped_signed}
-use Rattle.text.proofs.ReadLaws.{within_text}
-use Rattle.text.proofs.NumberLaws.{item_plain, item-minus}
-use borrow.Author.Tests.{eq-eqb, ne_eqb}
+-- `value_item` meets its contract, by the value that was read.
+use mathlib.Core.Path.{◌∙◌}
+use Rattle.text.specs.Number.{signed_if}
+use Rattle.text.specs.Capped.{cap_signed}
+use Rattle.text.proofs.Basics.{handed_on}
+use Rattle.text.proofs.NumberLaws.{signed_within, exact_of, item_missing, item_ended}
 use Rattle.text_scan.proofs.value_item.Goals as goal
-use Rattle.text_scan.proofs.value_item.Goals.{else-minus-via-then-minus+else-byte_at-eq45, else-minus-via-else-minus}
 
-pub overflow_add-at : goal.overflow_add-at
-overflow_add-at c =
-    let a = c.args in
-    let h = within_text a.s.now a.at 44 (sym c.byte_at.ensures ∙ c.if-byte_at-eq45.true) in
-    search rules
+pub returns-in_err-signed_if : goal.returns-in_err-signed_if
+returns-in_err-signed_if c =
+    rw (handed_on _ c.from_residual.ensures.1) (item_missing cap_signed (signed_if c.args.minus) _ _ _ _ c.in_err-signed_if.ensures)
 
-pub returns-then-byte_at-eq45 : goal.returns-then-byte_at-eq45
-returns-then-byte_at-eq45 c =
-    c.negated.ensures ∙ sym (ap capped_signed (item-minus _ _ _ _ (rw (c.if-minus.true, eq-eqb _ _ (sym c.byte_at.ensures ∙ c.if-byte_at-eq45.true)))))
+pub ended-requires : goal.ended-requires
+ended-requires c = let a = c.args in signed_within a.minus a.s.now a.at _ _ (exact_of cap_signed _ _ c.in_ok-signed_if.ensures).is
 
 pub returns : goal.returns
-returns c =
-    c.plain.ensures ∙ sym (ap capped_signed (item_plain _ _ _ _ (elim c.else-minus.branch [
-      | else-minus-via-then-minus+else-byte_at-eq45 w ↦ rw (w.if-minus.true, ne_eqb _ _ (λ h. w.if-byte_at-eq45.false (w.byte_at.ensures ∙ h)))
-      | else-minus-via-else-minus w ↦ rw w.if-minus.false
-    ])))
+returns c = c.ended.ensures ∙ item_ended cap_signed (signed_if c.args.minus) _ _ _ _ c.in_ok-signed_if.ensures

@@ -1,58 +1,48 @@
 use Rattle.std.proofs.Common.{rules}
 use mathlib.Core.Path.{sym, ◌∙◌}
 use native.Mathlib.Omega.{arith}
-use Prim.Native.Nat.{◌<◌}
-use lib.ListN.{length}
 use Rattle.text.specs.Number.{number}
 use Rattle.text.specs.Capped.{cap}
-use Rattle.text.proofs.NumberLaws.{Exact, Capped, missing_if, exact_of, number_forward, number-within}
-use Rattle.text.proofs.ListLaws.{any_empty, any_start, any_missing, any_last, any_other, any_more}
+use Rattle.text.proofs.NumberLaws.{Exact, Capped, missing_of, exact_of, number_forward, number-within}
+use Rattle.text_tokens.proofs.AnyLaws.{any_empty, any_start, any_missing, any_inside, any_last, any_other, any_more}
 use Rattle.text_tokens.proofs.any_list.Goals as goal
-use Rattle.text_tokens.proofs.any_list.Goals.{In-Some}
+use Rattle.text_tokens.proofs.any_list.Goals.{In-Ok-number}
 
 -- what `number` read in a turn
-read : (c : In-Some) → Exact (number c.args.s.now c.loop-end.at) (Capped c.in-Some.field-0.value) c.in-Some.field-0.end
-read c = exact_of cap _ _ c.in-Some.ensures
+read : (c : In-Ok-number) → Exact (number c.args.s.now c.loop-end.at) (Capped c.in-Ok-number.field-0.value) c.in-Ok-number.field-0.end
+read c = exact_of cap _ _ c.in-Ok-number.ensures
 
--- it stands in the text
-here : (c : In-Some) → c.loop-end.at < length c.args.s.now
-here c =
-    let r = read c in
-    omega (arith, number_forward c.args.s.now c.loop-end.at r.value _ r.is, number-within c.args.s.now c.loop-end.at r.value _ r.is)
-
-pub returns-then-byte_at-eq10 : goal.returns-then-byte_at-eq10
-returns-then-byte_at-eq10 c = let a = c.args in sym (any_empty a.s.now a.from (sym c.byte_at.ensures ∙ c.if-byte_at-eq10.true))
+pub returns-in-Ok : goal.returns-in-Ok
+returns-in-Ok c = any_empty _ _ _ c.in-Ok.ensures
 
 pub loop-end-init : goal.loop-end-init
-loop-end-init c = let a = c.args in any_start a.s.now a.from (λ h. c.if-byte_at-eq10.false (c.byte_at.ensures ∙ h))
+loop-end-init c = any_start _ _ _ c.in_default.ensures
 
 pub returns-then-next-eq10 : goal.returns-then-next-eq10
 returns-then-next-eq10 c =
-    let i = (goal.at.returns-then-next-eq10 c).In-Some in
-    sym (c.loop-end.invariant ∙ any_last c.args.s.now c.loop-end.at (here i) _ _ (read i).is (sym c.byte_at-next.ensures ∙ c.if-next-eq10.true))
+    let r = read (goal.at.returns-then-next-eq10 c).In-Ok-number in
+    any_last _ _ _ _ r.is (sym c.byte_at-next.ensures ∙ c.if-next-eq10.true) ∙ sym c.loop-end.invariant
 
 pub returns-then-next-ne44 : goal.returns-then-next-ne44
 returns-then-next-ne44 c =
-    let i = (goal.at.returns-then-next-ne44 c).In-Some in
-    sym (c.loop-end.invariant ∙ any_other c.args.s.now c.loop-end.at (here i) _ _ (read i).is (λ h. c.if-next-eq10.false (c.byte_at-next.ensures ∙ h)) (λ h. c.if-next-ne44.true (c.byte_at-next.ensures ∙ h)))
+    let r = read (goal.at.returns-then-next-ne44 c).In-Ok-number in
+    any_other _ _ _ _ r.is (λ h. c.if-next-eq10.false (c.byte_at-next.ensures ∙ h)) (λ h. c.if-next-ne44.true (c.byte_at-next.ensures ∙ h)) ∙ sym c.loop-end.invariant
 
 pub overflow_add-at : goal.overflow_add-at
 overflow_add-at c =
-    let r = read (goal.at.overflow_add-at c).In-Some in
+    let r = read (goal.at.overflow_add-at c).In-Ok-number in
     let h = number-within c.args.s.now c.loop-end.at r.value _ r.is in
     search rules
 
 pub loop-end-smaller : goal.loop-end-smaller
 loop-end-smaller c =
-    let i = (goal.at.loop-end-smaller c).In-Some in
-    let r = read i in
-    omega (arith, here i, number_forward c.args.s.now c.loop-end.at r.value _ r.is)
+    let r = read (goal.at.loop-end-smaller c).In-Ok-number in
+    omega (arith, any_inside c.args.s.now c.loop-end.at r.value _ r.is, number_forward c.args.s.now c.loop-end.at r.value _ r.is)
 
 pub loop-end-preserved : goal.loop-end-preserved
 loop-end-preserved c =
-    let i = (goal.at.loop-end-preserved c).In-Some in
-    c.loop-end.invariant ∙ any_more c.args.s.now c.loop-end.at (here i) _ _ (read i).is (λ h. c.if-next-eq10.false (c.byte_at-next.ensures ∙ h)) (sym c.byte_at-next.ensures ∙ c.if-next-ne44.false)
+    let r = read (goal.at.loop-end-preserved c).In-Ok-number in
+    c.loop-end.invariant ∙ any_more _ _ _ _ r.is (λ h. c.if-next-eq10.false (c.byte_at-next.ensures ∙ h)) (sym c.byte_at-next.ensures ∙ c.if-next-ne44.false)
 
 pub returns : goal.returns
-returns c =
-    sym (c.loop-end.invariant ∙ any_missing c.args.s.now c.loop-end.at (missing_if cap _ _ c.number.ensures c.in_default.not-Some))
+returns c = any_missing _ _ _ (missing_of cap _ _ c.in_default-number.ensures) ∙ sym c.loop-end.invariant

@@ -48,24 +48,31 @@ fn answers() {
     size!("fp_read_model_answer", ModelRead);
     field!("fp_read_model_answer.number", ModelRead, answer.number, usize);
     field!("fp_read_model_answer.beside", ModelRead, answer.beside, usize);
+    field!("fp_read_model_answer.column", ModelRead, answer.column, usize);
     field!("fp_read_model_answer.model", ModelRead, model, HeldModel);
     field!("fp_read_model_answer.start", ModelRead, start, HeldMarking);
     size!("fp_read_marking_answer", MarkingRead);
+    field!("fp_read_marking_answer.column", MarkingRead, answer.column, usize);
     field!("fp_read_marking_answer.marking", MarkingRead, marking, HeldMarking);
     size!("fp_written", Written);
+    field!("fp_written.column", Written, column, usize);
     field!("fp_written.bytes", Written, bytes, usize);
     size!("fp_weighed", Weighed);
+    field!("fp_weighed.column", Weighed, column, usize);
     field!("fp_weighed.above", Weighed, above, u64);
     field!("fp_weighed.below", Weighed, below, u64);
     field!("fp_weighed.cover", Weighed, cover, usize);
     size!("fp_stepped", StepDone);
+    field!("fp_stepped.column", StepDone, step.column, usize);
     field!("fp_stepped.used", StepDone, step.used, usize);
     field!("fp_stepped.marking", StepDone, marking, HeldMarking);
     size!("fp_ran", RunDone);
+    field!("fp_ran.column", RunDone, run.column, usize);
     field!("fp_ran.fired", RunDone, run.fired, usize);
     field!("fp_ran.at", RunDone, run.at, usize);
     field!("fp_ran.marking", RunDone, marking, HeldMarking);
     size!("fp_spread", Spread);
+    field!("fp_spread.column", Spread, column, usize);
     field!("fp_spread.ways", Spread, ways, u64);
 }
 
@@ -78,7 +85,7 @@ fn model(path: &str) {
     let text = std::fs::read(path).unwrap_or_default();
     let read = read_model(&text);
     let m = &read.model;
-    println!("read {} {}", read.answer.number, read.answer.beside);
+    println!("read {} {} {}", read.answer.number, read.answer.beside, read.answer.column);
     println!("model {} {} {} {}", m.nets, m.places, m.moves, m.listed);
     println!("types {} pre {} post {}", mixed(&m.types), mixed(&m.pre), mixed(&m.post));
     for net in &m.objects {

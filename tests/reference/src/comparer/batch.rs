@@ -3,6 +3,7 @@
 use crate::generate::damage::{damage, noise};
 use crate::generate::held_damage::{damage_marking, damage_model};
 use crate::generate::limits;
+use crate::generate::line_damage::{damage_line, damaged_everywhere};
 use crate::generate::plant::{plant, Kind, Plant};
 use crate::generate::rng::Rng;
 use crate::generate::steps::{firing_step, overdo, poor_step, spoil, token_of, StepPlan, Token};
@@ -52,6 +53,7 @@ impl Batch<'_, '_> {
         self.runs()?;
         self.listings()?;
         self.spreads()?;
+        self.lines()?;
         self.whole_lists()?;
         if number.is_multiple_of(4) {
             self.long_texts()?;
@@ -293,10 +295,12 @@ impl Batch<'_, '_> {
         Ok(())
     }
 
-    /// A trace of many steps, all of which fire.
+    /// A trace of many steps, all of which fire, and a step with a line of more than 65,536 bytes.
     fn long_run(&mut self) -> Compared {
         let trace = trace_text(&self.some_steps(400, 0));
         self.comparer.run(&self.model, &self.start, &trace)?;
+        let long_line = limits::padded(b"fire=1", (1 << 16) + self.rng.below(9), b'1');
+        self.comparer.step(&self.model, &mut self.start.clone(), &long_line)?;
         Ok(())
     }
 
@@ -319,6 +323,37 @@ impl Batch<'_, '_> {
             self.comparer.listing(files, room)?;
         }
         Ok(())
+    }
+
+    /// A text of each kind with one line damaged, several times.
+    fn lines(&mut self) -> Compared {
+        let start = self.start.clone();
+        let rows = start.rows[..start.len].to_vec();
+        let marking = marking_text(&self.plant.model, &rows);
+        let step = firing_step(&mut self.rng, &self.plant.model, &rows);
+        let step = step_text(&step.unwrap_or_else(|| any_step(&mut self.rng, &self.plant.model, &rows)));
+        let [model, weights] = [self.model_text.clone(), self.weights_text.clone()];
+        for _ in 0..3 {
+            let text = self.damaged_line(&model);
+            self.comparer.read_model(&text)?;
+            let text = self.damaged_line(&marking);
+            self.comparer.read_marking(&self.model, &text)?;
+            let text = self.damaged_line(&weights);
+            self.comparer.check_weights(&self.model, &start, &text)?;
+            let text = self.damaged_line(&step);
+            self.comparer.step(&self.model, &mut start.clone(), &text)?;
+            let before = if self.rng.percent(50) { vec![step.clone()] } else { Vec::new() };
+            let trace = [&trace_text(&before)[..], &text].concat();
+            let trace = if self.rng.percent(50) { trace } else { self.damaged_line(&trace_text(&before)) };
+            self.comparer.run(&self.model, &start, &trace)?;
+        }
+        Ok(())
+    }
+
+    fn damaged_line(&mut self, text: &[u8]) -> Vec<u8> {
+        let mut text = text.to_vec();
+        damage_line(&mut self.rng, &mut text);
+        text
     }
 
     fn spreads(&mut self) -> Compared {
@@ -405,7 +440,7 @@ fn advance(rows: &mut Vec<Row>, plan: &StepPlan) {
     rows.sort();
 }
 
-/// Calls that need no made-up plant: every spread, and accepted texts of exact lengths.
+/// Calls that need no made-up plant: every spread, accepted texts of exact lengths, and damage at every byte.
 pub fn fixed(comparer: &mut Comparer) -> Compared {
     for tokens in 0..=33 {
         for racks in 0..=18 {
@@ -429,6 +464,49 @@ pub fn fixed(comparer: &mut Comparer) -> Compared {
     }
     for length in [SLICE, SLICE + 1] {
         comparer.run(&model, &start, &limits::trace_of_length(length))?;
+    }
+    long_lines(comparer, &model, &start)?;
+    every_byte(comparer)
+}
+
+/// Lines as long as a slice, unended, ended, and at fault in the last byte.
+fn long_lines(comparer: &mut Comparer, model: &HeldModel, start: &HeldMarking) -> Compared {
+    for behind in [&b""[..], b"\n", b",", b"x\n"] {
+        let line = |key: &str| {
+            let mut line = limits::padded(key.as_bytes(), SLICE - behind.len(), b'1');
+            line.extend_from_slice(behind);
+            line
+        };
+        comparer.step(model, &mut start.clone(), &line("fire="))?;
+        comparer.run(model, start, &line("run=1\nfire="))?;
+        comparer.read_marking(model, &line("start="))?;
+        comparer.check_weights(model, start, &line("inv=1\nouter=-"))?;
+        comparer.read_model(&line("eos=1\nnets="))?;
+    }
+    Ok(())
+}
+
+/// The texts of a small plant, damaged at every byte.
+fn every_byte(comparer: &mut Comparer) -> Compared {
+    let Some((model, start)) = comparer.read_model(limits::EVERY_LINE)? else {
+        return Ok(());
+    };
+    for text in damaged_everywhere(limits::EVERY_LINE) {
+        comparer.read_model(&text)?;
+    }
+    for text in damaged_everywhere(limits::EVERY_WEIGHT) {
+        comparer.check_weights(&model, &start, &text)?;
+    }
+    let first = limits::EVERY_LINE.windows(6).position(|bytes| bytes == b"start=").unwrap_or_default();
+    for text in damaged_everywhere(&limits::EVERY_LINE[first..]) {
+        comparer.read_marking(&model, &text)?;
+    }
+    for text in damaged_everywhere(limits::EVERY_STEP) {
+        comparer.step(&model, &mut start.clone(), &text)?;
+        comparer.run(&model, &start, &[b"run=1\n", &text[..]].concat())?;
+    }
+    for text in damaged_everywhere(b"run=1\n") {
+        comparer.run(&model, &start, &text)?;
     }
     Ok(())
 }

@@ -46,7 +46,7 @@ fn append(rng: &mut Rng, text: &mut Vec<u8>) {
 }
 
 /// The lines of a text, each with its LF, the last one perhaps without.
-fn lines(text: &[u8]) -> Vec<Range<usize>> {
+pub fn lines(text: &[u8]) -> Vec<Range<usize>> {
     let mut first = 0;
     let mut lines = Vec::new();
     for line in text.split_inclusive(|&byte| byte == b'\n') {

@@ -1,4 +1,4 @@
-//! Texts of exact lengths, accepted ones among them.
+//! Texts of exact lengths, accepted ones among them, and those of a plant that has every kind of line.
 
 use crate::marking::Row;
 use crate::model::{Mode, Model, ObjectNet, Transition, INNER, NETS, TOKENS, TRANSITIONS};
@@ -57,3 +57,15 @@ pub fn trace_of_length(length: usize) -> Vec<u8> {
     steps.resize(shorter + longer, long);
     trace_text(&steps)
 }
+
+/// A plant with every kind of line, its places of one digit and of two, and lists of length 0.
+pub const EVERY_LINE: &[u8] =
+    b"eos=1\nnets=2\nplaces=12\ntype=1,0,2,1,1,1,1,1,1,1,1,1\nmoves=1\npre=1,1,0,0,0,0,0,0,0,0,0,0\n\
+    post=0,1,0,0,0,0,0,0,0,0,0,1\ninner=2\nsteps=1\npre=1,0\npost=0,10\ninner=1\nsteps=0\nevents=2\n\
+    event=1\nsync=1\nsync=\nidle=12\nsync=255\nsync=\nstart=3\ntoken=1:10,0\ntoken=2:\ntoken=12:0,65535\n";
+
+/// Its weights.
+pub const EVERY_WEIGHT: &[u8] = b"inv=1\nouter=-10,0,1,1,1,1,1,1,1,1,1,1\ninner=-1000,1\ninner=0\n";
+
+/// A step of it.
+pub const EVERY_STEP: &[u8] = b"fire=1\ntake=2\ntoken=2:\ntoken=1:10,0\ngive=2\ntoken=12:9,10\ntoken=2:\n";

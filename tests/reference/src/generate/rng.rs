@@ -46,6 +46,11 @@ impl Rng {
         (!items.is_empty()).then(|| *self.pick(items))
     }
 
+    /// One of these items, taken out of them, if there is one.
+    pub fn pick_some_of<T>(&mut self, mut items: Vec<T>) -> Option<T> {
+        (!items.is_empty()).then(|| items.swap_remove(self.below(items.len())))
+    }
+
     pub fn shuffle<T>(&mut self, items: &mut [T]) {
         for at in (1..items.len()).rev() {
             items.swap(at, self.below(at + 1));

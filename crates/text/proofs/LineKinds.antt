@@ -1,0 +1,88 @@
+-- The kinds of line, each as a part: what it finds exactly, and how far its right lines go where it finds nothing.
+use Prim.Native.Nat.{ℕ}
+use mathlib.Core.Path.{◌≡◌, refl, sym, ◌∙◌}
+use mathlib.Core.List.{[], ◌∷◌, ◌++◌, append_assoc}
+use mathlib.Core.Bool.{Bool, true, false, false≢true}
+use lib.Dec.{eqb, lit<}
+use lib.ListN.{length, get_or}
+use Rattle.text.specs.Bytes.{Text, lf, colon}
+use Rattle.text.specs.Number.{Read, literal, number, item}
+use Rattle.text.specs.Lists.{list_end}
+use Rattle.text.specs.Lines.{in_range, behind}
+use Rattle.text.specs.Printed.{decimal, end_text, number_text, place_text, token_text}
+use Rattle.text.specs.Token.{Token}
+use Rattle.text.specs.TokenLine.{counts_at, token_form, sized, token_formed}
+use Rattle.text.specs.Keyed.{by_key, keyed_text, keyed_form}
+use Rattle.text.specs.declared.Keyed.{Keyed}
+use Rattle.text.specs.declared.Keyed.TheVariants.{Former, Latter}
+use Rattle.text.proofs.Standing.{Stands, first_byte}
+use Rattle.text.proofs.Spelled.{Spelled, number_spelled}
+use Rattle.text.proofs.Halts.{Halts, number_halts}
+use Rattle.text.proofs.Parts.{Part, literal_part, row_part, made_part, either_part, same_part}
+use Rattle.text.proofs.LineParts.{item_part, list_part, behind_part}
+use Rattle.text.proofs.AnyParts.{any_part}
+
+-- the line of a number
+pub number_line : (key : Text) → Part (behind key (item number lf)) (number_text key) (λ n. true)
+unfolding number_text
+number_line key = behind_part key (item_part number decimal number_spelled number_halts lf refl (lit< tt))
+
+-- the line of n values of a kind
+pub row_line : {A : Type 0} (value : Text → ℕ → Read A) (text : A → Text) → Spelled value text → Halts value text → (key : Text) (n : ℕ)
+    → Part (behind key (list_end value n)) (λ l. key ++ end_text text l) (λ l. eqb (length l) n)
+row_line value text one halts key n = behind_part key (list_part value text one halts n)
+
+-- the first line of a file
+pub head_line : (line : Text) → Part (literal line) (λ _. line) (λ _. true)
+head_line line = literal_part line
+
+-- ---- the line of a net-token
+
+counts_part : (b : Bool) (n : ℕ) → Part (counts_at b n) (end_text decimal) (sized b n)
+unfolding counts_at sized
+counts_part true n = list_part number decimal number_spelled number_halts n
+counts_part false n = any_part number decimal number_spelled number_halts
+
+-- it is its key, its place and the colon, then its counts
+pub token_split : (key : Text) (t : Token) → token_text key t ≡ place_text key t.place ++ end_text decimal t.counts
+unfolding token_text
+token_split key t = sym (append_assoc key (decimal t.place ++ (colon ∷ [])) (end_text decimal t.counts))
+
+pub token_line : (key : Text) (places : ℕ) (size : ℕ → ℕ) → Part (token_form key places size) (token_text key) (token_formed places size)
+unfolding token_form
+token_line key places size =
+    row_part (λ p counts. record { place = p; counts = counts })
+    (behind_part key (item_part number decimal number_spelled number_halts colon refl (lit< tt)))
+    (record { join = λ p counts g h. (token_split key (record { place = p; counts = counts }), h); split = λ t h. (t.place, t.counts, refl, refl, h) })
+    (λ p. counts_part (in_range 1 places p) (size p))
+
+-- ---- the line of one of two keys that begin with unlike bytes
+
+abbrev is_former : Keyed → Bool
+is_former = by_key (λ n. true) (λ n. false)
+
+abbrev is_latter : Keyed → Bool
+is_latter = by_key (λ n. false) (λ n. true)
+
+-- the first byte of such a line
+key_byte : (c : ℕ) (key : Text) (n : ℕ) (s : Text) (at : ℕ) → Stands s at (number_text (c ∷ key) n) → get_or s at 0 ≡ c
+unfolding number_text
+key_byte c key n s at st = first_byte s at _ st
+
+module _ (c d : ℕ) (k l : Text) (unlike : c ≡ d → ⊥) where
+  abbrev text : Keyed → Text
+  text = keyed_text (c ∷ k) (d ∷ l)
+
+  apart : (a b : Keyed) → is_former a ≡ true → is_latter b ≡ true → (s : Text) (at : ℕ) → Stands s at (text a) → Stands s at (text b) → ⊥
+  apart (Former m) (Latter n) p q s at st su = unlike (sym (key_byte c k m s at st) ∙ key_byte d l n s at su)
+  apart (Former m) (Former n) p q s at st su = false≢true q
+  apart (Latter m) b p q s at st su = false≢true p
+
+  pub keyed_line : Part (keyed_form (c ∷ k) (d ∷ l)) text (λ a. true)
+  unfolding keyed_form
+  keyed_line =
+      let former = made_part Former (number_line (c ∷ k)) text is_former (λ n h. (refl, refl))
+      (elim [ Former n ↦ λ h. (n, refl, refl) | Latter n ↦ λ h. absurd (false≢true h) ]) in
+      let latter = made_part Latter (number_line (d ∷ l)) text is_latter (λ n h. (refl, refl))
+      (elim [ Former n ↦ λ h. absurd (false≢true h) | Latter n ↦ λ h. (n, refl, refl) ]) in
+      same_part (either_part former latter apart) text (λ a. true) (λ a h. (refl, refl)) (elim [ Former n ↦ λ h. refl | Latter n ↦ λ h. refl ])
