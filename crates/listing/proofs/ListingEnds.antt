@@ -13,7 +13,7 @@ use Rattle.text.specs.declared.Cause.TheVariants.{Syntax, Range, Idling}
 use Rattle.eos.specs.Causes.{Refusal}
 use Rattle.model.specs.declared.Model.{Model}
 use Rattle.marking.specs.declared.Marking.{Marking}
-use Rattle.reader.specs.Answers.{pair, unread_triple, read_triple, model_given}
+use Rattle.reader.specs.Answers.{triple, unread_triple, read_triple, model_given}
 use Rattle.reader.specs.declared.ReadRefusal.{ReadRefusal}
 use Rattle.reader.specs.declared.ReadRefusal.TheVariants.{TooLong, NotHeld, Faulty}
 use Rattle.reader.specs.declared.ModelReading.{ModelReading}
@@ -23,24 +23,24 @@ use Rattle.keeper.specs.declared.WeightRefusal.TheVariants.{Unread, Weightless, 
 use Rattle.keeper.specs.declared.WeightCheck.{WeightCheck}
 use Rattle.listing.specs.Listing.{triple_text, sum_text, cover_text, run_text, model_file, weights_file, trace_file, with_weights, after_model, with_model, listing_text}
 
--- "0,0 if accepted"
+-- "0,0 if accepted", and 02's column
 abbrev pub accepted : Refusal → Bool
-accepted r = eqb r.number 0 && eqb r.beside 0
+accepted r = eqb r.number 0 && (eqb r.beside 0 && eqb r.column 0)
 
--- a pair, and behind it the rest where it is 0,0
+-- a triple, and behind it the rest where it is 0,0,0
 abbrev pub triple_then : Text → Refusal → Text → Text
 triple_then key r rest = triple_text key r ++ elim (accepted r) [ true ↦ rest | false ↦ [] ]
 
--- no refusal has 0,0
-cause_refused : (c : Cause) (n : ℕ) → accepted (pair (cause_number c) n) ≡ false
-cause_refused Syntax n = refl
-cause_refused Range n = refl
-cause_refused Idling n = refl
+-- no refusal has 0,0,0
+cause_refused : (c : Cause) (line column : ℕ) → accepted (triple (cause_number c) line column) ≡ false
+cause_refused Syntax line column = refl
+cause_refused Range line column = refl
+cause_refused Idling line column = refl
 
 unread_refused : (e : ReadRefusal) → accepted (unread_triple e) ≡ false
 unread_refused TooLong = refl
 unread_refused NotHeld = refl
-unread_refused (Faulty p) = cause_refused p.cause p.line
+unread_refused (Faulty p) = cause_refused p.cause p.line p.column
 
 unpassed_refused : (e : WeightRefusal) → accepted (unpassed_triple e) ≡ false
 unpassed_refused (Unread e) = unread_refused e
