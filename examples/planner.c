@@ -28,16 +28,17 @@ static const char *words(size_t number) {
     case FP_TOO_LONG: return "the file has more than 65,536 bytes";
     case FP_SYNTAX: return "key, syntax, list length, or a line that is missing, unended or too many";
     case FP_RANGE: return "a number is out of range";
-    case FP_IDLING: return "idling where there is no net, with another net, or with no transition";
+    case FP_IDLING: return "idling where there is no net, or an event without a move that has another net or no transition";
     case FP_ALL_ZERO: return "all weights are 0";
     case FP_UNBALANCED: return "the weights do not balance the event";
-    case FP_OUTER: return "the racks taken or given do not fit the move";
+    case FP_OUTER: return "the racks taken or given do not fit the event";
     case FP_INNER_TAKEN: return "the racks taken hold too little for the event";
     case FP_INNER_GIVEN: return "the racks given do not hold what the event leaves";
     case FP_NOT_IN_MARKING: return "a rack taken is not there";
     case FP_NO_ROOM: return "there would be more than 256 racks";
     case FP_BUFFER: return "the buffer is too small";
     case FP_NOT_HELD: return "the plant or the racks held are not as the engine left them";
+    case FP_NOT_REPLACED: return "some place of the net has no event that idles like it";
     default: return "refused for a cause that this program does not know";
     }
 }
@@ -48,7 +49,7 @@ static bool accepted(const char *name, size_t number, size_t beside, size_t colu
     if (number == FP_ACCEPTED)
         return true;
     fprintf(stderr, "planner: %s: %s", name, words(number));
-    if (number == FP_UNBALANCED)
+    if (number == FP_UNBALANCED || number == FP_NOT_REPLACED)
         fprintf(stderr, ", event %zu\n", beside);
     else if (number == FP_INNER_TAKEN || number == FP_INNER_GIVEN)
         fprintf(stderr, ", net %zu\n", beside);

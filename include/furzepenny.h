@@ -37,9 +37,9 @@
 extern "C" {
 #endif
 
-/* The version of this header, here 4.0.0: 10,000 times its first number, 100 times its second, and its third. The first is raised when what
+/* The version of this header, here 5.0.0: 10,000 times its first number, 100 times its second, and its third. The first is raised when what
  * is here changes, so that a caller has to be compiled anew; the second when something is added; the third for all else. */
-#define FP_VERSION 40000
+#define FP_VERSION 50000
 
 /* ==== What is answered: a number, and what stands beside it. The first cause in the stated order is answered: FP_TOO_LONG, FP_NOT_HELD,
  * then those of the lines in turn, then the others in the order of their numbers. Lines are counted from 1, those of a step from its own
@@ -52,16 +52,17 @@ extern "C" {
 #define FP_TOO_LONG 1        /* text over FP_TEXT bytes; 0 */
 #define FP_SYNTAX 2          /* key, syntax, list length, missing or unended line, bytes after the last line; the line */
 #define FP_RANGE 3           /* number out of range; the line (of fp_ways: 1 the tokens, 2 the racks) */
-#define FP_IDLING 5          /* idling at a place without a net, with another net, or with no transition; the line */
+#define FP_IDLING 5          /* idling at a place without a net, or an event without a move with another net or with no transition; the line */
 #define FP_ALL_ZERO 6        /* all weights 0; the last line */
 #define FP_UNBALANCED 7      /* an event's effect is not 0; the least such event */
-#define FP_OUTER 8           /* racks taken or given do not fit the move; the `take` or `give` line */
+#define FP_OUTER 8           /* racks taken or given do not fit the event; the `take` or `give` line */
 #define FP_INNER_TAKEN 9     /* the racks taken hold too little for the event; the least such net */
 #define FP_INNER_GIVEN 10    /* the racks given do not hold what the event leaves; the least such net */
 #define FP_NOT_IN_MARKING 11 /* racks taken are not in the marking; the first token line of which there are too few */
 #define FP_NO_ROOM 12        /* more than FP_TOKENS racks after the step; the `give` line */
 #define FP_BUFFER 13         /* lent buffer too small; the bytes needed */
 #define FP_NOT_HELD 14       /* held model or marking that no accepted reading gives; 0 */
+#define FP_NOT_REPLACED 21   /* idling events that cannot be replaced by one; the least such event */
 
 /* ==== Limits. */
 #define FP_NETS 8              /* object nets of a model */
@@ -93,18 +94,23 @@ typedef struct fp_object_net {
 
 #define FP_UNUSED 0 /* kinds of an event: unused room, */
 #define FP_MOVE 1   /* a move, */
-#define FP_IDLE 2   /* and idling at a place */
+#define FP_IDLE 2   /* idling at a place, */
+#define FP_ALONE 3  /* and idling on any one rack of a net */
 
-/* An event; index is the move's or the place's number, from 1. The count of transition t of net n stands at n * FP_TRANSITIONS + t. */
+/* An event; index is the move's, the place's or the net's number, from 1. The count of transition t of net n stands at n * FP_TRANSITIONS + t. */
 typedef struct fp_event {
     uint8_t kind;
     uint8_t index;
     uint8_t sync[FP_NETS * FP_TRANSITIONS];
 } fp_event;
 
-/* A held model. types has the net of each place, from 1, or 0. The arcs of move k at place p stand at k * FP_PLACES + p; listed is the
- * number of events. Unused room is 0. */
+#define FP_WITH_IDLE 1  /* headers of a model: with it events idle at places, */
+#define FP_WITH_ALONE 2 /* and with it on any one rack of a net */
+
+/* A held model. header is the number of its text's first line, FP_WITH_IDLE or FP_WITH_ALONE. types has the net of each place, from 1, or 0.
+ * The arcs of move k at place p stand at k * FP_PLACES + p; listed is the number of events. Unused room is 0. */
 typedef struct fp_model {
+    size_t header;
     size_t nets;
     size_t places;
     size_t moves;
@@ -147,10 +153,10 @@ size_t fp_version(void);
 
 /* ==== Reader. */
 
-/* Reads a model and its start. The text: `eos=1`; `nets`, `places`, `type`, `moves`; for each move `pre`, `post`; for each net `inner`,
- * `steps`, and for each transition `pre`, `post`; `events`; for each `event` or `idle`, and for each net `sync`; `start`, and so many `token`
- * lines. Refused by 1, 2, 3 and 5; the model is then the empty one, which every other call refuses, and the start has no net-token. The form
- * in _at leaves both as they were. */
+/* Reads a model and its start. The text: `eos=1` or `eos=2`; `nets`, `places`, `type`, `moves`; for each move `pre`, `post`; for each net
+ * `inner`, `steps`, and for each transition `pre`, `post`; `events`; for each `event`, or with `eos=1` `idle` and with `eos=2` `alone`, and
+ * for each net `sync`; `start`, and so many `token` lines. Refused by 1, 2, 3 and 5; the model is then the empty one, which every other call
+ * refuses, and the start has no net-token. The form in _at leaves both as they were. */
 #define FP_STACK_READ_MODEL (528 * 1024)
 typedef struct fp_read_model_answer {
     size_t number;
@@ -215,6 +221,33 @@ fp_written fp_write_marking(fp_model model, fp_marking marking, uint8_t *out, si
 
 static inline fp_written fp_write_marking_at(const fp_model *model, const fp_marking *marking, uint8_t *out, size_t room) {
     return fp_write_marking(*model, *marking, out, room);
+}
+
+/* Converts a held model: idling events that are like, at places of one net with the same counts, are replaced by one event on any one rack of
+ * the net, where the first of them stood, and only if every place of the net has one; the others move up. numbers has the new number of each
+ * event, from 1, and 0 past the last. A model with FP_WITH_ALONE comes back as it is. A marking held for the one is held for the other.
+ * Refused by 14 and 21; the model is then the empty one, and no event has a number. The form in _at leaves both as they were; both models may
+ * be one. */
+#define FP_STACK_CONVERT (400 * 1024)
+typedef struct fp_converted {
+    size_t number;
+    size_t beside;
+    size_t column;
+    fp_model model;
+    uint8_t numbers[FP_EVENTS];
+} fp_converted;
+
+fp_converted fp_convert(fp_model model);
+
+static inline fp_read_at fp_convert_at(const fp_model *model, fp_model *converted, uint8_t numbers[FP_EVENTS]) {
+    fp_converted r = fp_convert(*model);
+    fp_read_at a = {r.number, r.beside, r.column};
+    if (r.number == FP_ACCEPTED) {
+        *converted = r.model;
+        for (size_t k = 0; k < FP_EVENTS; k++)
+            numbers[k] = r.numbers[k];
+    }
+    return a;
 }
 
 /* ==== Runner. */

@@ -41,4 +41,12 @@ make_folders() {
     printf 'run=1\n%s%s' \
         $'fire=1\ntake=1\ntoken=1:1,1\ngive=3\ntoken=2:\ntoken=2:\ntoken=2:\n' \
         $'fire=1\ntake=1\ntoken=1:1,2\ngive=3\ntoken=2:\ntoken=2:\ntoken=2:\n' >"$folders/scrapped/trace"
+    folder idled model weights trace
+    sed -i 's/^eos=1$/eos=2/' "$folders/idled/model"
+    folder anywhere model weights
+    sed -i 's/^eos=1$/eos=2/; s/^idle=2$/alone=1/' "$folders/anywhere/model"
+    printf 'run=1\nfire=2\ntake=1\ntoken=1:1,0\ngive=1\ntoken=1:0,1\n' >"$folders/anywhere/trace"
+    folder elsewhere weights
+    cp "$folders/anywhere/model" "$folders/elsewhere/"
+    printf 'run=1\nfire=2\ntake=1\ntoken=1:1,0\ngive=1\ntoken=2:0,1\n' >"$folders/elsewhere/trace"
 }

@@ -54,6 +54,10 @@ fn step(engine: &dyn Engine, plant: &Plant, at: &Read) {
     black_box(&marking);
 }
 
+fn convert(engine: &dyn Engine, at: &Read) {
+    black_box(engine.convert(black_box(&at.model)));
+}
+
 fn write_marking(engine: &dyn Engine, at: &Read, out: &mut [u8]) {
     black_box(engine.write_marking(&at.model, &at.start, out));
     black_box(&out);
@@ -82,6 +86,7 @@ fn calls(plant: &Plant) -> Vec<Row> {
     let mut rows = vec![
         row("read_model", plant.name, 10, |e| read_model(e, plant)),
         row("check_weights", plant.name, 10, |e| check_weights(e, plant, &at)),
+        row("convert", plant.name, 10, |e| convert(e, &at)),
         row("write_marking", plant.name, 10, |e| {
             write_marking(e, &at, &mut out.borrow_mut())
         }),

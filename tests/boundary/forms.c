@@ -1,5 +1,6 @@
 /* The forms in _at give what their calls give, on a folder's plant and where the call refuses; a refusal leaves what the pointers say, and has
- * a column where its number has one. And the longest text of a marking has as many bytes as the header says, and its listing no more. */
+ * a column where its number has one. Events that idle are replaced, or it is said which cannot be. And the longest text of a marking has as
+ * many bytes as the header says, and its listing no more. */
 #include "files.h"
 
 #include <string.h>
@@ -27,6 +28,7 @@ static fp_read_model_answer read_model;
 static fp_read_marking_answer read_marking;
 static fp_stepped stepped;
 static fp_ran ran;
+static fp_converted converted;
 
 /* A model text, right or refused: what stood behind the pointers is then left. */
 static void models(const uint8_t *text, size_t len) {
@@ -39,6 +41,58 @@ static void models(const uint8_t *text, size_t len) {
     bool read = a.number == FP_ACCEPTED;
     holds(SAME(model_at, *(read ? &read_model.model : &model)), "fp_read_model_at: model");
     holds(SAME(marking_at, *(read ? &read_model.start : &marking)), "fp_read_model_at: start");
+}
+
+/* The model in hand converted, or refused: what stood behind the pointers is then left. */
+static void conversions(size_t number, size_t beside) {
+    uint8_t numbers[FP_EVENTS], none[FP_EVENTS];
+    memset(numbers, 46, sizeof numbers);
+    memset(none, 46, sizeof none);
+    converted = fp_convert(model);
+    model_at = model;
+    fp_read_at a = fp_convert_at(&model_at, &model_at, numbers);
+    holds(converted.number == number && converted.beside == beside, "fp_convert: answer");
+    holds(a.number == converted.number && a.beside == converted.beside && a.column == converted.column, "fp_convert_at: answer");
+    column(a.number, a.column);
+    bool done = a.number == FP_ACCEPTED;
+    holds(SAME(model_at, *(done ? &converted.model : &model)), "fp_convert_at: model");
+    holds(memcmp(numbers, done ? converted.numbers : none, sizeof numbers) == 0, "fp_convert_at: numbers");
+}
+
+/* A model with `alone` comes back as it is, each event with its own number. */
+static void unchanged(void) {
+    conversions(FP_ACCEPTED, 0);
+    holds(model.header == FP_WITH_ALONE && SAME(converted.model, model), "fp_convert: a model with alone");
+    for (size_t k = 0; k < FP_EVENTS; k++)
+        holds(converted.numbers[k] == (k < model.listed ? k + 1 : 0), "fp_convert: a number of a model with alone");
+}
+
+/* Two places of one net, and events at them. */
+static void read_events(const char *events) {
+    int len = sprintf((char *)model_text,
+                      "eos=1\nnets=1\nplaces=2\ntype=1,1\nmoves=1\npre=1,0\npost=0,1\ninner=1\nsteps=1\npre=1\npost=1\n%sstart=0\n",
+                      events);
+    holds(fp_read_model_at(model_text, (size_t)len, &model, &marking).number == FP_ACCEPTED, "a model with events that idle");
+}
+
+/* Idling at both places is replaced where the first such event stood, and the moves go up; idling at one of them is refused. */
+static void replaced(void) {
+    static const uint8_t numbers[FP_EVENTS] = {1, 2, 3, 2, 4, 3, 2};
+    static const fp_event events[FP_EVENTS] = {
+        {FP_MOVE, 1, {0}}, {FP_ALONE, 1, {2}}, {FP_ALONE, 1, {1}}, {FP_MOVE, 1, {1}}};
+    read_events("events=7\nevent=1\nsync=0\nidle=2\nsync=2\nidle=1\nsync=1\nidle=1\nsync=2\nevent=1\nsync=1\nidle=2\nsync=1\n"
+                "idle=2\nsync=2\n");
+    conversions(FP_ACCEPTED, 0);
+    holds(memcmp(converted.numbers, numbers, sizeof numbers) == 0, "fp_convert: numbers");
+    model.header = FP_WITH_ALONE;
+    model.listed = 4;
+    memcpy(model.events, events, sizeof events);
+    holds(SAME(converted.model, model), "fp_convert: events");
+    unchanged();
+    read_events("events=4\nevent=1\nsync=0\nidle=1\nsync=1\nidle=2\nsync=2\nidle=1\nsync=2\n");
+    conversions(FP_NOT_REPLACED, 2);
+    model.places = 0;
+    conversions(FP_NOT_HELD, 0);
 }
 
 static void markings(const uint8_t *text, size_t len) {
@@ -128,6 +182,7 @@ int main(int argc, char **argv) {
     models(model_text, model_len);
     models(model_text, model_len - 1);
     models(NULL, 0);
+    unchanged();
     held(sizeof out);
     held(1);
     size_t written = fp_write_marking(model, marking, out, sizeof out).bytes;
@@ -147,5 +202,6 @@ int main(int argc, char **argv) {
     held(sizeof out);
     markings(out_at, written);
     longest();
+    replaced();
     return faults != 0;
 }

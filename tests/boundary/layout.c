@@ -11,7 +11,7 @@
 #define ANSWER (3 * sizeof(size_t))
 _Static_assert(sizeof(fp_object_net) == PAIR + OF(fp_object_net, pre) + OF(fp_object_net, post), "fp_object_net");
 _Static_assert(sizeof(fp_event) == 2 + OF(fp_event, sync), "fp_event");
-_Static_assert(sizeof(fp_model) == 2 * PAIR + OF(fp_model, types) + OF(fp_model, pre) + OF(fp_model, post)
+_Static_assert(sizeof(fp_model) == 5 * sizeof(size_t) + OF(fp_model, types) + OF(fp_model, pre) + OF(fp_model, post)
                                        + OF(fp_model, objects) + OF(fp_model, events), "fp_model");
 _Static_assert(sizeof(fp_marking) == sizeof(size_t) + OF(fp_marking, rows), "fp_marking");
 _Static_assert(sizeof(fp_read_model_answer) == ANSWER + sizeof(fp_model) + sizeof(fp_marking), "fp_read_model_answer");
@@ -21,6 +21,7 @@ _Static_assert(sizeof(fp_weighed) == ANSWER + 2 * sizeof(uint64_t) + sizeof(size
 _Static_assert(sizeof(fp_stepped) == ANSWER + sizeof(size_t) + sizeof(fp_marking), "fp_stepped");
 _Static_assert(sizeof(fp_ran) == ANSWER + PAIR + sizeof(fp_marking), "fp_ran");
 _Static_assert(sizeof(fp_spread) == ANSWER + sizeof(uint64_t), "fp_spread");
+_Static_assert(sizeof(fp_converted) == ANSWER + sizeof(fp_model) + OF(fp_converted, numbers), "fp_converted");
 
 static void structs(void) {
     SIZE(fp_object_net);
@@ -33,6 +34,7 @@ static void structs(void) {
     FIELD(fp_event, index);
     FIELD(fp_event, sync);
     SIZE(fp_model);
+    FIELD(fp_model, header);
     FIELD(fp_model, nets);
     FIELD(fp_model, places);
     FIELD(fp_model, moves);
@@ -77,6 +79,12 @@ static void answers(void) {
     SIZE(fp_spread);
     FIELD(fp_spread, column);
     FIELD(fp_spread, ways);
+    SIZE(fp_converted);
+    FIELD(fp_converted, number);
+    FIELD(fp_converted, beside);
+    FIELD(fp_converted, column);
+    FIELD(fp_converted, model);
+    FIELD(fp_converted, numbers);
 }
 
 /* Each part of the model by a sum in which every place counts differently. */
@@ -93,7 +101,7 @@ static void model(const char *folder) {
     r = fp_read_model(text, load(folder, "model", text));
     const fp_model *m = &r.model;
     printf("read %zu %zu %zu\n", r.number, r.beside, r.column);
-    printf("model %zu %zu %zu %zu\n", m->nets, m->places, m->moves, m->listed);
+    printf("model %zu %zu %zu %zu %zu\n", m->header, m->nets, m->places, m->moves, m->listed);
     printf("types %zu pre %zu post %zu\n", mixed(m->types, 32), mixed(m->pre, 1024), mixed(m->post, 1024));
     for (size_t n = 0; n < 8; n++)
         printf("net %zu %zu %zu %zu\n", m->objects[n].places, m->objects[n].transitions, mixed(m->objects[n].pre, 1024),

@@ -12,12 +12,13 @@
 
 static uint8_t model_text[FP_FILE], weights_text[FP_FILE], trace_text[FP_FILE], out[FP_FILE];
 static size_t model_len, weights_len, trace_len, written;
-static fp_model model;
+static fp_model model, idling, model_at;
 static fp_marking start, marking;
 static fp_read_model_answer read_model;
 static fp_read_marking_answer read_marking;
 static fp_stepped stepped;
 static fp_ran ran;
+static fp_converted converted;
 static size_t answer;
 
 static void do_version(void) { answer = fp_version() != FP_VERSION; }
@@ -31,6 +32,8 @@ static void do_test_marking(void) { answer = !fp_test_marking(model, start); }
 static void do_test_marking_at(void) { answer = !fp_test_marking_at(&model, &start); }
 static void do_write_marking(void) { answer = fp_write_marking(model, start, out, sizeof out).number; }
 static void do_write_marking_at(void) { answer = fp_write_marking_at(&model, &start, out, sizeof out).number; }
+static void do_convert(void) { converted = fp_convert(idling), answer = converted.number; }
+static void do_convert_at(void) { answer = fp_convert_at(&idling, &model_at, converted.numbers).number; }
 static void do_step(void) { stepped = fp_step(model, start, trace_text + 6, trace_len - 6), answer = stepped.number; }
 static void do_step_at(void) { answer = fp_step_at(&model, &marking, trace_text + 6, trace_len - 6).number; }
 static void do_run(void) { ran = fp_run(model, start, trace_text, trace_len), answer = !ran.fired; }
@@ -40,6 +43,19 @@ static void do_check_weights(void) { answer = fp_check_weights(model, start, wei
 static void do_check_weights_at(void) { answer = fp_check_weights_at(&model, &start, weights_text, weights_len).number; }
 static void do_listing(void) {
     answer = fp_listing(model_text, model_len, weights_text, weights_len, trace_text, trace_len, out, sizeof out).number;
+}
+
+/* A model with as many events as can be, all of them like and idling, two at each place. */
+static bool read_idling(void) {
+    char *p = (char *)out;
+    p += sprintf(p, "eos=1\nnets=1\nplaces=%d\ntype=1", FP_PLACES);
+    for (int i = 1; i < FP_PLACES; i++)
+        p += sprintf(p, ",1");
+    p += sprintf(p, "\nmoves=0\ninner=1\nsteps=1\npre=1\npost=1\nevents=%d\n", FP_EVENTS);
+    for (int k = 0; k < FP_EVENTS; k++)
+        p += sprintf(p, "idle=%d\nsync=1\n", k % FP_PLACES + 1);
+    p += sprintf(p, "start=0\n");
+    return fp_read_model_at(out, (size_t)(p - (char *)out), &idling, &marking).number == FP_ACCEPTED;
 }
 
 static ucontext_t here, there;
@@ -75,6 +91,7 @@ int main(int argc, char **argv) {
     weights_len = load(argv[1], "weights", weights_text);
     trace_len = load(argv[1], "trace", trace_text);
     bool fit = FITS(version, VERSION) && FITS(read_model, READ_MODEL) && FITS(read_model_at, READ_MODEL);
+    fit = fit && read_idling() && FITS(convert, CONVERT) && FITS(convert_at, CONVERT) && converted.model.listed == 1;
     marking = start;
     fit = fit && FITS(write_marking, WRITE_MARKING) && FITS(write_marking_at, WRITE_MARKING);
     written = fp_write_marking_at(&model, &start, out, sizeof out).bytes;

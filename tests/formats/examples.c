@@ -85,6 +85,26 @@ static void with_line(const text *base, size_t at, const char *line, text *t) {
         add(t, base->bytes + i + 1, base->len - i - 1);
 }
 
+/* The text with each line that is said replaced, as in `line 1: eos=2; line 19: alone=1`. */
+static void with_lines(const text *base, const char *said, text *t) {
+    static text before;
+    char line[4096];
+    size_t number;
+    int at = 0;
+    add(t, base->bytes, base->len);
+    for (; sscanf(said, "line %zu: %n", &number, &at) == 1 && at; at = 0) {
+        const char *next = strstr(said, "; line ");
+        int len = next ? (int)(next - said) : (int)strlen(said);
+        snprintf(line, sizeof line, "%.*s", len - at, said + at);
+        before = *t;
+        t->len = 0;
+        with_line(&before, number, line, t);
+        said += next ? len + 2 : len;
+    }
+    if (*said)
+        stop("no such line", said);
+}
+
 /* Sets `lent` to the text that is meant behind a call's name: the lines under it, or the page's own text, changed as is said. */
 static void lend(const char *said, const text *base) {
     size_t n;
@@ -97,7 +117,7 @@ static void lend(const char *said, const text *base) {
         for (; n; n--)
             add(&lent, "x", 1);
     else if (sscanf(said, "line %zu: %n", &n, &at) == 1 && at && base)
-        with_line(base, n, said + at, &lent);
+        with_lines(base, said, &lent);
     else if (lines.len && (!*said || !strcmp(said, "unended")))
         add(&lent, lines.bytes, lines.len - (*said != 0));
     else if (!*said && base)
@@ -131,7 +151,9 @@ static void set(const char *said) {
     size_t i = 0, v;
     if (sscanf(said, "%31[a-z.][%zu] %zu", name, &i, &v) != 3 && sscanf(said, "%31[a-z.] %zu", name, &v) != 2)
         stop("nothing to set", said);
-    if (!strcmp(name, "model.places"))
+    if (!strcmp(name, "model.header"))
+        model.header = v;
+    else if (!strcmp(name, "model.places"))
         model.places = v;
     else if (!strcmp(name, "model.types") && i < 32)
         model.types[i] = (uint8_t)v;
@@ -193,6 +215,24 @@ static void read_marking(void) {
     printf("= %zu,%zu,%zu\n", r.number, r.beside, r.column);
 }
 
+/* The new number of each event of the model that was in hand, and the first lines of the events that there are now. */
+static void convert(void) {
+    static fp_converted c;
+    static const char *const keys[] = {"", "event", "idle", "alone"};
+    size_t listed = model.listed > FP_EVENTS ? FP_EVENTS : model.listed;
+    c = fp_convert(model);
+    model = c.model;
+    printf("= %zu,%zu,%zu events %zu numbers", c.number, c.beside, c.column, model.listed);
+    for (size_t k = 0; k < listed; k++)
+        printf("%c%u", k ? ',' : ' ', c.numbers[k]);
+    printf("\n");
+    for (size_t k = 0; k < model.listed; k++)
+        printf("  %s=%u\n", keys[model.events[k].kind], model.events[k].index);
+    for (size_t k = listed; k < FP_EVENTS; k++)
+        if (c.numbers[k])
+            stop("a number", "behind the last event");
+}
+
 static void check_weights(void) {
     fp_weighed w = fp_check_weights(model, marking, lent.bytes, lent.len);
     printf("= %zu,%zu,%zu sum %s%llu cover %zu\n", w.number, w.beside, w.column, w.below ? "-" : "",
@@ -238,6 +278,8 @@ static void call(const char *name, const char *said, const char *folders) {
         printf("= %s\n", fp_test_model(model) ? "true" : "false");
     else if (!strcmp(name, "test_marking"))
         printf("= %s\n", fp_test_marking(model, marking) ? "true" : "false");
+    else if (!strcmp(name, "convert"))
+        convert();
     else if (!strcmp(name, "write_marking")) {
         size_t room = room_of(said);
         written(fp_write_marking(model, marking, out, room), room);

@@ -5,6 +5,9 @@ use Rattle.reader.specs.Answers.{read_triple, model_given, marking_given, write_
 use Rattle.reader.specs.declared.ReadRefusal.{ReadRefusal}
 use Rattle.reader.specs.declared.WriteRefusal.{WriteRefusal}
 use Rattle.reader.specs.declared.ModelReading.{ModelReading}
+use Rattle.converter.specs.Answers.{conversion_triple, conversion_given}
+use Rattle.converter.specs.declared.Conversion.{Conversion}
+use Rattle.converter.specs.declared.ConversionRefusal.{ConversionRefusal}
 use Rattle.runner.specs.Answers.{Stepped, step_triple, used_by}
 use Rattle.runner_trace.specs.Running.{Ran}
 use Rattle.keeper.specs.Answers.{weight_triple, check_given}
@@ -15,15 +18,16 @@ use Rattle.spread.specs.Call.{spread_triple, spread_value}
 use Rattle.spread.specs.declared.Beyond.{Beyond}
 use Rattle.capi.specs.declared.ModelRead.{ModelRead}
 use Rattle.capi.specs.declared.MarkingRead.{MarkingRead}
+use Rattle.capi.specs.declared.ModelConverted.{ModelConverted}
 use Rattle.capi.specs.declared.TextWritten.{TextWritten}
 use Rattle.capi.specs.declared.Weighed.{Weighed}
 use Rattle.capi.specs.declared.StepDone.{StepDone}
 use Rattle.capi.specs.declared.RunDone.{RunDone}
 use Rattle.capi.specs.declared.Shared.{Shared}
 
--- the version of the header and of the archive, here 4.0.0: 10,000 times its first number, 100 times its second, and its third
+-- the version of the header and of the archive, here 5.0.0: 10,000 times its first number, 100 times its second, and its third
 abbrev pub version : ℕ
-version = 40000
+version = 50000
 
 -- refused, the empty model and no net-token
 abbrev pub model_read : Result ModelReading ReadRefusal → ModelRead
@@ -31,6 +35,16 @@ model_read r = record { number = (read_triple r).number; beside = (read_triple r
 
 abbrev pub marking_read : Result Marking ReadRefusal → MarkingRead
 marking_read r = record { number = (read_triple r).number; beside = (read_triple r).beside; column = (read_triple r).column; marking = marking_given r }
+
+-- refused, the empty model and no number
+abbrev pub model_converted : Result Conversion ConversionRefusal → ModelConverted
+model_converted r = record {
+  number = (conversion_triple r).number;
+  beside = (conversion_triple r).beside;
+  column = (conversion_triple r).column;
+  model = (conversion_given r).model;
+  numbers = (conversion_given r).numbers;
+}
 
 -- the bytes written; a refused writing wrote none
 abbrev pub bytes_of : Result ℕ WriteRefusal → ℕ

@@ -5,13 +5,14 @@
 ghost use Rattle.std.specs.Prelude.{◌≡◌};
 ghost use Rattle.model.specs.Test.{held_model};
 ghost use Rattle.reader.specs.Answers.{model_reading, marking_reading, held_both, marking_writing, lay_whole};
+ghost use Rattle.converter.specs.Answers.{converting};
 ghost use Rattle.runner.specs.Answers.{stepping};
 ghost use Rattle.runner_trace.specs.Running.{running};
 ghost use Rattle.keeper.specs.Answers.{weight_checking};
 ghost use Rattle.keeper.specs.Split.{above, below};
 ghost use Rattle.spread.specs.Call.{spread_call};
 ghost use Rattle.listing.specs.Listing.{listing_text};
-ghost use Rattle.capi.specs.Calls.{model_read, marking_read, text_written, written_to_c, weights_checked, step_done, run_done, shared, version};
+ghost use Rattle.capi.specs.Calls.{model_read, marking_read, model_converted, text_written, written_to_c, weights_checked, step_done, run_done, shared, version};
 
 use engine::{Marking, Model, ModelReading, WeightCheck, WriteRefusal};
 use triples::Triple;
@@ -33,6 +34,16 @@ pub struct MarkingRead {
     pub beside: usize,
     pub column: usize,
     pub marking: Marking,
+}
+
+#[repr(C)]
+#[derive(Clone, Copy)]
+pub struct ModelConverted {
+    pub number: usize,
+    pub beside: usize,
+    pub column: usize,
+    pub model: Model,
+    pub numbers: [u8; 64],
 }
 
 #[repr(C)]
@@ -88,7 +99,7 @@ pub struct Shared {
 pub fn fp_version() -> usize
     ensures { result ≡ version }
 {
-    40000
+    50000
 }
 
 pub fn fp_read_model(text: &[u8]) -> ModelRead
@@ -144,6 +155,34 @@ pub fn fp_test_marking(model: Model, marking: Marking) -> bool
     ensures { result ≡ held_both model marking }
 {
     engine::test_marking(&model, &marking)
+}
+
+pub fn fp_convert(model: Model) -> ModelConverted
+    ensures { result ≡ model_converted (converting model) }
+{
+    match engine::convert(&model) {
+        Ok(conversion) => {
+            let numbers = conversion.numbers;
+            model_converted(Triple::accepted(), conversion.model, numbers)
+        }
+        Err(refusal) => {
+            let none = [0; 64];
+            model_converted(Triple::from(refusal), Model::empty(), none)
+        }
+    }
+}
+
+// A model and the new numbers of its events, beside their triple.
+fn model_converted(triple: Triple, model: Model, numbers: [u8; 64]) -> ModelConverted
+    ensures { result ≡ record { number = triple.number; beside = triple.beside; column = triple.column; model = model; numbers = numbers } }
+{
+    ModelConverted {
+        number: usize::from(triple.number),
+        beside: triple.beside,
+        column: triple.column,
+        model,
+        numbers,
+    }
 }
 
 // A text written, as its answer says; a refused writing wrote no byte.

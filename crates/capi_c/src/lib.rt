@@ -5,14 +5,17 @@
 ghost use Rattle.std.specs.Prelude.{◌≡◌};
 ghost use Rattle.model.specs.Test.{held_model};
 ghost use Rattle.reader.specs.Answers.{model_reading, marking_reading, held_both, marking_writing, lay_whole};
+ghost use Rattle.converter.specs.Answers.{converting};
 ghost use Rattle.runner.specs.Answers.{stepping};
 ghost use Rattle.runner_trace.specs.Running.{running};
 ghost use Rattle.keeper.specs.Answers.{weight_checking};
 ghost use Rattle.spread.specs.Call.{spread_call};
 ghost use Rattle.listing.specs.Listing.{listing_text};
-ghost use Rattle.capi.specs.Calls.{model_read, marking_read, written_to_c, weights_checked, step_done, run_done, shared, version};
+ghost use Rattle.capi.specs.Calls.{model_read, marking_read, model_converted, written_to_c, weights_checked, step_done, run_done, shared, version};
 
-use capi::{MarkingRead, ModelRead, RunDone, Shared, StepDone, TextWritten, Weighed};
+use capi::{
+    MarkingRead, ModelConverted, ModelRead, RunDone, Shared, StepDone, TextWritten, Weighed,
+};
 use engine::{Marking, Model};
 
 #[unsafe(no_mangle)]
@@ -48,6 +51,13 @@ pub extern "C" fn fp_test_marking(model: Model, marking: Marking) -> bool
     ensures { result ≡ held_both model marking }
 {
     capi::fp_test_marking(model, marking)
+}
+
+#[unsafe(no_mangle)]
+pub extern "C" fn fp_convert(model: Model) -> ModelConverted
+    ensures { result ≡ model_converted (converting model) }
+{
+    capi::fp_convert(model)
 }
 
 #[unsafe(no_mangle)]

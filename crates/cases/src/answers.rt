@@ -1,7 +1,7 @@
 // What is printed of the answer of each call.
 use super::hand::Hand;
 use super::line::{find, number_at};
-use engine::WeightCheck;
+use engine::{Event, Model, WeightCheck};
 use std::io;
 use triples::Triple;
 
@@ -59,6 +59,45 @@ pub fn weigh(rt: &impl Print, hand: &Hand, text: &[u8]) -> io::Result<()> {
     let WeightCheck { sum, cover } = check.unwrap_or(WeightCheck::nothing());
     let cover = usize::from(cover);
     println!(rt; "  sum {sum}, cover {cover}")
+}
+
+// An event's kind in words, and its number.
+fn event(rt: &impl Print, event: &Event) -> io::Result<()> {
+    let kind = match event.kind {
+        Event::MOVE => "move",
+        Event::IDLE => "idle",
+        Event::ALONE => "alone",
+        _ => "none",
+    };
+    print!(rt; " {kind} {}", event.index)
+}
+
+// The header and the events of a model.
+fn events(rt: &impl Print, model: &Model) -> io::Result<()> {
+    print!(rt; "  header {}, events", model.header)?;
+    for each in model.events.iter().take(model.listed) {
+        event(rt, each)?;
+    }
+    rt.write_all(b"\n")
+}
+
+// What the new model is like, and the new number of each event. Answers the hand with it.
+pub fn convert(rt: &impl Print, hand: &Hand) -> io::Result<Hand> {
+    let answer = engine::convert(&hand.model);
+    put_triple(rt, Triple::from(answer))?;
+    let Ok(conversion) = answer else {
+        return Ok(*hand);
+    };
+    events(rt, &conversion.model)?;
+    print!(rt; "  numbers")?;
+    for number in conversion.numbers.iter().take(hand.model.listed) {
+        print!(rt; " {number}")?;
+    }
+    rt.write_all(b"\n")?;
+    Ok(Hand {
+        model: conversion.model,
+        marking: hand.marking,
+    })
 }
 
 pub fn count(rt: &impl Print, hand: &Hand) -> io::Result<()> {

@@ -1,7 +1,7 @@
 // Cases on held models and markings that no reading gives, and on texts that are too long for a line.
-use super::answers::{marking, model, step, written};
+use super::answers::{convert, marking, model, step, written};
 use super::hand::Hand;
-use engine::{Marking, Model};
+use engine::{Event, Marking, Model};
 use std::io;
 
 fn models(rt: &impl Print, hand: &Hand) -> io::Result<()> {
@@ -21,6 +21,40 @@ fn models(rt: &impl Print, hand: &Hand) -> io::Result<()> {
     held.model.places = 33;
     print!(rt; "33 held places: ")?;
     marking(rt, &held, b"start=0\n")
+}
+
+// The listing's model with its idling event changed, and its header.
+fn headers(rt: &impl Print, hand: &Hand) -> io::Result<()> {
+    let mut held = *hand;
+    held.model.header = Model::WITH_ALONE;
+    print!(rt; "held idling under the second header: ")?;
+    marking(rt, &held, b"start=0\n")?;
+    held.model.events[1].kind = Event::ALONE;
+    print!(rt; "held alone of net 2 of one: ")?;
+    marking(rt, &held, b"start=0\n")?;
+    held.model.events[1].index = 1;
+    print!(rt; "held alone under the second header: ")?;
+    marking(rt, &held, b"start=0\n")?;
+    held.model.header = Model::WITH_IDLE;
+    print!(rt; "held alone under the first header: ")?;
+    marking(rt, &held, b"start=0\n")?;
+    held.model.header = 3;
+    print!(rt; "a third header: ")?;
+    marking(rt, &held, b"start=0\n")?;
+    held.model.header = 0;
+    print!(rt; "no header: ")?;
+    marking(rt, &held, b"start=0\n")
+}
+
+// An event that cannot be replaced, in a model that is not held: 14 comes before 21.
+fn conversions(rt: &impl Print, hand: &Hand) -> io::Result<()> {
+    let mut held = *hand;
+    print!(rt; "idling at one place of two: ")?;
+    convert(rt, &held)?;
+    held.model.pre[31][31] = 1;
+    print!(rt; "idling at one place of two, unused room not 0: ")?;
+    convert(rt, &held)?;
+    Ok(())
 }
 
 fn markings(rt: &impl Print, hand: &Hand) -> io::Result<()> {
@@ -62,6 +96,8 @@ fn longest(rt: &impl Print, hand: &Hand, text: &[u8; 1048576]) -> io::Result<()>
 
 pub fn run(rt: &impl Print, hand: &Hand) -> io::Result<()> {
     models(rt, hand)?;
+    headers(rt, hand)?;
+    conversions(rt, hand)?;
     markings(rt, hand)?;
     let mut none = Hand {
         model: Model::empty(),

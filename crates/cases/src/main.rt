@@ -1,4 +1,4 @@
-// Runs the cases of 01 that are not in the proved table, and prints what each call answers: the number of the cause and what stands
+// Runs the cases of 01 and 02 that are not in the proved table, and prints what each call answers: the number of the cause and what stands
 // beside it. The cases are the lines of the file `cases`; those on held things that no reading gives are in `held`.
 #![tactic(auto)]
 
@@ -40,6 +40,7 @@ fn named_case(
     rt.write_all(b": ")?;
     match kind {
         b"go" => answers::step(rt, &hand, text),
+        b"convert" => answers::convert(rt, &hand),
         _ => {
             print(rt, &hand, kind, text)?;
             Ok(hand)

@@ -12,6 +12,9 @@ pub use reader::{
     write_marking,
 };
 
+// The converter. `converting` (converter/specs/Answers.antt).
+pub use converter::{Conversion, ConversionRefusal, convert};
+
 // A fault of a line with its cause, in the refusals of all levels, and why a step is turned down.
 pub use step::Refusal;
 pub use text::{Cause, Spot};

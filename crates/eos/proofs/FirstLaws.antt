@@ -13,6 +13,7 @@ use Rattle.eos.specs.Multiset as M
 use Rattle.eos.specs.Model.{Marking, like}
 use Rattle.eos.specs.Causes.{first, First, Clear, unless, at, failing, Least, lacking}
 use Rattle.eos.proofs.Basics.{some_not}
+use Rattle.eos.proofs.FailingLaws.{failing_first}
 
 module _ {C : Type 0} where
   first-is : (l : List (Option C)) (c : C) → first l ≡ some c → First l c
@@ -143,6 +144,9 @@ failing-least d f n e =
     let h = least_from d 0 f n e in
     let z : 0 + h.behind ≡ n = omega (arith, h.is) in
     record { within = omega (arith, h.within, z); fails = rw z at h.fails; before = λ i p. rw zero-add at (h.before i (omega (arith, z))) }
+
+pub least-failing : (d : ℕ) (f : ℕ → Bool) (n : ℕ) → Least d f n → failing d 0 f ≡ some n
+least-failing d f n h = rw zero-add at (failing_first d 0 f n h.within (λ i p. rw zero-add (h.before i p)) (rw zero-add h.fails))
 
 -- ---- a net-token that is lacking is one of those taken
 lacking_from : (μ : Marking) (i : ℕ) (seen l : Marking) (n : ℕ) → lacking μ i seen l ≡ some n → n < i + length l

@@ -8,9 +8,9 @@ use lib.Dec.{T, eqb, eqb→eq}
 use lib.ListN.{length, get_or}
 use Rattle.eos.specs.Vector.{◌⊕◌, ◌⊖◌, unit}
 use Rattle.eos.specs.Multiset as M
-use Rattle.eos.specs.Model.{NetToken, Marking, like, Event, Model, event, places, net, type_of}
-use Rattle.eos.specs.Firing.{outer, inner, pre, post, outer_of, inner_of, Enabled, Step, fires}
-use Rattle.eos.specs.Leaving.{HasToken, Loses, LeaveEmpty}
+use Rattle.eos.specs.Model.{NetToken, Marking, like, Act, move, idle, alone, Event, Model, event, places, net, type_of}
+use Rattle.eos.specs.Firing.{outer, inner, pre, post, of_act, outer_of, inner_of, sees, asks, leaves, Enabled, Step, fires}
+use Rattle.eos.specs.Leaving.{HasPlace, HasToken, Loses, LeaveEmpty}
 use Rattle.eos.proofs.Basics.{true_is, false_is, eqb_of}
 use Rattle.eos.proofs.MultisetLaws.{bit_self}
 use Rattle.eos.proofs.VectorLaws.{get_d-⊕, get_d-⊖}
@@ -56,6 +56,13 @@ inside_none m n (u ∷ μ) h i =
     go true e r = absurd (h (u, omega (arith, bit_self like alike u), eqb→eq (type_of m u.place) (suc n) (true_is e)))
     go false e r = r
 
+-- an event whose pre has a place of a net is no `alone`: what it takes and gives is pre(τ̂) and post(τ̂)
+outside : (m : Model) (taken given : Marking) (n : ℕ) (a : Act) → HasPlace m n (of_act pre m a) → sees m a taken ≡ asks m a → outer m given ≡ leaves m a taken
+    → (outer m taken ≡ of_act pre m a) × (outer m given ≡ of_act post m a)
+outside m taken given n (move k) h s l = (s, l)
+outside m taken given n (idle p) h s l = (s, l)
+outside m taken given n (alone k) h s l = absurd (omega (arith, h.2, nth_zero (places m) h.0))
+
 -- ---- 02, K2
 
 -- an event that takes net-tokens of net n and gives none takes them empty but for what its own pre takes
@@ -65,8 +72,9 @@ unfolding outer_of
 leaves_empty m e taken given n known loses rule =
     let asked = inner_of pre m e n in
     let returned = inner_of post m e n in
-    let some = token_at m loses.taking.0 taken (rw (← rule.outer-taken) at loses.taking.2) in
-    let none : HasToken m n given → ⊥ = λ t. loses.giving (t.0.place, t.2, rw rule.outer-given at (at_place m t.0 given t.1)) in
+    let out = outside m taken given n e.act loses.taking rule.outer-taken rule.outer-given in
+    let some = token_at m loses.taking.0 taken (rw (← out.0) at loses.taking.2) in
+    let none : HasToken m n given → ⊥ = λ t. loses.giving (t.0.place, t.2, rw out.1 at (at_place m t.0 given t.1)) in
     let left : (i : ℕ) → get_or (inner m n taken) i 0 - get_or asked i 0 + get_or returned i 0 ≡ 0 =
     λ i.
     sym (ap (λ v. get_or v i 0) (rule.inner-given n known) ∙ get_d-⊕ (inner m n taken ⊖ asked) returned i

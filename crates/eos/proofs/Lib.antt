@@ -12,4 +12,7 @@ pub mod BoundLaws
 pub mod RunLaws
 pub mod LeavingLaws
 pub mod SpreadLaws
+pub mod StayingLaws
+pub mod ConvertingLaws
+pub mod ConvertedLaws
 pub mod Cases

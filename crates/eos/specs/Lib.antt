@@ -7,3 +7,4 @@ pub mod Causes
 pub mod Weights
 pub mod Run
 pub mod Spread
+pub mod Converting

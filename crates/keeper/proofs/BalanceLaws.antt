@@ -23,7 +23,7 @@ use Rattle.model.specs.Held.{no_net, no_event, row_at, event_of, model_of, told}
 use Rattle.model.specs.Test.{frame_in, held_model}
 use Rattle.model.specs.declared.Event.{Event}
 use Rattle.model.specs.declared.Model.{Model}
-use Rattle.model.proofs.HeldTests.{held-is, most-moves, most-places}
+use Rattle.model.proofs.HeldTests.{held-is, most-moves, most-places, most-nets}
 use Rattle.model.proofs.HeldActs.{act-is, act_range}
 use Rattle.keeper.specs.Held.{hold_weights}
 use Rattle.weigh.specs.Sums.{total, gain_of, Gains, move_gain, event_gain, balanced_at, ActIn}
@@ -32,7 +32,7 @@ use Rattle.keeper.proofs.DotLaws.{dot_total, minus_times}
 use Rattle.model.proofs.UsedLaws.{event_used}
 use Rattle.keeper.proofs.HeldRows.{Kept}
 use Rattle.model.proofs.ShapeLaws.{event-is}
-use Rattle.keeper.proofs.EffectLaws.{inside_is, outside_move, outside_idle}
+use Rattle.keeper.proofs.EffectLaws.{inside_is, outside_move, outside_idle, outside_alone}
 
 module _ (m : Model) (w : Weights) (kept : Kept m w) (k : ℕ) (listed : k < m.listed) where
   abbrev held : Event
@@ -104,6 +104,10 @@ module _ (m : Model) (w : Weights) (kept : Kept m w) (k : ℕ) (listed : k < m.l
         let a = outside_idle m w kept k listed post refl m.post posts (λ i. refl) (λ n i. refl) j e in
         let b = outside_idle m w kept k listed pre refl m.pre pres (λ i. refl) (λ n i. refl) j e in
         omega (arith, ints, a, b)
+    outside_gain (eos.alone n) e h =
+        let a = outside_alone m w kept k listed post refl m.post posts (λ i. refl) (λ n i. refl) n e in
+        let b = outside_alone m w kept k listed pre refl m.pre pres (λ i. refl) (λ n i. refl) n e in
+        omega (arith, ints, a, b)
 
     -- the effect is the gain
     effect_gain : effect (model_of m) w event ≡ event_gain m.nets held gains
@@ -115,7 +119,7 @@ pub act_in : (m : Model) → held_model m ≡ true → (k : ℕ) → k < m.liste
 act_in m held k listed =
     let e = get_or m.events k no_event in
     let h = held-is m held in
-    let r = act_range (frame_in m) e.kind e.index (event_used m h k listed).act (most-moves m h) (most-places m h) in
+    let r = act_range (frame_in m) e.kind e.index (event_used m h k listed).act (most-moves m h) (most-places m h) (most-nets m h) in
     record { least = r.0; most = r.1 }
 
 -- the listed events of a model, as they are lent

@@ -122,3 +122,8 @@ module _ (m : Model) (w : Weights) (kept : Kept m w) (k : ℕ) (listed : k < m.l
         rw e
         (dot-⊕ w.outward (unit j) (zeros (eos.places (model_of m)))
         ∙ ap₂ ◌+ℤ◌ (dot_unit w.outward j) (dot_zeros w.outward (eos.places (model_of m))) ∙ +ℤ_idr (number_of w.outward j))
+
+    -- and nothing, of what names no place
+    pub outside_alone : (n : ℕ) → event.act ≡ eos.alone n → dot w.outward (outer_of side (model_of m) event) ≡ pos 0
+    unfolding outer_of
+    outside_alone n e = rw e (dot_zeros w.outward (eos.places (model_of m)))

@@ -105,7 +105,7 @@ module _ (m : Model) (k : Marking) (s : Text) (held : held_both m k ≡ true) (f
   sum w = weigh (model_of m) w (tokens_of (sizes_for m) k)
 
   -- weights that pass are answered with their sum and cover
-  passes : (w : Weights) (x : ℕ) → file ≡ got w x → Passing (model_of m) w → weight_checking m k s ≡ Ok (passed_weights cover_limit w (sum w))
+  pub passes : (w : Weights) (x : ℕ) → file ≡ got w x → Passing (model_of m) w → weight_checking m k s ≡ Ok (passed_weights cover_limit w (sum w))
   unfolding judged_weights turned_or
   passes w x e p = check_got m k s few held w x e ∙ rw (passes_no_cause (model_of m) w p)
 

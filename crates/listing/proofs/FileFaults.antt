@@ -47,5 +47,5 @@ module _ (P : ℕ → Type 0) (two : P 2) (s : Text) where
     model_faults five =
         then_faults P (read_lines s 0) (read_end s)
         (then_faults P (read_plant s 0) _ (plant_faults P two three five s 0)
-        (λ m x. then_faults P (read_block (bytes "start=") bounds (sizes_of m) s x) _ (block_faults P two three bounds (sizes_of m) s (bytes "start=") x) (λ μ y. tt)))
+        (λ p x. then_faults P (read_block (bytes "start=") bounds (sizes_of p.model) s x) _ (block_faults P two three bounds (sizes_of p.model) s (bytes "start=") x) (λ μ y. tt)))
         end_faults

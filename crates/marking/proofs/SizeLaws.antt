@@ -11,8 +11,8 @@ use Rattle.text.specs.Lines.{in_range}
 use Rattle.text.specs.Answers.{padded}
 use Rattle.text.proofs.TestLaws.{within-is, eqb_and}
 use Rattle.eos.specs.Model as eos
-use Rattle.model.specs.Rules.{nth, right_model}
-use Rattle.model.specs.Held.{no_net, hold_net, hold_nets, hold_model}
+use Rattle.model.specs.Rules.{under, nth, right_plant}
+use Rattle.model.specs.Held.{no_net, hold_net, hold_nets, hold_plant}
 use Rattle.model.specs.Test.{held_model}
 use Rattle.model.specs.declared.Model.{Model}
 use Rattle.model.specs.declared.ObjectNet.{ObjectNet}
@@ -80,26 +80,26 @@ module _ (m : Model) (h : held_model m ≡ true) where
       (λ r. rw (listed_past f 32 (p - 1) 0 r) (omega arith))
 
 -- ---- the model that is held
-module _ (d : eos.Model) (right : right_model d ≡ true) where
+module _ (header : ℕ) (d : eos.Model) (right : right_plant (under header d) ≡ true) where
   type_same : (t : ℕ) → size_of_type (hold_nets d.nets) t ≡ eos.size_of d t
   unfolding hold_net
   type_same zero = refl
   type_same (suc k) =
-      let few = few-nets d (right_is d right) in
+      let few = few-nets _ (right_is _ right) in
       by_index (length d.nets) k
       (λ p. ap (λ (n : ObjectNet). n.places) (net-at d.nets k few p))
       (λ p. rw (net_past d.nets k few p, get_or-eq_default d.nets eos.no_net p))
 
-  size_same : (p : ℕ) → get_or (sizes_in (hold_model d)) p 0 ≡ eos.size_of d (eos.type_of d p)
-  unfolding sizes_in hold_model
+  size_same : (p : ℕ) → get_or (sizes_in (hold_plant (under header d))) p 0 ≡ eos.size_of d (eos.type_of d p)
+  unfolding sizes_in hold_plant
   size_same p =
       let f : ℕ → ℕ = λ p. size_of_type (hold_nets d.nets) (nth (padded d.types) p) in
-      let few = few-places d (right_is d right) in
+      let few = few-places _ (right_is _ right) in
       by_index 32 p
       (λ r. listed_at f 32 p 0 r ∙ rw (nth-padded d.types few p) (type_same (nth d.types p)))
       (λ r. listed_past f 32 p 0 r ∙ rw (get_or-eq_default d.types 0 {n = p} (omega arith)))
 
   -- a right model's net-tokens have as many counts as those of the held model
-  pub sizes_same : sizes_for (hold_model d) ≡ sizes_of d
-  unfolding hold_model
+  pub sizes_same : sizes_for (hold_plant (under header d)) ≡ sizes_of d
+  unfolding hold_plant
   sizes_same = λ i. record { places = length d.types; size = λ p. size_same (p - 1) i }

@@ -69,6 +69,9 @@ not_unlike true b e f = refl
 not_unlike false b e f = sym f ∙ e
 
 -- of two lists of numbers
+pub same_lists : (x y : List ℕ) (b : Bool) → b ≡ pointwise nat_eq x y → b ≡ eq_v x y
+same_lists x y b e = e ∙ alike x y
+
 pub ne_lists : (x y : List ℕ) (b : Bool) → b ≡ not (pointwise nat_eq x y) → b ≡ true → eq_v x y ≡ false
 ne_lists x y b e f = sym (alike x y) ∙ unlike _ b e f
 

@@ -45,20 +45,25 @@ module _ (z : Sizes) (roomy : Roomy z) (places : z.places ≤ 99) where
       few-digits (get_or t.inside i 0) (omega (arith, leb-true (get_or t.inside i 0) 65535 (every-at (λ v. leb v 65535) t.inside i 0 r.counts p)))) in
       omega (arith, line-length (suc t.place) t.inside, length-below 1 (suc t.place) (omega (arith, r.place)), short)
 
-  pub marking_length : (μ : eos.Marking) → right_block (limits 256 65535) z μ ≡ true → length (marking_text μ) ≤ 51466
-  unfolding marking_text block_text right_block
-  marking_length μ h =
+  -- a block, by its key
+  pub block_length : (key : Text) (μ : eos.Marking) → right_block (limits 256 65535) z μ ≡ true → length (block_text key μ) ≤ length key + 51460
+  unfolding block_text right_block
+  block_length key μ h =
       let p = and_true (leb (length μ) 256) _ h in
       let few = leb-true (length μ) 256 p.0 in
       let lines = texts-length net_token_text no_token 201 μ 256 few (λ i q. token_length (get_or μ i no_token)
       (right_is (limits 256 65535) z (get_or μ i no_token) (every-at (right_net_token (limits 256 65535) z) μ i no_token p.1 q))) in
       omega (
         arith,
-        length-append (number_text (bytes "start=") (length μ)) (texts net_token_text μ),
-        number_line_length (bytes "start=") (length μ),
+        length-append (number_text key (length μ)) (texts net_token_text μ),
+        number_line_length key (length μ),
         length-below 2 (length μ) (omega arith),
         lines,
       )
+
+  pub marking_length : (μ : eos.Marking) → right_block (limits 256 65535) z μ ≡ true → length (marking_text μ) ≤ 51466
+  unfolding marking_text
+  marking_length μ h = block_length (bytes "start=") μ h
 
   pub held-length : (k : Marking) → SizedMarking k → held_marking room_limit z k ≡ true → length (marking_text (tokens_of z k)) ≤ 51466
   held-length k sz h = marking_length (tokens_of z k) (held-tokens z roomy k sz h).0.right

@@ -14,7 +14,7 @@ use Rattle.text.specs.Answers.{padded}
 use Rattle.text.proofs.Basics.{and_true}
 use Rattle.text.proofs.TestLaws.{within-is, eqb_and}
 use Rattle.eos.specs.Model as eos
-use Rattle.model.specs.Held.{pre_of, post_of, row, tabled, hold_net, hold_event, no_net, no_event, hold_nets, hold_events, hold_model, Bytes, SizedNet, SizedModel, row_in, listed, sides_in, net_of, sync_in, event_of, model_of}
+use Rattle.model.specs.Held.{pre_of, post_of, row, tabled, hold_net, hold_event, no_net, no_event, hold_nets, hold_events, hold_plant, Bytes, SizedNet, SizedModel, row_in, listed, sides_in, net_of, sync_in, event_of, model_of, plant_of}
 use Rattle.model.specs.Test.{empty, empty_past, used_of, held_net, frame_in, held_event, empty_event}
 use Rattle.model.specs.declared.ObjectNet.{ObjectNet}
 use Rattle.model.specs.declared.Event.{Event}
@@ -134,8 +134,8 @@ module _ (m : Model) (sized : SizedModel m) (held : Held m) where
       event_none (event k) (sized.sync k q) t ∙ sym (event_past events_in k few (omega arith)))
 
   -- ---- all of it
-  pub held_again : m ≡ hold_model (model_of m)
-  unfolding hold_model model_of
+  pub held_again : m ≡ hold_plant (plant_of m)
+  unfolding hold_plant model_of
   held_again =
       let moves = moves_are m held.moves in
       let few = most-moves m held in
@@ -147,6 +147,7 @@ module _ (m : Model) (sized : SizedModel m) (held : Held m) where
       let p = sides_table pre_of refl m.moves m.places m.pre g sized.pre few (λ i. refl) moves.pre in
       let q = sides_table post_of refl m.moves m.places m.post g sized.post few (λ i. refl) moves.post in
       λ i. record {
+        header = m.header;
         nets = sym a i;
         places = sym b i;
         moves = sym c i;

@@ -12,9 +12,9 @@ use lib.Seq.{get_or-take, length-take-le}
 use Rattle.text.specs.Lines.{in_range, every}
 use Rattle.text.proofs.TestLaws.{and_both, and_eqb, within-is, every_of, every_at_of}
 use Rattle.eos.specs.Model as eos
-use Rattle.model.specs.Rules.{nth, byte, list_of, frame_of, right_sides, own_net, takes_part, right_net, right_sync, right_event, right_model}
+use Rattle.model.specs.Rules.{nth, byte, list_of, frame_of, right_sides, own_net, takes_part, right_net, right_sync, right_event, right_plant}
 use Rattle.model.specs.Acts.{act_of}
-use Rattle.model.specs.Held.{no_net, no_event, Bytes, SizedNet, SizedModel, row_at, row_in, listed, sides_in, net_of, sync_in, event_of, model_of}
+use Rattle.model.specs.Held.{no_net, no_event, Bytes, SizedNet, SizedModel, row_at, row_in, listed, sides_in, net_of, sync_in, event_of, model_of, plant_of}
 use Rattle.model.specs.Test.{frame_in}
 use Rattle.model.specs.declared.ObjectNet.{ObjectNet}
 use Rattle.model.specs.declared.Event.{Event}
@@ -109,16 +109,17 @@ module _ (m : Model) (sized : SizedModel m) (held : Held m) where
       })
 
   -- ---- all of it
-  right : Right (model_of m)
+  right : Right (plant_of m)
   unfolding model_of
   right =
       let few = most-events m held in
       let a = length-listed (λ i. net_of (net i)) 0 m.nets in
       let b = length-listed side 0 m.moves in
       let c = length-listed event 0 m.listed in
-      let frame : frame_in m ≡ frame_of (model_of m) =
-      ap frame_in (held_again m sized held) ∙ frame_same (model_of m) (omega (arith, types_long, places)) (omega (arith, a, nets)) in
+      let frame : frame_in m ≡ frame_of (plant_of m) =
+      ap frame_in (held_again m sized held) ∙ frame_same (plant_of m) (omega (arith, types_long, places)) (omega (arith, a, nets)) in
       record {
+        header = held.header;
         nets-few = rw a held.nets-few;
         places-few = rw types_long held.places-few;
         types = rw a (every_of (λ t. leb t m.nets) types_in 0 (λ i p.
@@ -133,12 +134,12 @@ module _ (m : Model) (sized : SizedModel m) (held : Held m) where
             let u = net_used m held i q in
             rw (listed_at (λ i. net_of (net i)) m.nets i eos.no_net q) (net_right (net i) (sized.nets i (omega (arith, nets))) u.0 u.1));
         events-few = rw c held.events-few;
-        events = every_of (right_event (frame_of (model_of m))) (listed event 0 m.listed) eos.no_event (λ i p.
+        events = every_of (right_event (frame_of (plant_of m))) (listed event 0 m.listed) eos.no_event (λ i p.
             let q : i < m.listed = omega (arith, c) in
             rw (listed_at event m.listed i eos.no_event q, ← frame)
             (event_right (get_or m.events i no_event) (sized.sync i (omega arith)) (event_used m held i q)));
       }
 
 -- the model that a held model stands for is right
-pub held_right : (m : Model) → SizedModel m → Held m → right_model (model_of m) ≡ true
-held_right m sized held = is_right (model_of m) (right m sized held)
+pub held_right : (m : Model) → SizedModel m → Held m → right_plant (plant_of m) ≡ true
+held_right m sized held = is_right (plant_of m) (right m sized held)

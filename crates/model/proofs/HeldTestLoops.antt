@@ -112,9 +112,10 @@ few-steps nets k places steps e =
 
 -- ---- the model
 
-pub few-counts : (nets places moves listed : ℕ) → counts_are nets places moves listed ≡ true → (nets ≤ 8) × (places ≤ 32) × (moves ≤ 32)
-few-counts nets places moves listed e =
-    let a = T.and_true (in_range 0 8 nets) (in_range 1 32 places && (in_range 0 32 moves && in_range 0 64 listed)) e in
+pub few-counts : (header nets places moves listed : ℕ) → counts_are header nets places moves listed ≡ true → (nets ≤ 8) × (places ≤ 32) × (moves ≤ 32)
+few-counts header nets places moves listed e =
+    let o = T.and_true (in_range 1 2 header) (in_range 0 8 nets && (in_range 1 32 places && (in_range 0 32 moves && in_range 0 64 listed))) e in
+    let a = T.and_true (in_range 0 8 nets) (in_range 1 32 places && (in_range 0 32 moves && in_range 0 64 listed)) o.1 in
     let b = T.and_true (in_range 1 32 places) (in_range 0 32 moves && in_range 0 64 listed) a.1 in
     let c = T.and_true (in_range 0 32 moves) (in_range 0 64 listed) b.1 in (
       leb-true nets 8 (T.and_true (leb 0 nets) (leb nets 8) a.0).1,
@@ -126,6 +127,7 @@ module _ (m : Model) (steps : List ℕ) (h : (n : ℕ) → nth steps n ≡ (get_
   -- the frame of a held model, how many transitions each net has from a list
   frame_is : frame_with m steps ≡ frame_in m
   frame_is = λ i. record {
+    alone = eqb m.header 2;
     places = m.places;
     moves = m.moves;
     nets = m.nets;

@@ -21,6 +21,7 @@ use Rattle.model.proofs.PaddedRows.{empty-padded}
 
 -- the parts of the test
 pub record Held (m : Model) : Type 0 where
+  pub header : in_range 1 2 m.header ≡ true
   pub nets-few : in_range 0 8 m.nets ≡ true
   pub places-few : in_range 1 32 m.places ≡ true
   pub moves-few : in_range 0 32 m.moves ≡ true
@@ -34,19 +35,20 @@ pub record Held (m : Model) : Type 0 where
 pub held-is : (m : Model) → held_model m ≡ true → Held m
 unfolding held_model
 held-is m h =
-    let t = and_true (counts_are m.nets m.places m.moves m.listed) _ h in
-    let a = and_true (in_range 0 8 m.nets) _ t.0 in
+    let t = and_true (counts_are m.header m.nets m.places m.moves m.listed) _ h in
+    let o = and_true (in_range 1 2 m.header) _ t.0 in
+    let a = and_true (in_range 0 8 m.nets) _ o.1 in
     let b = and_true (in_range 1 32 m.places) _ a.1 in
     let c = and_true (in_range 0 32 m.moves) (in_range 0 64 m.listed) b.1 in
     let e = and_true (held_types m) _ t.1 in
     let f = and_true (held_moves m) _ e.1 in
     let g = and_true (held_nets m) (held_events m) f.1 in
-    record { nets-few = a.0; places-few = b.0; moves-few = c.0; events-few = c.1; types = e.0; moves = f.0; nets = g.0; events = g.1 }
+    record { header = o.0; nets-few = a.0; places-few = b.0; moves-few = c.0; events-few = c.1; types = e.0; moves = f.0; nets = g.0; events = g.1 }
 
 -- and from its parts
 pub is_held : (m : Model) → Held m → held_model m ≡ true
 unfolding held_model
-is_held m h = rw (h.nets-few, h.places-few, h.moves-few, h.events-few, h.types, h.moves, h.nets) h.events
+is_held m h = rw (h.header, h.nets-few, h.places-few, h.moves-few, h.events-few, h.types, h.moves, h.nets) h.events
 
 module _ (m : Model) (held : Held m) where
   -- how many nets

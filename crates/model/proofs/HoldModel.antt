@@ -8,8 +8,8 @@ use lib.ListN.{length, get_or, get_or-eq_default}
 use Rattle.text.specs.Lines.{every}
 use Rattle.text.proofs.TestLaws.{and_eqb, within-is, every-at}
 use Rattle.eos.specs.Model as eos
-use Rattle.model.specs.Rules.{byte, list_of, frame_of, right_sides, right_net, right_model}
-use Rattle.model.specs.Held.{pre_of, post_of, row, tabled, hold_net, hold_event, no_net, no_event, hold_nets, hold_events, hold_model, Bytes, SizedNet, SizedModel, listed, sides_in, net_of, sync_in, event_of, model_of}
+use Rattle.model.specs.Rules.{byte, list_of, Plant, frame_of, right_sides, right_net, right_plant}
+use Rattle.model.specs.Held.{pre_of, post_of, row, tabled, hold_net, hold_event, no_net, no_event, hold_nets, hold_events, hold_plant, Bytes, SizedNet, SizedModel, listed, sides_in, net_of, sync_in, event_of, model_of, plant_of}
 use Rattle.model.specs.declared.ObjectNet.{ObjectNet}
 use Rattle.model.proofs.RuleLaws.{list_is, sides_are, sides_long, RightNet, net-is, RightEvent, sync_at, Right, right_is, few-nets, few-places, few-moves, few-events, few-steps, right_move_lem, right_net_lem, right_event_lem}
 use Rattle.text.proofs.PaddedLaws.{take-padded, length-padded}
@@ -81,35 +81,40 @@ net_of_hold n h =
     let b = sides_back n.size n.transitions few.1 some.1 (λ i p. every-at (right_sides n.size) n.transitions i eos.no_transition r.sides p) in
     rw b
 
-module _ (d : eos.Model) (right : Right d) where
+module _ (d : Plant) (right : Right d) where
   -- an event
-  event_of_hold : (e : eos.Event) → RightEvent (frame_of d) e → event_of (length d.nets) (hold_nets d.nets) (hold_event e) ≡ e
+  event_of_hold : (e : eos.Event) → RightEvent (frame_of d) e → event_of (length d.model.nets) (hold_nets d.model.nets) (hold_event e) ≡ e
   unfolding event_of hold_event
   event_of_hold e r =
       let nets = few-nets d right in
-      let b : listed (sync_in (hold_nets d.nets) (tabled row 8 e.sync)) 0 (length e.sync) ≡ e.sync =
-      listed-is (sync_in (hold_nets d.nets) (tabled row 8 e.sync)) e.sync [] (λ i p.
+      let b : listed (sync_in (hold_nets d.model.nets) (tabled row 8 e.sync)) 0 (length e.sync) ≡ e.sync =
+      listed-is (sync_in (hold_nets d.model.nets) (tabled row 8 e.sync)) e.sync [] (λ i p.
       let few = few-steps d right i (omega (arith, r.long)) in
-      rw (steps-at d.nets i nets) (tabled_part row [] refl 8 e.sync (omega (arith, r.long)) i _ p few (sync_at (frame_of d) e r i p).long)) in
+      rw (steps-at d.model.nets i nets) (tabled_part row [] refl 8 e.sync (omega (arith, r.long)) i _ p few (sync_at (frame_of d) e r i p).long)) in
       ap₂ {C = eos.Event} (λ a s. record { act = a; sync = s }) (act-back e.act) (rw r.long at b)
 
-  model-back : model_of (hold_model d) ≡ d
-  unfolding model_of hold_model
+  model-back : model_of (hold_plant d) ≡ d.model
+  unfolding model_of hold_plant
   model-back =
       let nets = few-nets d right in
       let places = few-places d right in
-      let p = take-padded d.types places in
-      let q = sides_back (length d.types) d.moves places (few-moves d right) (right_move_lem d right) in
-      let r = listed-is (λ i. net_of (get_or (hold_nets d.nets) i no_net)) d.nets eos.no_net (λ i h.
-      ap net_of (net-at d.nets i nets h) ∙ net_of_hold (get_or d.nets i eos.no_net) (right_net_lem d right i h)) in
-      let s = listed-is (λ i. event_of (length d.nets) (hold_nets d.nets) (get_or (hold_events d.events) i no_event)) d.events eos.no_event (λ i h.
-      ap (event_of (length d.nets) (hold_nets d.nets)) (event-at d.events i (few-events d right) h)
-      ∙ event_of_hold (get_or d.events i eos.no_event) (right_event_lem d right i h)) in
+      let p = take-padded d.model.types places in
+      let q = sides_back (length d.model.types) d.model.moves places (few-moves d right) (right_move_lem d right) in
+      let r = listed-is (λ i. net_of (get_or (hold_nets d.model.nets) i no_net)) d.model.nets eos.no_net (λ i h.
+      ap net_of (net-at d.model.nets i nets h) ∙ net_of_hold (get_or d.model.nets i eos.no_net) (right_net_lem d right i h)) in
+      let s = listed-is (λ i. event_of (length d.model.nets) (hold_nets d.model.nets) (get_or (hold_events d.model.events) i no_event)) d.model.events eos.no_event (λ i h.
+      ap (event_of (length d.model.nets) (hold_nets d.model.nets)) (event-at d.model.events i (few-events d right) h)
+      ∙ event_of_hold (get_or d.model.events i eos.no_event) (right_event_lem d right i h)) in
       λ i. record { types = p i; moves = q i; nets = r i; events = s i }
 
 -- a right model is what it is held as stands for
-pub model_of_hold : (d : eos.Model) → right_model d ≡ true → model_of (hold_model d) ≡ d
+pub model_of_hold : (d : Plant) → right_plant d ≡ true → model_of (hold_plant d) ≡ d.model
 model_of_hold d h = model-back d (right_is d h)
+
+-- and so it is with its header
+pub plant_of_hold : (d : Plant) → right_plant d ≡ true → plant_of (hold_plant d) ≡ d
+unfolding hold_plant
+plant_of_hold d h = let p = model_of_hold d h in λ i. record { header = d.header; model = p i }
 
 -- ---- room and bytes
 
@@ -134,7 +139,7 @@ net-sized n r =
       post = table_bytes post_of eos.no_transition refl 32 n.transitions few (λ i p. (n.size, size, (sides_are n.size _ (s i p)).1));
     }
 
-module _ (d : eos.Model) (right : Right d) where
+module _ (d : Plant) (right : Right d) where
   event-sized : (e : eos.Event) → RightEvent (frame_of d) e → Bytes 8 (hold_event e).sync
   unfolding hold_event
   event-sized e r =
@@ -144,30 +149,30 @@ module _ (d : eos.Model) (right : Right d) where
       let v = get_or e.sync i [] in
       ((frame_of d).steps i, few-steps d right i (omega (arith, r.long)), and_eqb (length v) ((frame_of d).steps i) (every byte v) s.long s.bytes)
 
-  sized : SizedModel (hold_model d)
-  unfolding hold_model
+  sized : SizedModel (hold_plant d)
+  unfolding hold_plant
   sized =
-      let n = length d.types in
+      let n = length d.model.types in
       let places = few-places d right in
       let moves = few-moves d right in
       let nets = few-nets d right in
       let events = few-events d right in
       record {
-        types = length-padded d.types;
-        pre = table_bytes pre_of eos.no_transition refl 32 d.moves moves (λ i p. (n, places, (sides_are n _ (right_move_lem d right i p)).0));
-        post = table_bytes post_of eos.no_transition refl 32 d.moves moves (λ i p. (n, places, (sides_are n _ (right_move_lem d right i p)).1));
-        objects = nets-long d.nets;
+        types = length-padded d.model.types;
+        pre = table_bytes pre_of eos.no_transition refl 32 d.model.moves moves (λ i p. (n, places, (sides_are n _ (right_move_lem d right i p)).0));
+        post = table_bytes post_of eos.no_transition refl 32 d.model.moves moves (λ i p. (n, places, (sides_are n _ (right_move_lem d right i p)).1));
+        objects = nets-long d.model.nets;
         nets = λ i p.
-            by_index (length d.nets) i
-            (λ q. rw (net-at d.nets i nets q) (net-sized (get_or d.nets i eos.no_net) (net-is _ (right_net_lem d right i q))))
-            (λ q. rw (net_past d.nets i nets q) (record { pre = zero_bytes 32; post = zero_bytes 32 }));
-        events = events-long d.events;
+            by_index (length d.model.nets) i
+            (λ q. rw (net-at d.model.nets i nets q) (net-sized (get_or d.model.nets i eos.no_net) (net-is _ (right_net_lem d right i q))))
+            (λ q. rw (net_past d.model.nets i nets q) (record { pre = zero_bytes 32; post = zero_bytes 32 }));
+        events = events-long d.model.events;
         sync = λ i p.
-            by_index (length d.events) i
-            (λ q. rw (event-at d.events i events q) (event-sized (get_or d.events i eos.no_event) (right_event_lem d right i q)))
-            (λ q. rw (event_past d.events i events q) (zero_bytes 8));
+            by_index (length d.model.events) i
+            (λ q. rw (event-at d.model.events i events q) (event-sized (get_or d.model.events i eos.no_event) (right_event_lem d right i q)))
+            (λ q. rw (event_past d.model.events i events q) (zero_bytes 8));
       }
 
 -- what a right model is held as has the room and the bytes of the structs
-pub hold_sized : (d : eos.Model) → right_model d ≡ true → SizedModel (hold_model d)
+pub hold_sized : (d : Plant) → right_plant d ≡ true → SizedModel (hold_plant d)
 hold_sized d h = sized d (right_is d h)

@@ -76,7 +76,7 @@ each-event (e ∷ l) (u ∷ us) s (suc i) h = each-event l us s.1 i (omega arith
 
 pub model-sized : (m : Model) (vs : List Val) → Is model.the_row m vs → SizedModel m
 model-sized m vs p =
-    let a = p.1.1.1.1.1.1 in
+    let a = p.1.1.1.1.1.1.1 in
     let nets = objects-room m vs p in
     let events = events-room m vs p in
     record {
@@ -92,7 +92,7 @@ model-sized m vs p =
 -- the same of a model that is lent, from what reading it tells
 pub told-sized : (m : Model) → Facts model.the_type.parts the_maybe (model.the_type.to m) → SizedModel m
 told-sized m p =
-    let t = p.1.1.1.1 in
+    let t = p.1.1.1.1.1 in
     let nets : length m.objects ≡ 8 = t.1.1.1.0.1.0.1 in
     let events : length m.events ≡ 64 = t.1.1.1.1.0.1.0.1 in
     record {

@@ -8,10 +8,10 @@ use Rattle.model.specs.declared.Model.{Model}
 use Rattle.model.specs.contracts.Model.{the_row}
 
 pub objects-room : (m : Model) (vs : List Val) → Is the_row m vs → length m.objects ≡ 8
-objects-room m vs p = p.1.1.1.1.1.1.1.1.1.0.1.0.1
+objects-room m vs p = p.1.1.1.1.1.1.1.1.1.1.0.1.0.1
 
 pub events-room : (m : Model) (vs : List Val) → Is the_row m vs → length m.events ≡ 64
-events-room m vs p = p.1.1.1.1.1.1.1.1.1.1.0.1.0.1
+events-room m vs p = p.1.1.1.1.1.1.1.1.1.1.1.0.1.0.1
 
 pub types-room : (m : Model) (vs : List Val) → Is the_row m vs → length m.types ≡ 32
-types-room m vs p = p.1.1.1.1.1.1.0.1.0.1
+types-room m vs p = p.1.1.1.1.1.1.1.0.1.0.1

@@ -11,8 +11,8 @@ use Rattle.text.specs.Lines.{in_range, every}
 use Rattle.text.specs.Repeat.{every_at}
 use Rattle.text.proofs.Basics.{and_true}
 use Rattle.text.proofs.TestLaws.{eqb_and, and_eqb, within-is, every-at, every_at-at}
-use Rattle.eos.specs.Model.{Transition, ObjectNet, Event, Model, places, no_transition, no_net, no_event}
-use Rattle.model.specs.Rules.{byte, list_of, frame_of, Frame, own_net, takes_part, right_sides, right_net, right_act, right_sync, right_event, right_model}
+use Rattle.eos.specs.Model.{Transition, ObjectNet, Event, places, no_transition, no_net, no_event}
+use Rattle.model.specs.Rules.{byte, list_of, Plant, frame_of, Frame, own_net, takes_part, right_sides, right_net, right_act, right_sync, right_event, right_plant}
 
 -- n numbers, each in the range
 pub list_is : (n : ℕ) (range : ℕ → Bool) (l : List ℕ) → list_of n range l ≡ true → (length l ≡ n) × (every range l ≡ true)
@@ -82,69 +82,71 @@ pub is-event : (f : Frame) (e : Event) → RightEvent f e → right_event f e �
 unfolding right_event
 is-event f e r = rw r.act (and_eqb (length e.sync) f.nets _ r.long r.sync)
 
-pub record Right (m : Model) : Type 0 where
-  pub nets-few : in_range 0 8 (length m.nets) ≡ true
-  pub places-few : in_range 1 32 (places m) ≡ true
-  pub types : every (λ d. leb d (length m.nets)) m.types ≡ true
-  pub moves-few : in_range 0 32 (length m.moves) ≡ true
-  pub moves : every (right_sides (places m)) m.moves ≡ true
-  pub nets : every right_net m.nets ≡ true
-  pub events-few : in_range 0 64 (length m.events) ≡ true
-  pub events : every (right_event (frame_of m)) m.events ≡ true
+pub record Right (p : Plant) : Type 0 where
+  pub header : in_range 1 2 p.header ≡ true
+  pub nets-few : in_range 0 8 (length p.model.nets) ≡ true
+  pub places-few : in_range 1 32 (places p.model) ≡ true
+  pub types : every (λ d. leb d (length p.model.nets)) p.model.types ≡ true
+  pub moves-few : in_range 0 32 (length p.model.moves) ≡ true
+  pub moves : every (right_sides (places p.model)) p.model.moves ≡ true
+  pub nets : every right_net p.model.nets ≡ true
+  pub events-few : in_range 0 64 (length p.model.events) ≡ true
+  pub events : every (right_event (frame_of p)) p.model.events ≡ true
 
 -- a model by its rules
-pub right_is : (m : Model) → right_model m ≡ true → Right m
-unfolding right_model
-right_is m h =
-    let a = and_true (in_range 0 8 (length m.nets)) _ h in
-    let b = and_true (in_range 1 32 (places m)) _ a.1 in
-    let c = and_true (every (λ d. leb d (length m.nets)) m.types) _ b.1 in
-    let d = and_true (in_range 0 32 (length m.moves)) _ c.1 in
-    let e = and_true (every (right_sides (places m)) m.moves) _ d.1 in
-    let f = and_true (every right_net m.nets) _ e.1 in
-    let g = and_true (in_range 0 64 (length m.events)) _ f.1 in
-    record { nets-few = a.0; places-few = b.0; types = c.0; moves-few = d.0; moves = e.0; nets = f.0; events-few = g.0; events = g.1 }
+pub right_is : (p : Plant) → right_plant p ≡ true → Right p
+unfolding right_plant
+right_is p h =
+    let t = and_true (in_range 1 2 p.header) _ h in
+    let a = and_true (in_range 0 8 (length p.model.nets)) _ t.1 in
+    let b = and_true (in_range 1 32 (places p.model)) _ a.1 in
+    let c = and_true (every (λ d. leb d (length p.model.nets)) p.model.types) _ b.1 in
+    let d = and_true (in_range 0 32 (length p.model.moves)) _ c.1 in
+    let e = and_true (every (right_sides (places p.model)) p.model.moves) _ d.1 in
+    let f = and_true (every right_net p.model.nets) _ e.1 in
+    let g = and_true (in_range 0 64 (length p.model.events)) _ f.1 in
+    record { header = t.0; nets-few = a.0; places-few = b.0; types = c.0; moves-few = d.0; moves = e.0; nets = f.0; events-few = g.0; events = g.1 }
 
 -- and from them
-pub is_right : (m : Model) → Right m → right_model m ≡ true
-unfolding right_model
-is_right m r = rw (r.nets-few, r.places-few, r.types, r.moves-few, r.moves, r.nets, r.events-few) r.events
+pub is_right : (p : Plant) → Right p → right_plant p ≡ true
+unfolding right_plant
+is_right p r = rw (r.header, r.nets-few, r.places-few, r.types, r.moves-few, r.moves, r.nets, r.events-few) r.events
 
 -- ---- the parts of a right model, by index
-module _ (m : Model) (right : Right m) where
+module _ (p : Plant) (right : Right p) where
   -- how many nets
-  pub few-nets : length m.nets ≤ 8
-  few-nets = (within-is 0 8 (length m.nets) right.nets-few).1
+  pub few-nets : length p.model.nets ≤ 8
+  few-nets = (within-is 0 8 (length p.model.nets) right.nets-few).1
 
   -- how many places
-  pub few-places : places m ≤ 32
-  few-places = (within-is 1 32 (places m) right.places-few).1
+  pub few-places : places p.model ≤ 32
+  few-places = (within-is 1 32 (places p.model) right.places-few).1
 
   -- how many moves
-  pub few-moves : length m.moves ≤ 32
-  few-moves = (within-is 0 32 (length m.moves) right.moves-few).1
+  pub few-moves : length p.model.moves ≤ 32
+  few-moves = (within-is 0 32 (length p.model.moves) right.moves-few).1
 
   -- how many events
-  pub few-events : length m.events ≤ 64
-  few-events = (within-is 0 64 (length m.events) right.events-few).1
+  pub few-events : length p.model.events ≤ 64
+  few-events = (within-is 0 64 (length p.model.events) right.events-few).1
 
   -- the type of a place
-  pub right_type : (i : ℕ) → i < places m → get_or m.types i 0 ≤ length m.nets
-  right_type i h = leb-true (get_or m.types i 0) (length m.nets) (every-at (λ d. leb d (length m.nets)) m.types i 0 right.types h)
+  pub right_type : (i : ℕ) → i < places p.model → get_or p.model.types i 0 ≤ length p.model.nets
+  right_type i h = leb-true (get_or p.model.types i 0) (length p.model.nets) (every-at (λ d. leb d (length p.model.nets)) p.model.types i 0 right.types h)
 
   -- a move
-  pub right_move_lem : (i : ℕ) → i < length m.moves → right_sides (places m) (get_or m.moves i no_transition) ≡ true
-  right_move_lem i h = every-at (right_sides (places m)) m.moves i no_transition right.moves h
+  pub right_move_lem : (i : ℕ) → i < length p.model.moves → right_sides (places p.model) (get_or p.model.moves i no_transition) ≡ true
+  right_move_lem i h = every-at (right_sides (places p.model)) p.model.moves i no_transition right.moves h
 
   -- a net
-  pub right_net_lem : (i : ℕ) → i < length m.nets → right_net (get_or m.nets i no_net) ≡ true
-  right_net_lem i h = every-at right_net m.nets i no_net right.nets h
+  pub right_net_lem : (i : ℕ) → i < length p.model.nets → right_net (get_or p.model.nets i no_net) ≡ true
+  right_net_lem i h = every-at right_net p.model.nets i no_net right.nets h
 
   -- an event
-  pub right_event_lem : (i : ℕ) → i < length m.events → RightEvent (frame_of m) (get_or m.events i no_event)
+  pub right_event_lem : (i : ℕ) → i < length p.model.events → RightEvent (frame_of p) (get_or p.model.events i no_event)
   right_event_lem i h =
-      event-is (frame_of m) (get_or m.events i no_event) (every-at (right_event (frame_of m)) m.events i no_event right.events h)
+      event-is (frame_of p) (get_or p.model.events i no_event) (every-at (right_event (frame_of p)) p.model.events i no_event right.events h)
 
   -- how many transitions a net has
-  pub few-steps : (i : ℕ) → i < length m.nets → (frame_of m).steps i ≤ 32
-  few-steps i h = (within-is 0 32 ((frame_of m).steps i) (net-is (get_or m.nets i no_net) (right_net_lem i h)).few).1
+  pub few-steps : (i : ℕ) → i < length p.model.nets → (frame_of p).steps i ≤ 32
+  few-steps i h = (within-is 0 32 ((frame_of p).steps i) (net-is (get_or p.model.nets i no_net) (right_net_lem i h)).few).1

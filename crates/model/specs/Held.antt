@@ -5,6 +5,7 @@ use Rattle.std.proofs.Math.Option.{Option, none, some}
 use Rattle.text.specs.Repeat.{fill}
 use Rattle.text.specs.Answers.{padded}
 use Rattle.eos.specs.Model as eos
+use Rattle.model.specs.Rules.{Plant}
 use Rattle.model.specs.Acts.{kind_of, index_of, act_of}
 use Rattle.model.specs.declared.ObjectNet.{ObjectNet}
 use Rattle.model.specs.declared.Event.{Event}
@@ -57,22 +58,24 @@ hold_nets l = fill (put_at hold_net) 0 l (replicate 8 no_net)
 unfoldable pub hold_events : List eos.Event → List Event
 hold_events l = fill (put_at hold_event) 0 l (replicate 64 no_event)
 
-unfoldable pub hold_model : eos.Model → Model
-hold_model m = record {
-  nets = length m.nets;
-  places = length m.types;
-  moves = length m.moves;
-  listed = length m.events;
-  types = padded m.types;
-  pre = tabled pre_of 32 m.moves;
-  post = tabled post_of 32 m.moves;
-  objects = hold_nets m.nets;
-  events = hold_events m.events;
+unfoldable pub hold_plant : Plant → Model
+hold_plant p = record {
+  header = p.header;
+  nets = length p.model.nets;
+  places = length p.model.types;
+  moves = length p.model.moves;
+  listed = length p.model.events;
+  types = padded p.model.types;
+  pre = tabled pre_of 32 p.model.moves;
+  post = tabled post_of 32 p.model.moves;
+  objects = hold_nets p.model.nets;
+  events = hold_events p.model.events;
 }
 
--- the empty model: no places
+-- the empty model: no header, and no places
 abbrev pub no_model : Model
 no_model = record {
+  header = 0;
   nets = 0;
   places = 0;
   moves = 0;
@@ -146,3 +149,7 @@ model_of m = record {
   nets = listed (λ i. net_of (get_or m.objects i no_net)) 0 m.nets;
   events = listed (λ i. event_of m.nets m.objects (get_or m.events i no_event)) 0 m.listed;
 }
+
+-- with its header
+abbrev pub plant_of : Model → Plant
+plant_of m = record { header = m.header; model = model_of m }

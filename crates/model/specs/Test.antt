@@ -31,10 +31,12 @@ used_in n width i = cond (ltb i n) (width i) 0
 abbrev pub used_of : ℕ → ℕ → ℕ → ℕ
 used_of n width i = cond (ltb i n) width 0
 
--- ---- places and moves
+-- ---- header, places and moves
 
-abbrev pub counts_are : ℕ → ℕ → ℕ → ℕ → Bool
-counts_are nets places moves listed = in_range 0 8 nets && (in_range 1 32 places && (in_range 0 32 moves && in_range 0 64 listed))
+-- the header, and how many there are of each
+abbrev pub counts_are : ℕ → ℕ → ℕ → ℕ → ℕ → Bool
+counts_are header nets places moves listed =
+    in_range 1 2 header && (in_range 0 8 nets && (in_range 1 32 places && (in_range 0 32 moves && in_range 0 64 listed)))
 
 abbrev pub type_at : ℕ → ℕ → List ℕ → ℕ → Bool
 type_at nets places types p = cond (ltb p places) (leb (nth types p) nets) (eqb (nth types p) 0)
@@ -69,6 +71,7 @@ held_nets m = all_below 8 (net_at m.nets m.objects)
 -- what the events of a held model depend on
 abbrev pub frame_in : Model → Frame
 frame_in m = record {
+  alone = eqb m.header 2;
   places = m.places;
   moves = m.moves;
   nets = m.nets;
@@ -77,12 +80,12 @@ frame_in m = record {
 }
 
 -- the same from its numbers
-abbrev pub framed : ℕ → ℕ → ℕ → List ℕ → List ℕ → Frame
-framed places moves nets types steps = record { places = places; moves = moves; nets = nets; type = nth types; steps = nth steps }
+abbrev pub framed : ℕ → ℕ → ℕ → ℕ → List ℕ → List ℕ → Frame
+framed header places moves nets types steps = record { alone = eqb header 2; places = places; moves = moves; nets = nets; type = nth types; steps = nth steps }
 
 -- the same of a model, how many transitions each net has from a list
 abbrev pub frame_with : Model → List ℕ → Frame
-frame_with m steps = framed m.places m.moves m.nets m.types steps
+frame_with m steps = framed m.header m.places m.moves m.nets m.types steps
 
 -- the counts of net n in an event
 abbrev pub part_at : ℕ → List (List ℕ) → ℕ → Bool
@@ -109,4 +112,4 @@ held_events m = all_below 64 (event_at (frame_in m) m.listed m.events)
 
 unfoldable pub held_model : Model → Bool
 held_model m =
-    counts_are m.nets m.places m.moves m.listed && (held_types m && (held_moves m && (held_nets m && held_events m)))
+    counts_are m.header m.nets m.places m.moves m.listed && (held_types m && (held_moves m && (held_nets m && held_events m)))

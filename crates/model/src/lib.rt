@@ -29,11 +29,13 @@ impl ObjectNet {
     }
 }
 
-// The system net's part of an event: a move, or idling at a place; moves and places are numbered from 0.
+// The system net's part of an event: a move, idling at a place, or idling wherever a rack of a net stands; moves, places and nets are
+// numbered from 0.
 #[derive(Clone, Copy, PartialEq, Eq)]
 pub enum Act {
     Move { index: usize },
     Idle { place: usize },
+    Alone { net: usize },
 }
 
 impl Act {
@@ -46,12 +48,15 @@ impl Act {
         if kind < Event::IDLE {
             return Act::Move { index: number };
         }
-        Act::Idle { place: number }
+        if kind == Event::IDLE {
+            return Act::Idle { place: number };
+        }
+        Act::Alone { net: number }
     }
 }
 
-// An event: of kind 1 a move, of kind 2 idling at a place; the index is the move's or the place's number, from 1. A caller in C may store
-// any byte as either. A row of counts for each net. Unused room is 0.
+// An event: of kind 1 a move, of kind 2 idling at a place, of kind 3 idling wherever a rack of a net stands; the index is the move's, the
+// place's or the net's number, from 1. A caller in C may store any byte as either. A row of counts for each net. Unused room is 0.
 #[repr(C)]
 #[derive(Clone, Copy)]
 pub struct Event {
@@ -64,6 +69,8 @@ impl Event {
     pub const MOVE: u8 = 1;
 
     pub const IDLE: u8 = 2;
+
+    pub const ALONE: u8 = 3;
 
     // An event of an act.
     pub fn new(act: Act, sync: [[u8; 32]; 8]) -> Event
@@ -82,6 +89,11 @@ impl Event {
                 index: place as u8 + 1,
                 sync,
             },
+            Act::Alone { net } => Event {
+                kind: Event::ALONE,
+                index: net as u8 + 1,
+                sync,
+            },
         }
     }
 
@@ -96,7 +108,8 @@ impl Event {
     pub fn is_act(&self) -> bool
         ensures { result ≡ is_act self.now.kind self.now.index }
     {
-        (self.kind == Event::MOVE || self.kind == Event::IDLE) && self.index != 0
+        (self.kind == Event::MOVE || self.kind == Event::IDLE || self.kind == Event::ALONE)
+            && self.index != 0
     }
 
     pub fn empty() -> Event
@@ -110,11 +123,12 @@ impl Event {
     }
 }
 
-// The held model; a row of arcs for each move. Unused room is 0. It is laid out for C, in arrays of fixed room with their counts beside them; C may
+// The held model, with the number of its file's header; a row of arcs for each move. Unused room is 0. It is laid out for C, in arrays of fixed room with their counts beside them; C may
 // store any.
 #[repr(C)]
 #[derive(Clone, Copy)]
 pub struct Model {
+    pub header: usize,
     pub nets: usize,
     pub places: usize,
     pub moves: usize,
@@ -127,6 +141,11 @@ pub struct Model {
 }
 
 impl Model {
+    // The headers: with the first, events idle at places; with the second, they idle alone.
+    pub const WITH_IDLE: usize = 1;
+
+    pub const WITH_ALONE: usize = 2;
+
     // 01's limits.
     pub const NETS: u16 = 8;
 
@@ -157,13 +176,14 @@ impl Model {
     // The bytes of the longest text that is read.
     pub const LONGEST: usize = 1048576;
 
-    // The empty model: no places.
+    // The empty model: no header, and no places.
     pub fn empty() -> Model
         ensures { result ≡ no_model }
     {
         let net = ObjectNet::empty();
         let event = Event::empty();
         Model {
+            header: 0,
             nets: 0,
             places: 0,
             moves: 0,

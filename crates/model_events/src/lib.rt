@@ -8,7 +8,7 @@ ghost use Rattle.text.specs.Answers.{kept, padded};
 ghost use Rattle.text_reader.specs.Place.{Reads, lent};
 ghost use Rattle.model.specs.Held.{row, tabled, hold_event, no_event, no_net};
 ghost use Rattle.model.specs.Test.{frame_in};
-ghost use Rattle.model_text.specs.Reading.{read_act, read_sync, read_event};
+ghost use Rattle.model_text.specs.Reading.{read_act_line, read_act, read_sync, read_event};
 ghost use Rattle.model_text.specs.Answers.{Fitting, hold_act, with_events};
 
 use model::{Act, Event, Model, ObjectNet};
@@ -34,23 +34,37 @@ struct Frame<'a> {
 }
 
 impl Frame<'_> {
-    // The first line of an event: a move, or a place that is no place of black tokens.
+    // The first line of an event, by the header: of a move, or of a net or a place.
+    fn act_line(&self, r: &mut Reader) -> Result<Keyed, Fault>
+        ensures { Reads (read_act_line (frame_in self.now.model.now) r.old.src.now r.old.at) r.old r.new result }
+    {
+        let m = self.model;
+        // At most 32 moves, 8 nets and 32 places: there is no refusal to hand on.
+        if m.header == Model::WITH_ALONE {
+            return r.keyed(b"event=", m.moves as u16, b"alone=", m.nets as u16);
+        }
+        r.keyed(b"event=", m.moves as u16, b"idle=", m.places as u16)
+    }
+
+    // What it says: a move, a net, or a place that is no place of black tokens.
     fn act(&self, r: &mut Reader) -> Result<Act, Fault>
         ensures { Reads (kept hold_act (read_act (frame_in self.now.model.now) r.old.src.now r.old.at)) r.old r.new result }
     {
         let m = self.model;
         let line = r.at;
-        // At most 32 moves, and as many places: there is no refusal to hand on.
-        match r.keyed(b"event=", m.moves as u16, b"idle=", m.places as u16)? {
+        match self.act_line(r)? {
             Keyed::Former(number) => Ok(Act::Move {
                 index: usize::from(number) - 1,
             }),
             Keyed::Latter(number) => {
-                let place = usize::from(number) - 1;
-                if m.types[place] == 0 {
+                let index = usize::from(number) - 1;
+                if m.header == Model::WITH_ALONE {
+                    return Ok(Act::Alone { net: index });
+                }
+                if m.types[index] == 0 {
                     return Err(fault_at(Cause::Idling, line, line));
                 }
-                Ok(Act::Idle { place })
+                Ok(Act::Idle { place: index })
             }
         }
     }

@@ -4,7 +4,7 @@
 ghost use Rattle.std.specs.Prelude.{◌≡◌, ◌≤◌, OnErr};
 ghost use Rattle.text.specs.Answers.{kept};
 ghost use Rattle.text_reader.specs.Place.{Reads, lent};
-ghost use Rattle.model.specs.Held.{no_model, hold_model};
+ghost use Rattle.model.specs.Held.{no_model, hold_plant};
 ghost use Rattle.model_text.specs.Reading.{read_plant};
 ghost use Rattle.model_text.specs.Parts.{read_outline, read_system};
 ghost use Rattle.model_text.specs.Answers.{hold_outline, with_system};
@@ -20,11 +20,12 @@ use text_reader::Reader;
 fn outline(r: &mut Reader) -> Result<Outline, Fault>
     ensures { Reads (kept hold_outline (read_outline r.old.src.now r.old.at)) r.old r.new result }
 {
-    r.head(b"eos=1\n")?;
+    let header = usize::from(r.heads(b"eos=1\n", b"eos=2\n")?);
     let nets = r.number(b"nets=", 0, Model::NETS)?;
     let places = usize::from(r.number(b"places=", 1, Model::PLACES)?);
     let types = r.list(b"type=", places, nets)?;
     Ok(Outline {
+        header,
         nets: usize::from(nets),
         places,
         types,
@@ -47,9 +48,10 @@ fn system(r: &mut Reader, m: &mut Model) -> Result<(), Fault>
 
 // The lines of a model, in order, into the model lent, whatever stands there: the first that is refused ends the reading.
 fn plant(r: &mut Reader, m: &mut Model) -> Result<(), Fault>
-    ensures { Reads (kept hold_model (read_plant r.old.src.now r.old.at)) r.old r.new (lent m.new result) }
+    ensures { Reads (kept hold_plant (read_plant r.old.src.now r.old.at)) r.old r.new (lent m.new result) }
 {
     let outline = outline(r)?;
+    m.header = outline.header;
     m.nets = outline.nets;
     m.places = outline.places;
     m.types = outline.types;
@@ -61,7 +63,7 @@ fn plant(r: &mut Reader, m: &mut Model) -> Result<(), Fault>
 
 // The lines of a model into the model lent, in fixed memory, where it is not copied; the empty model where one of them is refused.
 pub fn read_plant(r: &mut Reader, m: &mut Model) -> Result<(), Fault>
-    ensures read { Reads (kept hold_model (read_plant r.old.src.now r.old.at)) r.old r.new (lent m.new result) }
+    ensures read { Reads (kept hold_plant (read_plant r.old.src.now r.old.at)) r.old r.new (lent m.new result) }
     ensures refused { OnErr result (m.new ≡ no_model) }
 {
     let read = plant(r, m);

@@ -147,7 +147,7 @@ impl Frame<'_> {
         ensures { result ≡ held_event (frame_with self.now.model.now self.now.steps) e.now }
     {
         let m = self.model;
-        act_held(m.places, m.moves, &m.types, e)
+        act_held(m, e)
             && (empty_past(&e.sync, m.nets, &self.steps)
                 && parts_held(own_net(&m.types, e.act()), m.nets, &e.sync))
     }
@@ -175,12 +175,13 @@ impl Frame<'_> {
 }
 
 fn counts_held(m: &Model) -> bool
-    ensures { result ≡ counts_are m.now.nets m.now.places m.now.moves m.now.listed }
+    ensures { result ≡ counts_are m.now.header m.now.nets m.now.places m.now.moves m.now.listed }
 {
-    in_range(0, usize::from(Model::NETS), m.nets)
-        && (in_range(1, usize::from(Model::PLACES), m.places)
-            && (in_range(0, usize::from(Model::MOVES), m.moves)
-                && in_range(0, usize::from(Model::EVENTS), m.listed)))
+    in_range(Model::WITH_IDLE, Model::WITH_ALONE, m.header)
+        && (in_range(0, usize::from(Model::NETS), m.nets)
+            && (in_range(1, usize::from(Model::PLACES), m.places)
+                && (in_range(0, usize::from(Model::MOVES), m.moves)
+                    && in_range(0, usize::from(Model::EVENTS), m.listed))))
 }
 
 // Whether m is held as a model is.

@@ -4,13 +4,12 @@ use mathlib.Core.Path.{◌≡◌, refl}
 use borrow.Author.Tests.{le-leb}
 use Rattle.std.specs.Prelude.{Result}
 use Rattle.std.specs.declared.result.Result.TheVariants.{Ok, Err}
-use mathlib.Core.Bool.{true}
+use mathlib.Core.Bool.{Bool, true, false, cond}
 use native.Mathlib.Omega.{arith}
 use native.Mathlib.Numerals.{sub-one}
-use Rattle.text.specs.Bytes.{Text, bytes}
+use Rattle.text.specs.Bytes.{Text}
 use Rattle.text.proofs.TestLaws.{within-is}
 use Rattle.text.specs.Lines.{Outcome, got, fault, need, in_range}
-use Rattle.text.specs.Keyed.{read_keyed}
 use Rattle.text.specs.declared.Keyed.{Keyed}
 use Rattle.text.specs.declared.Keyed.TheVariants.{Former, Latter}
 use Rattle.text.specs.Answers.{kept}
@@ -21,39 +20,48 @@ use Rattle.text_reader.specs.declared.Reader.{Reader}
 use Rattle.text_reader.proofs.ReadsLaws.{itself, plainly, read_of, first_refused, followed, passes, fails}
 use Rattle.text.proofs.Exactly.{then-got, need-got, got-is}
 use Rattle.text.specs.declared.Cause.TheVariants.{Idling}
-use Rattle.eos.specs.Model.{Act, move, idle}
+use Rattle.eos.specs.Model.{Act, move, idle, alone}
 use Rattle.model.specs.Rules.{Frame}
 use Rattle.model.specs.Acts.{index_of}
 use Rattle.model.specs.declared.Act as held
-use Rattle.model.specs.declared.Act.TheVariants.{Move, Idle}
+use Rattle.model.specs.declared.Act.TheVariants.{Move, Idle, Alone}
 use Rattle.model_text.specs.Answers.{hold_act}
-use Rattle.model_text.specs.Reading.{act_of_line, idles_well, read_act}
+use Rattle.model_text.specs.Reading.{idle_most, act_of_line, idles_well, read_act_line, read_act}
 use Rattle.model_text.proofs.EventExactly.{act_ranged, act_line}
 
 few : (n k : ℕ) → n ≤ 32 → in_range 1 n k ≡ true → suc (pred k) ≤ 32
 few n k most h = let p = within-is 1 n k h in omega (arith, p.0, p.1, sub-one k)
 
--- an act that is read is of a place or a move of the frame
-module _ (f : Frame) (places : f.places ≤ 32) (moves : f.moves ≤ 32) (s : Text) (at : ℕ) where
-  line-few : (a : Keyed) → act_ranged f s a ≡ true → index_of (act_of_line a) ≤ 32
+-- what the second key names, by the header
+index-latter : (b : Bool) (n : ℕ) → index_of (act_of_line b (Latter n)) ≡ suc (pred n)
+index-latter true n = refl
+index-latter false n = refl
+
+most-few : (b : Bool) (nets places : ℕ) → nets ≤ 32 → places ≤ 32 → cond b nets places ≤ 32
+most-few true nets places n p = n
+most-few false nets places n p = p
+
+-- an act that is read is of a place, a net or a move of the frame
+module _ (f : Frame) (places : f.places ≤ 32) (moves : f.moves ≤ 32) (nets : f.nets ≤ 8) (s : Text) (at : ℕ) where
+  line-few : (a : Keyed) → act_ranged f s a ≡ true → index_of (act_of_line f.alone a) ≤ 32
   line-few (Former k) h = few f.moves k moves h
-  line-few (Latter p) h = few f.places p places h
+  line-few (Latter n) h = rw (index-latter f.alone n) (few (idle_most f) n (most-few f.alone f.nets f.places (omega (arith, nets)) places) h)
 
   pub act-few : (a : Act) (next : ℕ) → read_act f s at ≡ got a next → index_of a ≤ 32
   unfolding read_act
   act-few a next e =
-      let p = then-got (read_keyed (bytes "event=") (bytes "idle=") (in_range 1 f.moves) (in_range 1 f.places) s at) _ a next e in
-      let q = need-got (idles_well f p.value) Idling at (got (act_of_line p.value) p.next) a next p.rest in
+      let p = then-got (read_act_line f s at) _ a next e in
+      let q = need-got (idles_well f p.value) Idling at (got (act_of_line f.alone p.value) p.next) a next p.rest in
       rw (← (got-is q.1).0) (line-few p.value ((act_line f s).back at p.value p.next p.first).fine-is)
 
 -- ---- the line read
 
 module _ (f : Frame) (old : Reader) where
   abbrev pub line : Outcome Keyed
-  line = read_keyed (bytes "event=") (bytes "idle=") (in_range 1 f.moves) (in_range 1 f.places) old.src.now old.at
+  line = read_act_line f old.src.now old.at
 
   abbrev judge : Keyed → ℕ → Outcome Act
-  judge a x = need (idles_well f a) Idling old.at (got (act_of_line a) x)
+  judge a x = need (idles_well f a) Idling old.at (got (act_of_line f.alone a) x)
 
   abbrev whole : Outcome Act
   whole = read_act f old.src.now old.at
@@ -79,16 +87,23 @@ module _ (f : Frame) (old : Reader) where
       pub move_read : Reads (kept hold_act whole) old new (Ok (Move (k - 1)))
       move_read = judged (Former k) read _ (rw (sub-one k) (passes hold_act (judge (Former k) new.at) (move (pred k)) (need_met _ _ _ _ refl) refl))
 
-    -- the line of a place, which is one of the model's
-    module _ (p : ℕ) (read : Reads line old new (Ok (Latter p))) where
-      pub idle_in : (1 ≤ p) × (p ≤ f.places)
-      idle_in = within-is 1 f.places p (ranged (Latter p) read)
+    -- the other line, of one of the nets or of the places of the model
+    module _ (n : ℕ) (read : Reads line old new (Ok (Latter n))) where
+      pub idle_in : (1 ≤ n) × (n ≤ idle_most f)
+      idle_in = within-is 1 (idle_most f) n (ranged (Latter n) read)
 
-      pub idle_black : f.type (p - 1) ≡ 0 → Reads (kept hold_act whole) old new (Err (fault Idling old.at))
-      idle_black h = judged (Latter p) read _ (fails hold_act _ _ (need_unmet _ _ _ _ (rw (← sub-one p, h) refl)) refl)
+      pub alone_read : f.alone ≡ true → Reads (kept hold_act whole) old new (Ok (Alone (n - 1)))
+      alone_read b =
+          judged (Latter n) read _
+          (rw (sub-one n) (passes hold_act (judge (Latter n) new.at) (alone (pred n)) (rw b (need_met _ _ _ _ refl)) refl))
 
-      pub idle_read : (f.type (p - 1) ≡ 0 → ⊥) → Reads (kept hold_act whole) old new (Ok (Idle (p - 1)))
-      idle_read h =
-          judged (Latter p) read _
-          (rw (sub-one p)
-          (passes hold_act (judge (Latter p) new.at) (idle (pred p)) (need_met _ _ _ _ (le-leb 1 (f.type (pred p)) (omega (arith, rw (sub-one p) at h)))) refl))
+      module _ (b : f.alone ≡ false) where
+        pub idle_black : f.type (n - 1) ≡ 0 → Reads (kept hold_act whole) old new (Err (fault Idling old.at))
+        idle_black h = judged (Latter n) read _ (fails hold_act _ _ (need_unmet _ _ _ _ (rw (b, ← sub-one n, h) refl)) refl)
+
+        pub idle_read : (f.type (n - 1) ≡ 0 → ⊥) → Reads (kept hold_act whole) old new (Ok (Idle (n - 1)))
+        idle_read h =
+            judged (Latter n) read _
+            (rw (sub-one n)
+            (passes hold_act (judge (Latter n) new.at) (idle (pred n))
+            (rw b (need_met _ _ _ _ (le-leb 1 (f.type (pred n)) (omega (arith, rw (sub-one n) at h))))) refl))

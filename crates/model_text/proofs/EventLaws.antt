@@ -18,7 +18,7 @@ use Rattle.text_reader.specs.Place.{Reads}
 use Rattle.text_reader.specs.declared.Reader.{Reader}
 use Rattle.text_reader.proofs.ReadsLaws.{read_of, refused_of, first_refused, followed, passes, fails}
 use Rattle.text_reader.proofs.LoopLaws.{filling}
-use Rattle.eos.specs.Model.{Act, move, idle, Event}
+use Rattle.eos.specs.Model.{Act, move, idle, alone, Event}
 use Rattle.model.specs.Rules.{byte, Frame, own_net, takes_part}
 use Rattle.model.specs.Acts.{as_act, kind_of, index_of}
 use Rattle.model.specs.Held.{row, tabled, hold_event, put_at, hold_events, no_event}
@@ -66,6 +66,7 @@ module _ (f : Frame) (own n : ℕ) (few : f.steps n ≤ 32) (old : Reader) where
 pub act_again : (a : Act) → as_act (hold_act a) ≡ a
 act_again (move k) = refl
 act_again (idle p) = refl
+act_again (alone n) = refl
 
 module _ (f : Frame) (old : Reader) where
   abbrev first_line : Outcome Act
@@ -86,10 +87,10 @@ module _ (f : Frame) (old : Reader) where
 
   module _ {mid : Reader} (a : code.Act) (first : Reads (kept hold_act first_line) old mid (Ok a)) where
     -- its index is one of 01's
-    pub act_in : f.places ≤ 32 → f.moves ≤ 32 → index_of (as_act a) ≤ 32
-    act_in p m =
+    pub act_in : f.places ≤ 32 → f.moves ≤ 32 → f.nets ≤ 8 → index_of (as_act a) ≤ 32
+    act_in p m n =
         let q = read_of hold_act first_line a first in
-        rw (q.held, act_again q.value) (act-few f p m old.src.now old.at q.value mid.at q.is)
+        rw (q.held, act_again q.value) (act-few f p m n old.src.now old.at q.value mid.at q.is)
 
     module _ (own : ℕ) (owns : own ≡ own_net f.type (as_act a)) where
       abbrev counts : Outcome (List (List ℕ))
@@ -120,6 +121,7 @@ module _ (f : Frame) (old : Reader) where
 
 abbrev pub lay_event : ℕ → held.Event → Model → Model
 lay_event i e m = record {
+  header = m.header;
   nets = m.nets;
   places = m.places;
   moves = m.moves;
@@ -133,6 +135,7 @@ lay_event i e m = record {
 
 abbrev pub with_listed : Model → ℕ → List held.Event → Model
 with_listed m n events = record {
+  header = m.header;
   nets = m.nets;
   places = m.places;
   moves = m.moves;

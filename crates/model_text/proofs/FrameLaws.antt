@@ -4,7 +4,7 @@ use mathlib.Core.Path.{◌≡◌, refl, sym, fun_ext}
 use mathlib.Core.List.{List, [], ◌∷◌}
 use mathlib.Core.Bool.{Bool, true}
 use native.Mathlib.Omega.{arith}
-use lib.Dec.{leb}
+use lib.Dec.{leb, eqb}
 use borrow.Author.Tests.{leb-true}
 use lib.ListN.{length, get_or}
 use Rattle.text.specs.Lines.{every}
@@ -34,18 +34,19 @@ module _ (l : List eos.ObjectNet) (eight : length l ≤ 8) (few : every (λ m. l
 
 -- ---- the frame
 
-frame_same : (p q k n m : ℕ) (t u x y : ℕ → ℕ) → p ≡ q → n ≡ m → t ≡ u → x ≡ y
-    → ◌≡◌ {A = Frame} (record { places = p; moves = k; nets = n; type = t; steps = x }) (record { places = q; moves = k; nets = m; type = u; steps = y })
-frame_same p q k n m t u x y a b c d = rw (a, b, c, d)
+frame_same : (h : Bool) (p q k n m : ℕ) (t u x y : ℕ → ℕ) → p ≡ q → n ≡ m → t ≡ u → x ≡ y
+    → ◌≡◌ {A = Frame} (record { alone = h; places = p; moves = k; nets = n; type = t; steps = x })
+    (record { alone = h; places = q; moves = k; nets = m; type = u; steps = y })
+frame_same h p q k n m t u x y a b c d = rw (a, b, c, d)
 
-module _ (types : List ℕ) (places : ℕ) (long : length types ≡ places) (few : places ≤ 32) where
+module _ (header : ℕ) (types : List ℕ) (places : ℕ) (long : length types ≡ places) (few : places ≤ 32) where
   types-nth : nth (padded types) ≡ nth types
   types-nth = fun_ext (nth-padded types (omega (arith, long, few)))
 
   pub frame_is : (moves : List eos.Transition) (l : List eos.ObjectNet) (nets : ℕ) → length l ≡ nets → nets ≤ 8
-      → record { places = places; moves = length moves; nets = nets; type = nth (padded types); steps = λ n. (get_or (hold_nets l) n no_net).transitions }
-      ≡ frame_of (eventless types moves l)
+      → record { alone = eqb header 2; places = places; moves = length moves; nets = nets; type = nth (padded types); steps = λ n. (get_or (hold_nets l) n no_net).transitions }
+      ≡ frame_of (eventless header types moves l)
   frame_is moves l nets many eight =
-      frame_same places (length types) (length moves) nets (length l) (nth (padded types)) (nth types)
+      frame_same (eqb header 2) places (length types) (length moves) nets (length l) (nth (padded types)) (nth types)
       (λ n. (get_or (hold_nets l) n no_net).transitions) (λ n. step_of (get_or l n eos.no_net))
       (sym long) (sym many) types-nth (fun_ext λ i. steps-at l i (omega (arith, many, eight)))

@@ -20,7 +20,7 @@ use native.Mathlib.Omega.{arith}
 use lib.Dec.{leb}
 use lib.ListN.{length}
 use Rattle.text.specs.Bytes.{Text, bytes}
-use Rattle.text.specs.Lines.{Outcome, got, then, many, in_range, every, read_number, read_list, read_head}
+use Rattle.text.specs.Lines.{Outcome, got, then, many, in_range, every, read_number, read_list, read_heads}
 use Rattle.text.proofs.Exactly.{then-got, got-is}
 use Rattle.eos.specs.Model.{Transition, ObjectNet}
 use Rattle.model_text.specs.Reading.{read_sides, read_net}
@@ -38,7 +38,7 @@ pub record Sound (o : parts.Outline) : Type 0 where
 pub outline_sound : (s : Text) (at : ℕ) (o : parts.Outline) (next : ℕ) → read_outline s at ≡ got o next → Sound o
 unfolding read_outline
 outline_sound s at o next e =
-    let a = then-got (read_head (bytes "eos=1\n") s at) _ o next e in
+    let a = then-got (read_heads (bytes "eos=1\n") (bytes "eos=2\n") s at) _ o next e in
     let b = then-got (read_number (bytes "nets=") (in_range 0 8) s a.next) _ o next a.rest in
     let c = then-got (read_number (bytes "places=") (in_range 1 32) s b.next) _ o next b.rest in
     let d = then-got (read_list (bytes "type=") c.value (λ d. leb d b.value) s c.next) _ o next c.rest in
@@ -72,21 +72,21 @@ system_bounded nets places s at y next e =
 
 -- ---- the lines of an outline
 
-abbrev make_outline : ℕ → ℕ → List ℕ → ℕ → Outcome parts.Outline
-make_outline n p types x₄ = got (record { nets = n; places = p; types = types }) x₄
+abbrev make_outline : ℕ → ℕ → ℕ → List ℕ → ℕ → Outcome parts.Outline
+make_outline h n p types x₄ = got (record { header = h; nets = n; places = p; types = types }) x₄
 
-abbrev behind_places : ℕ → Text → ℕ → ℕ → Outcome parts.Outline
-behind_places n s p x₃ = then (read_list (bytes "type=") p (λ d. leb d n) s x₃) (make_outline n p)
+abbrev behind_places : ℕ → ℕ → Text → ℕ → ℕ → Outcome parts.Outline
+behind_places h n s p x₃ = then (read_list (bytes "type=") p (λ d. leb d n) s x₃) (make_outline h n p)
 
-abbrev behind_nets : Text → ℕ → ℕ → Outcome parts.Outline
-behind_nets s n x₂ = then (read_number (bytes "places=") (in_range 1 32) s x₂) (behind_places n s)
+abbrev behind_nets : ℕ → Text → ℕ → ℕ → Outcome parts.Outline
+behind_nets h s n x₂ = then (read_number (bytes "places=") (in_range 1 32) s x₂) (behind_places h n s)
 
-abbrev behind_head : Text → Unit {0} → ℕ → Outcome parts.Outline
-behind_head s t x₁ = then (read_number (bytes "nets=") (in_range 0 8) s x₁) (behind_nets s)
+abbrev behind_head : Text → ℕ → ℕ → Outcome parts.Outline
+behind_head s h x₁ = then (read_number (bytes "nets=") (in_range 0 8) s x₁) (behind_nets h s)
 
 module _ (old : Reader) where
-  abbrev head_line : Outcome (Unit {0})
-  head_line = read_head (bytes "eos=1\n") old.src.now old.at
+  abbrev head_line : Outcome ℕ
+  head_line = read_heads (bytes "eos=1\n") (bytes "eos=2\n") old.src.now old.at
 
   abbrev outline : Outcome parts.Outline
   outline = read_outline old.src.now old.at
@@ -95,16 +95,16 @@ module _ (old : Reader) where
   unfolding read_outline
   head_refused e k = first_refused itself hold_outline head_line behind_head e (plainly k)
 
-  module _ {a : Reader} (first : Reads head_line old a (Ok tt)) where
+  module _ {a : Reader} (h : ℕ) (first : Reads head_line old a (Ok h)) where
     abbrev nets_line : Outcome ℕ
     nets_line = read_number (bytes "nets=") (in_range 0 8) a.src.now a.at
 
-    at_head : {new : Reader} (r : Result Outline Fault) → Reads (kept hold_outline (behind_head a.src.now tt a.at)) a new r → Reads (kept hold_outline outline) old new r
+    at_head : {new : Reader} (r : Result Outline Fault) → Reads (kept hold_outline (behind_head a.src.now h a.at)) a new r → Reads (kept hold_outline outline) old new r
     unfolding read_outline
-    at_head r k = followed itself hold_outline head_line behind_head tt r (plainly first) (λ v is same. k)
+    at_head r k = followed itself hold_outline head_line behind_head h r (plainly first) (λ v is same. rw (← same) k)
 
     pub nets_refused : {new : Reader} (e : Fault) → Reads nets_line a new (Err e) → Reads (kept hold_outline outline) old new (Err e)
-    nets_refused e k = at_head (Err e) (first_refused itself hold_outline nets_line behind_nets e (plainly k))
+    nets_refused e k = at_head (Err e) (first_refused itself hold_outline nets_line (behind_nets h) e (plainly k))
 
     module _ {b : Reader} (n : ℕ) (second : Reads nets_line a b (Ok n)) where
       abbrev places_line : Outcome ℕ
@@ -113,28 +113,28 @@ module _ (old : Reader) where
       pub nets_few : n ≤ 8
       nets_few = let q = read_of itself nets_line n (plainly second) in omega (arith, q.held, (number_in (bytes "nets=") 0 8 a.src.now a.at q.value b.at q.is).1)
 
-      at_nets : {new : Reader} (r : Result Outline Fault) → Reads (kept hold_outline (behind_nets b.src.now n b.at)) b new r → Reads (kept hold_outline outline) old new r
-      at_nets r k = at_head r (followed itself hold_outline nets_line behind_nets n r (plainly second) (λ v is same. rw (← same) k))
+      at_nets : {new : Reader} (r : Result Outline Fault) → Reads (kept hold_outline (behind_nets h b.src.now n b.at)) b new r → Reads (kept hold_outline outline) old new r
+      at_nets r k = at_head r (followed itself hold_outline nets_line (behind_nets h) n r (plainly second) (λ v is same. rw (← same) k))
 
       pub places_refused : {new : Reader} (e : Fault) → Reads places_line b new (Err e) → Reads (kept hold_outline outline) old new (Err e)
-      places_refused e k = at_nets (Err e) (first_refused itself hold_outline places_line (behind_places n) e (plainly k))
+      places_refused e k = at_nets (Err e) (first_refused itself hold_outline places_line (behind_places h n) e (plainly k))
 
       module _ {c : Reader} (p : ℕ) (third : Reads places_line b c (Ok p)) where
         abbrev types_line : Outcome (List ℕ)
         types_line = read_list (bytes "type=") p (λ d. leb d n) c.src.now c.at
 
-        at_places : {new : Reader} (r : Result Outline Fault) → Reads (kept hold_outline (behind_places n c.src.now p c.at)) c new r → Reads (kept hold_outline outline) old new r
-        at_places r k = at_nets r (followed itself hold_outline places_line (behind_places n) p r (plainly third) (λ v is same. rw (← same) k))
+        at_places : {new : Reader} (r : Result Outline Fault) → Reads (kept hold_outline (behind_places h n c.src.now p c.at)) c new r → Reads (kept hold_outline outline) old new r
+        at_places r k = at_nets r (followed itself hold_outline places_line (behind_places h n) p r (plainly third) (λ v is same. rw (← same) k))
 
         pub types_refused : {new : Reader} (e : Fault) → Reads (kept padded types_line) c new (Err e) → Reads (kept hold_outline outline) old new (Err e)
-        types_refused e k = at_places (Err e) (first_refused padded hold_outline types_line (λ _. make_outline n p) e k)
+        types_refused e k = at_places (Err e) (first_refused padded hold_outline types_line (λ _. make_outline h n p) e k)
 
         pub outline_read : {new : Reader} (types : List ℕ) → Reads (kept padded types_line) c new (Ok types)
-            → Reads (kept hold_outline outline) old new (Ok (record { nets = n; places = p; types = types }))
+            → Reads (kept hold_outline outline) old new (Ok (record { header = h; nets = n; places = p; types = types }))
         outline_read {new} types k =
             at_places _
-            (followed padded hold_outline types_line (λ _. make_outline n p) types _ k
-            (λ l is held. rw held (passes hold_outline (make_outline n p l new.at) (record { nets = n; places = p; types = l }) refl refl)))
+            (followed padded hold_outline types_line (λ _. make_outline h n p) types _ k
+            (λ l is held. rw held (passes hold_outline (make_outline h n p l new.at) (record { header = h; nets = n; places = p; types = l }) refl refl)))
 
 -- ---- the lines of a system
 
@@ -189,6 +189,7 @@ module _ (m : Model) (old : Reader) where
 
       pub system_read : {new : Reader} (objects : List held.ObjectNet) → Reads (kept hold_nets objects_lines) b new (Ok objects)
           → Reads (kept (with_system m) system) old new (Ok (record {
+            header = m.header;
             nets = m.nets;
             places = m.places;
             moves = k;

@@ -2,10 +2,10 @@
 use Rattle.std.specs.Prelude.{ℕ, ◌≤◌, List, length, get_or}
 use Rattle.text.specs.Answers.{padded}
 use Rattle.eos.specs.Model as eos
-use Rattle.eos.specs.Model.{move, idle}
+use Rattle.eos.specs.Model.{move, idle, alone}
 use Rattle.model.specs.Held.{pre_of, post_of, tabled, hold_nets, no_net, hold_events}
 use Rattle.model.specs.declared.Act.{Act}
-use Rattle.model.specs.declared.Act.TheVariants.{Move, Idle}
+use Rattle.model.specs.declared.Act.TheVariants.{Move, Idle, Alone}
 use Rattle.model.specs.declared.Model.{Model}
 use Rattle.model_text.specs.Parts as parts
 use Rattle.model_text.specs.declared.Sides.{Sides}
@@ -20,13 +20,15 @@ hold_tables ts = record { pre = tabled pre_of 32 ts; post = tabled post_of 32 ts
 abbrev pub hold_act : eos.Act → Act
 hold_act (move k) = Move k
 hold_act (idle p) = Idle p
+hold_act (alone n) = Alone n
 
 abbrev pub hold_outline : parts.Outline → Outline
-hold_outline a = record { nets = a.nets; places = a.places; types = padded a.types }
+hold_outline a = record { header = a.header; nets = a.nets; places = a.places; types = padded a.types }
 
 -- a model with the moves and the object nets that are read
 abbrev pub with_system : Model → parts.System → Model
 with_system m y = record {
+  header = m.header;
   nets = m.nets;
   places = m.places;
   moves = length y.moves;
@@ -41,6 +43,7 @@ with_system m y = record {
 -- a model with the events that are read
 abbrev pub with_events : Model → List eos.Event → Model
 with_events m l = record {
+  header = m.header;
   nets = m.nets;
   places = m.places;
   moves = m.moves;

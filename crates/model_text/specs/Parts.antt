@@ -1,12 +1,13 @@
 -- The reading of a model in three parts, as the code goes: its outline, its moves and object nets, its events.
 use Rattle.std.specs.Prelude.{ℕ, List, leb}
 use Rattle.text.specs.Bytes.{Text, bytes}
-use Rattle.text.specs.Lines.{Outcome, got, then, many, in_range, read_number, read_list, read_head}
+use Rattle.text.specs.Lines.{Outcome, got, then, many, in_range, read_number, read_list, read_heads}
 use Rattle.eos.specs.Model.{Transition, ObjectNet, Event}
 use Rattle.model.specs.Rules.{Frame}
 use Rattle.model_text.specs.Reading.{read_sides, read_net, read_event}
 
 pub record Outline : Type 0 where
+  pub header : ℕ
   pub nets : ℕ
   pub places : ℕ
   pub types : List ℕ
@@ -18,10 +19,10 @@ pub record System : Type 0 where
 -- the lines from `eos` to `type`
 unfoldable pub read_outline : Text → ℕ → Outcome Outline
 read_outline s at =
-    then (read_head (bytes "eos=1\n") s at) λ _ x₁.
+    then (read_heads (bytes "eos=1\n") (bytes "eos=2\n") s at) λ h x₁.
     then (read_number (bytes "nets=") (in_range 0 8) s x₁) λ n x₂.
     then (read_number (bytes "places=") (in_range 1 32) s x₂) λ p x₃.
-    then (read_list (bytes "type=") p (λ d. leb d n) s x₃) λ types x₄. got (record { nets = n; places = p; types = types }) x₄
+    then (read_list (bytes "type=") p (λ d. leb d n) s x₃) λ types x₄. got (record { header = h; nets = n; places = p; types = types }) x₄
 
 -- the lines from `moves` to the last object net
 unfoldable pub read_system : ℕ → ℕ → Text → ℕ → Outcome System

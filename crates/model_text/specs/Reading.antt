@@ -1,13 +1,13 @@
 -- What a model's text says, up to its `start` line.
-use Rattle.std.specs.Prelude.{ℕ, pred, Bool, true, List, [], leb}
+use Rattle.std.specs.Prelude.{ℕ, pred, Bool, true, false, cond, List, [], leb}
 use Rattle.text.specs.Bytes.{Text, bytes}
-use Rattle.text.specs.Lines.{Outcome, got, then, need, many, in_range, read_number, read_list, read_head}
+use Rattle.text.specs.Lines.{Outcome, got, then, need, many, in_range, read_number, read_list, read_heads}
 use Rattle.text.specs.Keyed.{read_keyed}
 use Rattle.text.specs.Repeat.{many_at}
 use Rattle.text.specs.declared.Keyed.{Keyed}
 use Rattle.text.specs.declared.Keyed.TheVariants.{Former, Latter}
-use Rattle.eos.specs.Model.{Transition, ObjectNet, Act, move, idle, Event, Model}
-use Rattle.model.specs.Rules.{byte, Frame, frame_of, own_net, takes_part}
+use Rattle.eos.specs.Model.{Transition, ObjectNet, Act, move, idle, alone, Event}
+use Rattle.model.specs.Rules.{byte, Plant, under, Frame, frame_of, own_net, takes_part}
 use Rattle.text.specs.declared.Cause.TheVariants.{Idling}
 
 -- the lines `pre` and `post` of a transition between `size` places
@@ -22,21 +22,32 @@ read_net s at =
     then (read_number (bytes "steps=") (in_range 0 32) s x₁) λ n x₂.
     then (many (read_sides size s) n x₂) λ ts x₃. got (record { size = size; transitions = ts }) x₃
 
--- the line `event=` and a move, or `idle=` and a place, both numbered from 1
-abbrev pub act_of_line : Keyed → Act
-act_of_line (Former k) = move (pred k)
-act_of_line (Latter p) = idle (pred p)
+-- the key of the first line of an event that is no move: under header 2 `alone=` and a net, else `idle=` and a place
+abbrev pub idle_key : Bool → Text
+idle_key true = bytes "alone="
+idle_key false = bytes "idle="
+
+-- and how many there are of these
+abbrev pub idle_most : Frame → ℕ
+idle_most f = cond f.alone f.nets f.places
+
+-- the first line of an event, of a move in range, or of a net or a place in range
+abbrev pub read_act_line : Frame → Text → ℕ → Outcome Keyed
+read_act_line f = read_keyed (bytes "event=") (idle_key f.alone) (in_range 1 f.moves) (in_range 1 (idle_most f))
+
+-- what it says; moves, nets and places are numbered from 1 there
+abbrev pub act_of_line : Bool → Keyed → Act
+act_of_line b (Former k) = move (pred k)
+act_of_line b (Latter n) = cond b (alone (pred n)) (idle (pred n))
 
 -- no event idles at a place of black tokens
 abbrev pub idles_well : Frame → Keyed → Bool
 idles_well f (Former k) = true
-idles_well f (Latter p) = leb 1 (f.type (pred p))
+idles_well f (Latter n) = cond f.alone true (leb 1 (f.type (pred n)))
 
--- the line of a move in range, or of a place in range; 5 where the event idles at a place of black tokens
+-- 5 where the event idles at a place of black tokens
 unfoldable pub read_act : Frame → Text → ℕ → Outcome Act
-read_act f s at =
-    then (read_keyed (bytes "event=") (bytes "idle=") (in_range 1 f.moves) (in_range 1 f.places) s at) λ a x.
-    need (idles_well f a) Idling at (got (act_of_line a) x)
+read_act f s at = then (read_act_line f s at) λ a x. need (idles_well f a) Idling at (got (act_of_line f.alone a) x)
 
 -- the counts of net n; 5 where the idling net does not take part, or another does
 unfoldable pub read_sync : Frame → ℕ → Text → ℕ → ℕ → Outcome (List ℕ)
@@ -47,14 +58,18 @@ read_event f s at =
     then (read_act f s at) λ a x₁.
     then (many_at (read_sync f (own_net f.type a) s) 0 f.nets x₁) λ v x₂. got (record { act = a; sync = v }) x₂
 
--- a model that has no events yet
-abbrev pub eventless : List ℕ → List Transition → List ObjectNet → Model
-eventless types moves nets = record { types = types; moves = moves; nets = nets; events = [] }
+-- a model of its parts, with its header
+abbrev pub plant : ℕ → List ℕ → List Transition → List ObjectNet → List Event → Plant
+plant header types moves nets events = under header (record { types = types; moves = moves; nets = nets; events = events })
 
--- the lines from `eos` to the last event
-unfoldable pub read_plant : Text → ℕ → Outcome Model
+-- one that has no events yet
+abbrev pub eventless : ℕ → List ℕ → List Transition → List ObjectNet → Plant
+eventless header types moves nets = plant header types moves nets []
+
+-- the lines from `eos` to the last event; `eos=1` and `eos=2` are the two headers
+unfoldable pub read_plant : Text → ℕ → Outcome Plant
 read_plant s at =
-    then (read_head (bytes "eos=1\n") s at) λ _ x₁.
+    then (read_heads (bytes "eos=1\n") (bytes "eos=2\n") s at) λ h x₁.
     then (read_number (bytes "nets=") (in_range 0 8) s x₁) λ n x₂.
     then (read_number (bytes "places=") (in_range 1 32) s x₂) λ p x₃.
     then (read_list (bytes "type=") p (λ d. leb d n) s x₃) λ types x₄.
@@ -62,5 +77,5 @@ read_plant s at =
     then (many (read_sides p s) k x₅) λ moves x₆.
     then (many (read_net s) n x₆) λ nets x₇.
     then (read_number (bytes "events=") (in_range 0 64) s x₇) λ e x₈.
-    then (many (read_event (frame_of (eventless types moves nets)) s) e x₈) λ events x₉.
-    got (record { types = types; moves = moves; nets = nets; events = events }) x₉
+    then (many (read_event (frame_of (eventless h types moves nets)) s) e x₈) λ events x₉.
+    got (plant h types moves nets events) x₉

@@ -8,9 +8,10 @@ pub struct Sides<T> {
     pub post: T,
 }
 
-// How many object nets and places there are, and the type of each place.
+// The header, how many object nets and places there are, and the type of each place.
 #[derive(Clone, Copy)]
 pub struct Outline {
+    pub header: usize,
     pub nets: usize,
     pub places: usize,
     pub types: [u8; 32],

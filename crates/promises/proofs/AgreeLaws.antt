@@ -17,8 +17,8 @@ use Rattle.eos.specs.Run.{rule_fires, Answer, has_fired, Holdable, Agrees}
 use Rattle.eos.proofs.Basics.{is_true}
 use Rattle.eos.proofs.FiringLaws.{fires_yes, fires_all}
 use Rattle.model.specs.Limits.{longest, line_limit, room_limit, count_limit}
-use Rattle.model.specs.Rules.{right_model}
-use Rattle.model.specs.Held.{hold_model}
+use Rattle.model.specs.Rules.{under, right_plant}
+use Rattle.model.specs.Held.{hold_plant}
 use Rattle.model.specs.Test.{held_model}
 use Rattle.model.specs.declared.Model.{Model}
 use Rattle.model.proofs.HoldModel.{model_of_hold}
@@ -56,12 +56,12 @@ not_fired : (a : Result ℕ StepRefusal) → ((n : ℕ) → a ≡ Ok n → ⊥) 
 not_fired (Ok n) h = absurd (h n refl)
 not_fired (Err e) h = refl
 
-module _ (d : eos.Model) (right : right_model d ≡ true) where
+module _ (header : ℕ) (d : eos.Model) (right : right_plant (under header d) ≡ true) where
   abbrev m : Model
-  m = hold_model d
+  m = hold_plant (under header d)
 
   model-held : held_model m ≡ true
-  model-held = holding.hold_held d right
+  model-held = holding.hold_held (under header d) right
 
   roomy : Roomy (sizes_for m)
   roomy = held_roomy m model-held
@@ -70,7 +70,7 @@ module _ (d : eos.Model) (right : right_model d ≡ true) where
 
   module _ (μ : eos.Marking) (h : Holdable room_limit count_limit d μ) where
     tokens_right : right_block bounds (sizes_for m) μ ≡ true
-    tokens_right = rw (sizes_same d right) (fits_right d μ h.made h.fits)
+    tokens_right = rw (sizes_same _ d right) (fits_right d μ h.made h.fits)
 
     holdable-held : held_both m (hold_marking μ) ≡ true
     unfolding held_in
@@ -90,13 +90,13 @@ module _ (d : eos.Model) (right : right_model d ≡ true) where
       next = (brings_read d s t e).next
 
       brought : Brings m (hold_marking μ) s next
-      unfolding hold_model
+      unfolding hold_plant
       brought =
           let y = fires_yes d t μ f in
           record {
             step = t;
-            read = ap (λ (z : Sizes). read_step bounds z (length d.events) s 0) (sizes_same d right) ∙ brings-bounds d s t e taken given;
-            enabled = rw (model_of_hold d right) y.0;
+            read = ap (λ (z : Sizes). read_step bounds z (length d.events) s 0) (sizes_same _ d right) ∙ brings-bounds d s t e taken given;
+            enabled = rw (model_of_hold (under header d) right) y.0;
             within = rw holdable-tokens y.1;
             room = rw holdable-tokens room;
           }
@@ -113,15 +113,15 @@ module _ (d : eos.Model) (right : right_model d ≡ true) where
 
     module _ (s : Text) (e : rule_fires d (brings d s) μ ≡ false) where
       unfired : (n : ℕ) → (stepping m (hold_marking μ) s).answer ≡ Ok n → ⊥
-      unfolding hold_model
+      unfolding hold_plant
       unfired n a =
           by_test (leb (length s) longest)
           (λ short.
           let b = (fires_exactly m (hold_marking μ) s n holdable-held (leb-true (length s) longest short)).only a in
           let t = b.step in
-          let r = ap (λ (z : Sizes). read_step bounds z (length d.events) s 0) (sym (sizes_same d right)) ∙ b.read in
+          let r = ap (λ (z : Sizes). read_step bounds z (length d.events) s 0) (sym (sizes_same _ d right)) ∙ b.read in
           let o = read_brings d s t (record { short = leb-true (length s) longest short; next = n; is = read_free (sizes_of d) (length d.events) s t n r }) in
-          let f : T (fires d t μ) = fires_all d t μ (rw (model_of_hold d right) at b.enabled) (rw holdable-tokens at b.within) in
+          let f : T (fires d t μ) = fires_all d t μ (rw (model_of_hold (under header d) right) at b.enabled) (rw holdable-tokens at b.within) in
           true≢false (sym (is_true (fires d t μ) f) ∙ rw o at e))
           (λ long. unfired≢fired (ap (λ (r : Stepped). r.answer) (step-long m (hold_marking μ) s (leb-false (length s) longest long)) ∙ a))
 

@@ -8,8 +8,8 @@ use mathlib.Core.Option.{Option, none, some}
 use native.Mathlib.Omega.{arith}
 use lib.ListN.{length}
 use borrow.Author.Tests.{le-leb, lt-leb}
-use Rattle.text.specs.Bytes.{Text, line_at}
-use Rattle.text.specs.Lines.{Outcome, got, bad, cause_number}
+use Rattle.text.specs.Bytes.{Text}
+use Rattle.text.specs.Lines.{Outcome, got, bad}
 use Rattle.text.specs.declared.Fault.{Fault}
 use Rattle.eos.specs.Firing.{Step}
 use Rattle.eos.specs.Causes.{Refusal, Cause, first, refusal}

@@ -19,7 +19,12 @@ use Rattle.reader.proofs.HeldExactly.{Accepts, held_exactly, held_model_exactly}
 use Rattle.reader.proofs.GivenLaws.{Given}
 use Rattle.runner.specs.Answers.{stepping}
 use Rattle.runner.proofs.GivenSteps.{step_given}
+use Rattle.converter.specs.Answers.{converting}
+use Rattle.converter.specs.declared.Conversion.{Conversion}
 use Rattle.promises.specs.WholeRun.{left_by}
+use Rattle.promises.specs.Converted.{ConversionKeeps}
+use Rattle.promises.proofs.ConvertedLaws.{conversion_keeps}
+use Rattle.std.specs.Prelude.{Ok}
 
 -- after the step calls with any list of texts
 pub left-given : (m : Model) (k : Marking) → Given m k → (texts : List Text) → Given m (left_by m k texts)
@@ -33,6 +38,10 @@ module _ (m : Model) (vs : List Val) (own : Is model.the_row m vs) where
   -- the test of a model
   pub owned_model : (held_model m ≡ true) ↔ ((s : Text) × (k : Marking) × Accepts s m k)
   owned_model = held_model_exactly m (model-sized m vs own)
+
+  -- what a conversion keeps
+  pub owned_keeps : (c : Conversion) → converting m ≡ Ok c → ConversionKeeps m c
+  owned_keeps = conversion_keeps m (model-sized m vs own)
 
   -- the tests of a model and a marking of it
   pub owned_both : (k : Marking) (us : List Val) → Is marking.the_row k us → (held_both m k ≡ true) ↔ Given m k

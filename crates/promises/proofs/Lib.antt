@@ -2,6 +2,8 @@ pub mod BringLaws
 pub mod AgreeLaws
 pub mod PremiseLaws
 pub mod WholeRunLaws
+pub mod StepLines
+pub mod ConvertedLaws
 pub mod GivenCalls
 pub mod ReadBackLaws
 pub mod NumberLaws
@@ -11,3 +13,4 @@ pub mod RunNumbers
 pub mod BesideLaws
 pub mod ToCLaws
 pub mod FileNumbers
+pub mod ConvertNumbers

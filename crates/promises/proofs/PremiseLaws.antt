@@ -17,8 +17,8 @@ use Rattle.eos.proofs.Basics.{true_is}
 use Rattle.eos.proofs.WeightLaws.{weigh-canonical}
 use Rattle.eos.proofs.BoundLaws.{cover_out, cover_in, weigh-positive}
 use Rattle.model.specs.Limits.{longest, line_limit, cover_limit, count_limit}
-use Rattle.model.specs.Rules.{right_model}
-use Rattle.model.specs.Held.{hold_model, model_of}
+use Rattle.model.specs.Rules.{right_plant}
+use Rattle.model.specs.Held.{hold_plant, model_of}
 use Rattle.model.specs.declared.Model.{Model}
 use Rattle.model.proofs.HoldModel.{model_of_hold}
 use Rattle.model.proofs.HoldHeld as holding
@@ -57,16 +57,21 @@ balances_as d e μ ν file sum p q b = rw (p, q) at b
 
 -- ---- weights that passed for a held model and a held marking
 
+-- what passed was lent a held marking, and a text that is not too long
+pub passed_lent : (m : Model) (k : Marking) (file : Text) (w : WeightCheck) → weight_checking m k file ≡ Ok w → (held_both m k ≡ true) × (length file ≤ longest)
+passed_lent m k file w passed =
+    by_test (leb (length file) longest)
+    (λ h.
+    let few = leb-true (length file) longest h in
+    by_test (held_both m k) (λ t. (t, few)) (λ t. refused≢passed (check_unheld m k file few t ∙ passed)))
+    (λ h. refused≢passed (check_long m k file (leb-false (length file) longest h) ∙ passed))
+
 module _ (m : Model) (k : Marking) (file : Text) (sum : ℤ) (passed : weight_checking m k file ≡ Ok (record { sum = sum; cover = true })) where
   short : length file ≤ longest
-  short =
-      by_test (leb (length file) longest) (leb-true (length file) longest)
-      (λ h. refused≢passed (check_long m k file (leb-false (length file) longest h) ∙ passed))
+  short = (passed_lent m k file _ passed).1
 
   passed-held : held_both m k ≡ true
-  passed-held =
-      by_test (held_both m k) (λ h. h)
-      (λ h. refused≢passed (check_unheld m k file short h ∙ passed))
+  passed-held = (passed_lent m k file _ passed).0
 
   passed_balances : Balances (model_of m) (tokens_of (sizes_for m) k) file sum
   passed_balances =
@@ -93,41 +98,41 @@ module _ (m : Model) (k : Marking) (file : Text) (sum : ℤ) (passed : weight_ch
 
 module _ (l : Loaded) (right : right_loaded l ≡ true) where
   abbrev m : Model
-  m = hold_model l.model
+  m = hold_plant l.plant
 
   abbrev k : Marking
   k = hold_marking (eos.canonical l.start)
 
-  pub model_right : right_model l.model ≡ true
+  pub model_right : right_plant l.plant ≡ true
   model_right = (right_parts l right).0
 
-  tokens_right : right_block bounds (sizes_of l.model) l.start ≡ true
+  tokens_right : right_block bounds (sizes_of l.plant.model) l.start ≡ true
   tokens_right = (right_parts l right).1
 
-  pub start-made : T (M.every (eos.proper l.model) l.start)
+  pub start-made : T (M.every (eos.proper l.plant.model) l.start)
   unfolding right_block
-  start-made = proper_read bounds l.model l.start (and_true (leb (length l.start) line_limit) _ tokens_right).1
+  start-made = proper_read bounds l.plant.model l.start (and_true (leb (length l.start) line_limit) _ tokens_right).1
 
   start-tokens : tokens_of (sizes_for m) k ≡ eos.canonical l.start
   unfolding right_block
   start-tokens =
       let z : Sizes = sizes_for m in
-      let h = canonical-held z l.start (rw (sizes_same l.model model_right) tokens_right) in
-      let roomy = held_roomy m (holding.hold_held l.model model_right) in
+      let h = canonical-held z l.start (rw (sizes_same _ l.plant.model model_right) tokens_right) in
+      let roomy = held_roomy m (holding.hold_held l.plant model_right) in
       hold.tokens_hold z (eos.canonical l.start)
       (hold.all_right bounds z roomy (eos.canonical l.start) (and_true (leb (length (eos.canonical l.start)) line_limit) _ h.right).1)
 
   -- weights that passed for them balance, and cover with the sum of the start
   pub start_balances : (file : Text) (sum : ℤ) → weight_checking m k file ≡ Ok (record { sum = sum; cover = true })
-      → Balances l.model l.start file sum
+      → Balances l.plant.model l.start file sum
   start_balances file sum passed =
-      let b = balances_as (model_of m) l.model _ _ file sum (model_of_hold l.model model_right) start-tokens (passed_balances m k file sum passed) in
+      let b = balances_as (model_of m) l.plant.model _ _ file sum (model_of_hold l.plant model_right) start-tokens (passed_balances m k file sum passed) in
       record {
         weights = b.weights;
         weighs = b.weighs;
         shaped = b.shaped;
         passing = b.passing;
         covering = b.covering;
-        sum_is = sym (weigh-canonical l.model b.weights l.start) ∙ b.sum_is;
+        sum_is = sym (weigh-canonical l.plant.model b.weights l.start) ∙ b.sum_is;
         whole = b.whole;
       }

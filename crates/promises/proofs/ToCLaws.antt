@@ -18,7 +18,7 @@ use Rattle.eos.specs.Firing.{after}
 use Rattle.eos.specs.Leaving.{Loses, LeaveEmpty}
 use Rattle.eos.specs.Weights.{Weights, weigh, Passing}
 use Rattle.model.specs.Limits.{longest, cover_limit}
-use Rattle.model.specs.Held.{hold_model, model_of}
+use Rattle.model.specs.Held.{hold_plant, model_of}
 use Rattle.model.specs.Test.{held_model}
 use Rattle.model.specs.declared.Model.{Model}
 use Rattle.marking.specs.Held.{hold_marking}
@@ -29,7 +29,7 @@ use Rattle.marking.specs.declared.Marking.{Marking}
 use Rattle.marking.proofs.BlockExactly.{block_exactly}
 use Rattle.reader.specs.Reading.{Loaded, bounds, read_model, read_marking, right_loaded}
 use Rattle.reader.specs.Printed.{model_text}
-use Rattle.reader.specs.Answers.{triple, pair, read_triple, loaded, model_reading, marking_reading, held_both, lay_whole, marking_writing, model_given}
+use Rattle.reader.specs.Answers.{triple, read_triple, loaded, model_reading, marking_reading, held_both, lay_whole, marking_writing, model_given}
 use Rattle.reader.specs.declared.ModelReading.{ModelReading}
 use Rattle.reader.proofs.EndLaws.{ended}
 use Rattle.reader.proofs.ReadsWhatItSays.{reads_what_marking_says}
@@ -46,11 +46,13 @@ use Rattle.keeper.proofs.WeightsExactly.{weights_exactly, sum_exactly, cover_exa
 use Rattle.spread.specs.Call.{spread_call}
 use Rattle.listing.specs.Listing.{listing_text}
 use Rattle.eos.proofs.LeavingLaws.{leaves_empty}
-use Rattle.capi.specs.Calls.{model_read, marking_read, written_to_c, weights_checked, step_done, run_done, shared}
+use Rattle.capi.specs.Calls.{model_converted, model_read, marking_read, written_to_c, weights_checked, step_done, run_done, shared}
 use Rattle.capi.specs.declared.ModelRead.{ModelRead}
 use Rattle.capi.specs.declared.Weighed.{Weighed}
 use Rattle.promises.specs.WholeRun.{left_by, answers_of, says_fired, racks, Covered}
-use Rattle.promises.specs.Numbers.{model_numbers, marking_numbers, weight_numbers, step_numbers, Lent, Numbered, untested, step_tests, weight_tests, RunNumbered, WriteNumbered, SpreadNumbered}
+use Rattle.promises.specs.Numbers.{model_numbers, marking_numbers, weight_numbers, step_numbers, Lent, Numbered, untested, step_tests, weight_tests, RunNumbered, WriteNumbered, ConvertNumbered, SpreadNumbered}
+use Rattle.promises.proofs.ConvertNumbers.{convert_number}
+use Rattle.converter.specs.Answers.{converting}
 use Rattle.promises.specs.ToC.{left_to_c, numbers_to_c, CoveredToC, WholeRunToC}
 use Rattle.promises.proofs.CallNumbers.{model-number, marking_number, step-number, weight_number, held-fired, weight_passed}
 use Rattle.promises.proofs.RunNumbers.{run-number, laid-number, write_number, spread-number}
@@ -92,6 +94,9 @@ listing_number_to_c model weights trace out = laid-number (listing_text model we
 pub spread_number_to_c : (n k : ℕ) → let r = shared (spread_call n k) in SpreadNumbered n k (triple r.number r.beside r.column)
 spread_number_to_c = spread-number
 
+pub convert_number_to_c : (m : Model) → let r = model_converted (converting m) in ConvertNumbered m (triple r.number r.beside r.column)
+convert_number_to_c = convert_number
+
 -- ---- reading a model
 
 -- the number 0 is an accepted model
@@ -109,7 +114,7 @@ accepted_to_c o r m k a e =
 
 -- the reading answers 0 exactly where the text is the printed text of a right model and of its start, and gives these as they are held
 pub model_to_c : (s : Text) (m : Model) (k : Marking) → (model_read (model_reading s) ≡ record { number = 0; beside = 0; column = 0; model = m; start = k })
-    ↔ ((l : Loaded) × (s ≡ model_text l) × (right_loaded l ≡ true) × (length s ≤ longest) × (m ≡ hold_model l.model) × (k ≡ hold_marking (eos.canonical l.start)))
+    ↔ ((l : Loaded) × (s ≡ model_text l) × (right_loaded l ≡ true) × (length s ≤ longest) × (m ≡ hold_plant l.plant) × (k ≡ hold_marking (eos.canonical l.start)))
 model_to_c s m k = (
   λ e. let a = accepted_zero s (ap (λ (r : ModelRead). r.number) e) in (accepted_is_printed s m k).0 (accepted_to_c (model_reading s) a.0 m k a.1 e),
   λ h. ap model_read ((accepted_is_printed s m k).1 h),

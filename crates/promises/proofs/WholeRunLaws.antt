@@ -15,7 +15,7 @@ use Rattle.eos.specs.Run.{has_fired, calls_held, calls_refused, Faithful}
 use Rattle.eos.proofs.Basics.{true_is}
 use Rattle.eos.proofs.RunLaws.{demand_3}
 use Rattle.model.specs.Limits.{room_limit, cover_limit, count_limit}
-use Rattle.model.specs.Held.{hold_model, model_of}
+use Rattle.model.specs.Held.{hold_plant, model_of}
 use Rattle.model.specs.declared.Model.{Model}
 use Rattle.model.proofs.HoldModel.{model_of_hold}
 use Rattle.marking.specs.Held.{hold_marking}
@@ -68,12 +68,12 @@ number_at l fs e i h =
 
 -- ---- the run from a right model and its start
 
-module _ (l : Loaded) (right : right_loaded l ≡ true) (file : Text) (sum : ℤ) (b : Balances l.model l.start file sum) (texts : List Text) where
+module _ (l : Loaded) (right : right_loaded l ≡ true) (file : Text) (sum : ℤ) (b : Balances l.plant.model l.start file sum) (texts : List Text) where
   abbrev d : eos.Model
-  d = l.model
+  d = l.plant.model
 
   abbrev m : Model
-  m = hold_model d
+  m = hold_plant l.plant
 
   abbrev k : Marking
   k = hold_marking (eos.canonical l.start)
@@ -81,39 +81,39 @@ module _ (l : Loaded) (right : right_loaded l ≡ true) (file : Text) (sum : ℤ
   faithful : Faithful room_limit count_limit d b.weights (nat_abs sum) (brings d) hold_marking (call m) l.start texts
   faithful =
       demand_3 room_limit count_limit d b.weights (nat_abs sum) (brings d) hold_marking (call m) b.shaped b.passing.balanced (true_is b.covering)
-      (brings-known d) (agrees d (model_right l right)) l.start (start-made l right) (b.sum_is ∙ b.whole) texts
+      (brings-known d) (agrees _ d (model_right l right)) l.start (start-made l right) (b.sum_is ∙ b.whole) texts
 
   held-run : left_by m k texts ≡ hold_marking (eos.canonical (own_run l texts))
   held-run = left-held m texts k ∙ faithful.held
 
   racks-run : racks m (left_by m k texts) ≡ eos.canonical (own_run l texts)
-  racks-run = ap (racks m) held-run ∙ holdable-tokens d (model_right l right) (eos.canonical (own_run l texts)) faithful.holdable
+  racks-run = ap (racks m) held-run ∙ holdable-tokens _ d (model_right l right) (eos.canonical (own_run l texts)) faithful.holdable
 
   fired-run : map says_fired (answers_of m k texts) ≡ own_fired l texts
   fired-run = said_fired m texts k ∙ faithful.fired
 
   -- what holds of the run's marking holds of the racks held
   back : model_of m ≡ d
-  back = model_of_hold d (model_right l right)
+  back = model_of_hold l.plant (model_right l right)
 
   sum-run : weigh (model_of m) b.weights (racks m (left_by m k texts)) ≡ sum
   sum-run = rw (back, racks-run) faithful.kept ∙ sym b.whole
 
   outer-run : (p : ℕ) → p < m.places
       → get_or (outer (model_of m) (racks m (left_by m k texts))) p 0 ≤ nat_abs sum / nat_abs (get_or b.weights.outward p (pos 0))
-  unfolding hold_model
+  unfolding hold_plant
   outer-run p h = rw (back, racks-run) (faithful.outer-most p h)
 
   inner-run : (n i : ℕ) → n < m.nets → i < (eos.net (model_of m) n).size
       → get_or (inner (model_of m) n (racks m (left_by m k texts))) i 0 ≤ nat_abs sum / nat_abs (get_or (get_or b.weights.inward n []) i (pos 0))
-  unfolding hold_model
+  unfolding hold_plant
   inner-run n i h j = rw (back, racks-run) (faithful.inner-most n i h (rw back at j))
 
   run : (text : Text) → read_model text ≡ got l (length text) → WholeRun text file m k sum texts
   run text says =
       let zero = number_at (answers_of m k texts) (own_fired l texts) fired-run in
       record {
-        plant = l;
+        loaded = l;
         weights = b.weights;
         says = says;
         weighs = b.weighs;
@@ -142,7 +142,7 @@ passed_as file m n k j sum p q h = rw (p, q) at h
 pub whole_run : (text file : Text) (m : Model) (k : Marking) (sum : ℤ) → Covered text file m k sum → (texts : List Text) → WholeRun text file m k sum texts
 whole_run text file m k sum c texts =
     let (l, printed, right, short, model_is, start_is) = (accepted_is_printed text m k).0 c.accepted in
-    let n = hold_model l.model in
+    let n = hold_plant l.plant in
     let j = hold_marking (eos.canonical l.start) in
     let b = start_balances l right file sum (passed_as file m n k j sum model_is start_is c.passed) in
     run_as text file m n k j sum texts model_is start_is (run l right file sum b texts text ((reads_what_it_says text l).1 (printed, right)))

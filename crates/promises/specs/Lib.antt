@@ -2,3 +2,4 @@ pub mod WholeRun
 pub mod ReadBack
 pub mod Numbers
 pub mod ToC
+pub mod Converted

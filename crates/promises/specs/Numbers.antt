@@ -9,10 +9,12 @@ use Rattle.text.specs.Printed.{texts, number_text}
 use Rattle.text.specs.declared.Fault.{Fault}
 use Rattle.eos.specs.Model as eos
 use Rattle.eos.specs.Firing.{Step, outer_taken, outer_given, inner_taken, inner_given, after}
-use Rattle.eos.specs.Causes.{Refusal, First, Clear, unless, at, failing, lacking}
+use Rattle.eos.specs.Causes.{Refusal, First, Clear, Least, unless, at, failing, lacking}
+use Rattle.eos.specs.Converting.{replaceable, Lacks}
 use Rattle.eos.specs.Weights.{Weights, effect, is_zero, all_zero}
 use Rattle.model.specs.Limits.{longest, room_limit}
 use Rattle.model.specs.Held.{model_of}
+use Rattle.model.specs.Test.{held_model}
 use Rattle.model.specs.declared.Model.{Model}
 use Rattle.marking.specs.Printed.{net_token_text}
 use Rattle.marking.specs.Sizes.{sizes_for}
@@ -166,6 +168,17 @@ pub record WriteNumbered (held : Bool) (text : Text) (room : ℕ) (r : Refusal) 
   pub fourteen : (r ≡ pair 14 0) ↔ (held ≡ false)
   pub thirteen : (r ≡ pair 13 (length text)) ↔ ((held ≡ true) × (room < length text))
   pub good : (r ≡ pair 0 0) ↔ ((held ≡ true) × (length text ≤ room))
+
+-- ---- a conversion
+
+-- the number of a conversion (02, K13): 14, then 21 beside the number of the least event that cannot be replaced. That is the least at which
+-- the test fails; it idles, and some place of its type lacks an event that is like it
+pub record ConvertNumbered (m : Model) (r : Refusal) : Type 0 where
+  pub listed : Among (0 ∷ 14 ∷ 21 ∷ []) r.number
+  pub fourteen : (r ≡ pair 14 0) ↔ (held_model m ≡ false)
+  pub twenty_one : (k : ℕ) → let d = model_of m in
+      (r ≡ pair 21 (suc k)) ↔ ((held_model m ≡ true) × Least (length d.events) (λ i. replaceable d (eos.event d i)) k × Lacks d k)
+  pub good : (r ≡ pair 0 0) ↔ ((held_model m ≡ true) × ((k : ℕ) → k < length (model_of m).events → Lacks (model_of m) k → ⊥))
 
 -- ---- the spread
 

@@ -28,4 +28,4 @@ pub record CoveredToC (text file : Text) (m : Model) (k : Marking) (sum : ℤ) :
 pub record WholeRunToC (text file : Text) (m : Model) (k : Marking) (sum : ℤ) (texts : List Text) : Type 0 where
   pub run : WholeRun text file m k sum texts
   pub left : left_to_c m k texts ≡ left_by m k texts
-  pub fired : map (λ n. eqb n 0) (numbers_to_c m k texts) ≡ own_fired run.plant texts
+  pub fired : map (λ n. eqb n 0) (numbers_to_c m k texts) ≡ own_fired run.loaded texts

@@ -41,10 +41,10 @@ brings m s = elim (leb (length s) longest) [ true ↦ step_in (read_step free (s
 -- 01: "The rule's own run is fed the model, its `start` and the texts lent to the step calls, in turn, and nothing else": its marking
 -- after them, and which of them brought it a step that fired
 abbrev pub own_run : Loaded → List Text → eos.Marking
-own_run plant texts = rule_run plant.model (brings plant.model) texts plant.start
+own_run l texts = rule_run l.plant.model (brings l.plant.model) texts l.start
 
 abbrev pub own_fired : Loaded → List Text → List Bool
-own_fired plant texts = rule_fired plant.model (brings plant.model) texts plant.start
+own_fired l texts = rule_fired l.plant.model (brings l.plant.model) texts l.start
 
 -- ---- the step calls
 
@@ -76,17 +76,17 @@ pub record Covered (text file : Text) (m : Model) (k : Marking) (sum : ℤ) : Ty
 -- after the step calls with any list of texts, lent the held model and at first that held marking
 pub record WholeRun (text file : Text) (m : Model) (k : Marking) (sum : ℤ) (texts : List Text) : Type 0 where
   -- what the two files say: the model and its start, and the weights, which cover
-  pub plant : Loaded
+  pub loaded : Loaded
   pub weights : Weights
-  pub says : read_model text ≡ got plant (length text)
-  pub weighs : read_weight_file plant.model file ≡ got weights (length file)
+  pub says : read_model text ≡ got loaded (length text)
+  pub weighs : read_weight_file loaded.plant.model file ≡ got weights (length file)
   pub covering : Covering cover_limit weights (nat_abs sum)
   -- the held marking is the marking of the rule's own run, in the order of held markings and with unused room 0
-  pub held : left_by m k texts ≡ hold_marking (eos.canonical (own_run plant texts))
+  pub held : left_by m k texts ≡ hold_marking (eos.canonical (own_run loaded texts))
   -- each call said fired exactly when its text brought the run a step that fired
-  pub fired : map says_fired (answers_of m k texts) ≡ own_fired plant texts
+  pub fired : map says_fired (answers_of m k texts) ≡ own_fired loaded texts
   -- and no such text was answered 3 or 12
-  pub room : (i : ℕ) → get_or (own_fired plant texts) i false ≡ true
+  pub room : (i : ℕ) → get_or (own_fired loaded texts) i false ≡ true
       → ((step_triple (get_or (answers_of m k texts) i (Err (Unread NotHeld)))).number ≢ 3) × ((step_triple (get_or (answers_of m k texts) i (Err (Unread NotHeld)))).number ≢ 12)
   -- the weighted sum of the held marking equals the sum reported, which is not below 0
   pub kept : weigh (model_of m) weights (racks m (left_by m k texts)) ≡ sum

@@ -44,7 +44,7 @@ module _ (m : Model) (k : Marking) where
   pub given-model : Given m k → SizedModel m
   given-model (s, e) =
       let p = (accepted_is_printed s m k).0 e in
-      subst SizedModel (sym p.4) (model.hold_sized p.0.model (right_parts p.0 p.2).0)
+      subst SizedModel (sym p.4) (model.hold_sized p.0.plant (right_parts p.0 p.2).0)
 
 -- a held model, and right net-tokens of it in canonical order
 module _ (m : Model) (held : held_model m ≡ true) (μ : eos.Marking) (right : hold.Held (sizes_for m) μ) where
@@ -62,10 +62,10 @@ pub given_marking : (m : Model) (k : Marking) → Given m k → SizedMarking k
 given_marking m k (s, e) =
     let p = (accepted_is_printed s m k).0 e in
     let r = right_parts p.0 p.2 in
-    let d = p.0.model in
+    let d = p.0.plant in
     let held = both_model m k (accepted-held s m k e) in
     let z : Sizes = sizes_for m in
-    let same : z ≡ _ = ap sizes_for p.4 ∙ sizes_same d r.0 in
+    let same : z ≡ _ = ap sizes_for p.4 ∙ sizes_same _ d.model r.0 in
     let right : right_block bounds z p.0.start ≡ true = rw same r.1 in
     subst SizedMarking (sym p.5) (tokens-sized m held (eos.canonical p.0.start) (canonical-held z p.0.start right))
 

@@ -19,8 +19,8 @@ use Rattle.eos.proofs.MultisetLaws.{Monoid, sum_of, ℕ+}
 use Rattle.eos.proofs.OrderLaws.{sort_again, sum-sort}
 use Rattle.eos.proofs.FiringLaws.{token_order}
 use Rattle.model.specs.Limits.{room_limit, longest}
-use Rattle.model.specs.Rules.{right_model}
-use Rattle.model.specs.Held.{hold_model}
+use Rattle.model.specs.Rules.{Plant, right_plant}
+use Rattle.model.specs.Held.{hold_plant}
 use Rattle.model.specs.Held as model
 use Rattle.model.specs.Test.{held_model}
 use Rattle.model.specs.declared.Model.{Model}
@@ -61,7 +61,7 @@ Accepts s m k = model_reading s ≡ accepted m k
 -- are held, the net-tokens in canonical order
 abbrev pub Printed : Text → Model → Marking → Type 0
 Printed s m k =
-    (l : Loaded) × (s ≡ model_text l) × (right_loaded l ≡ true) × (length s ≤ 1048576) × (m ≡ hold_model l.model)
+    (l : Loaded) × (s ≡ model_text l) × (right_loaded l ≡ true) × (length s ≤ 1048576) × (m ≡ hold_plant l.plant)
     × (k ≡ hold_marking (eos.canonical l.start))
 
 -- what is refused is not accepted
@@ -129,24 +129,24 @@ canonical-held z μ h = record {
 
 -- ---- the tests pass exactly for what some accepted reading gives
 
-pub right_parts : (l : Loaded) → right_loaded l ≡ true → (right_model l.model ≡ true) × (right_block bounds (sizes_of l.model) l.start ≡ true)
+pub right_parts : (l : Loaded) → right_loaded l ≡ true → (right_plant l.plant ≡ true) × (right_block bounds (sizes_of l.plant.model) l.start ≡ true)
 unfolding right_loaded
-right_parts l h = and_true (right_model l.model) _ h
+right_parts l h = and_true (right_plant l.plant) _ h
 
-module _ (d : eos.Model) (right : right_model d ≡ true) where
-  roomy : Roomy (sizes_of d)
-  roomy = subst Roomy (sizes_same d right) (held_roomy (hold_model d) (hold_held d right))
+module _ (d : Plant) (right : right_plant d ≡ true) where
+  roomy : Roomy (sizes_of d.model)
+  roomy = subst Roomy (sizes_same _ d.model right) (held_roomy (hold_plant d) (hold_held d right))
 
   -- a right model and right net-tokens in canonical order are accepted where they are printed
-  said_accepted : (μ : eos.Marking) → hold.Held (sizes_of d) μ → Accepts (model_text (record { model = d; start = μ })) (hold_model d) (hold_marking μ)
+  said_accepted : (μ : eos.Marking) → hold.Held (sizes_of d.model) μ → Accepts (model_text (record { plant = d; start = μ })) (hold_plant d) (hold_marking μ)
   unfolding model_text right_loaded
   said_accepted μ h =
-      let l : Loaded = record { model = d; start = μ } in
-      let n = marking_length (sizes_of d) roomy (omega (arith, few-places d (right_is d right))) μ h.right in
-      printed_accepted (model_text l) (hold_model d) (hold_marking μ) (
+      let l : Loaded = record { plant = d; start = μ } in
+      let n = marking_length (sizes_of d.model) roomy (omega (arith, few-places d (right_is d right))) μ h.right in
+      printed_accepted (model_text l) (hold_plant d) (hold_marking μ) (
         l,
         refl,
-        and_both (right_model d) _ right h.right,
+        and_both (right_plant d) _ right h.right,
         omega (arith, length-append (plant_text d) (marking_text μ), plant-length d right),
         refl,
         ap hold_marking (sym h.ordered),
@@ -158,11 +158,11 @@ unfolding held_in
 accepted-held s m k e =
     let p = accepted_printed s m k e in
     let r = right_parts p.0 p.2 in
-    let d = p.0.model in
-    let z : sizes_for m ≡ sizes_of d = ap sizes_for p.4 ∙ sizes_same d r.0 in
+    let d = p.0.plant in
+    let z : sizes_for m ≡ sizes_of d.model = ap sizes_for p.4 ∙ sizes_same _ d.model r.0 in
     and_both (held_model m) _ (rw p.4 (hold_held d r.0))
     (ap₂ (held_marking room_limit) z p.5
-    ∙ hold.hold_held (sizes_of d) (roomy d r.0) (eos.canonical p.0.start) (canonical-held (sizes_of d) p.0.start r.1))
+    ∙ hold.hold_held (sizes_of d.model) (roomy d r.0) (eos.canonical p.0.start) (canonical-held (sizes_of d.model) p.0.start r.1))
 
 module _ (m : Model) (sized : model.SizedModel m) where
   -- the test of a model passes exactly for what some accepted reading gives
@@ -172,13 +172,13 @@ module _ (m : Model) (sized : model.SizedModel m) where
     λ h.
         let e = (laws.held_exactly m sized).0 h in
         let d = e.0 in (
-          model_text (record { model = d; start = [] }),
+          model_text (record { plant = d; start = [] }),
           hold_marking [],
-          accepts_as _ m (hold_model d) _ _ e.2 refl (said_accepted d e.1 [] (record { right = refl; ordered = refl })),
+          accepts_as _ m (hold_plant d) _ _ e.2 refl (said_accepted d e.1 [] (record { right = refl; ordered = refl })),
         ),
     λ (s, k, e).
         let p = accepted_printed s m k e in
-        rw p.4 (hold_held p.0.model (right_parts p.0 p.2).0),
+        rw p.4 (hold_held p.0.plant (right_parts p.0 p.2).0),
   )
 
   -- the tests of a model and a marking of it pass exactly for what some accepted reading gives
@@ -190,11 +190,11 @@ module _ (m : Model) (sized : model.SizedModel m) where
         let a = and_true (held_model m) _ h in
         let e = (laws.held_exactly m sized).0 a.0 in
         let d = e.0 in
-        let z : sizes_for m ≡ sizes_of d = ap sizes_for e.2 ∙ sizes_same d e.1 in
-        let t : held_marking room_limit (sizes_of d) k ≡ true = rw z at a.1 in
-        let b = hold.held-tokens (sizes_of d) (roomy d e.1) k small t in
-        let μ = tokens_of (sizes_of d) k in
-        (model_text (record { model = d; start = μ }), accepts_as _ m (hold_model d) k (hold_marking μ) e.2 b.1 (said_accepted d e.1 μ b.0)),
+        let z : sizes_for m ≡ sizes_of d.model = ap sizes_for e.2 ∙ sizes_same _ d.model e.1 in
+        let t : held_marking room_limit (sizes_of d.model) k ≡ true = rw z at a.1 in
+        let b = hold.held-tokens (sizes_of d.model) (roomy d e.1) k small t in
+        let μ = tokens_of (sizes_of d.model) k in
+        (model_text (record { plant = d; start = μ }), accepts_as _ m (hold_plant d) k (hold_marking μ) e.2 b.1 (said_accepted d e.1 μ b.0)),
     λ (s, e). accepted-held s m k e,
   )
 

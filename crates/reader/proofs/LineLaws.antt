@@ -15,8 +15,8 @@ use Rattle.text_reader.specs.Place.{Reads, lent, closed}
 use Rattle.text_reader.specs.declared.Reader.{Reader}
 use Rattle.text_reader.proofs.ReadsLaws.{read_of, refused_of}
 use Rattle.eos.specs.Model as eos
-use Rattle.model.specs.Rules.{right_model}
-use Rattle.model.specs.Held.{hold_model}
+use Rattle.model.specs.Rules.{Plant, right_plant}
+use Rattle.model.specs.Held.{hold_plant}
 use Rattle.model.specs.Test.{held_model}
 use Rattle.model.specs.declared.Model.{Model}
 use Rattle.model.proofs.HoldHeld.{hold_held}
@@ -47,11 +47,11 @@ module _ (o : Outcome eos.Marking) (old new : Reader) where
 -- ---- a model with its start
 
 -- a model with the start that is read
-abbrev with : eos.Model → eos.Marking → ℕ → Outcome Loaded
-with d μ y = got (record { model = d; start = μ }) y
+abbrev with : Plant → eos.Marking → ℕ → Outcome Loaded
+with d μ y = got (record { plant = d; start = μ }) y
 
 -- the end is tested before or after the two are joined
-join_end : (d : eos.Model) (s : Text) (o : Outcome eos.Marking)
+join_end : (d : Plant) (s : Text) (o : Outcome eos.Marking)
     → then (then o (with d)) (read_end s) ≡ then (then o (read_end s)) (with d)
 unfolding then read_end need
 join_end d s (got μ y) = by_test (leb (length s) y) (λ h. rw h) (λ h. rw h)
@@ -62,43 +62,43 @@ abbrev pub beside : Model → Result Marking Fault → Result (Model × Marking)
 beside m (Ok k) = Ok (m, k)
 beside m (Err e) = Err e
 
-beside_with : (d : eos.Model) (o : Outcome eos.Marking) → beside (hold_model d) (accepted (kept hold_block o)) ≡ accepted (kept hold_loaded (then o (with d)))
+beside_with : (d : Plant) (o : Outcome eos.Marking) → beside (hold_plant d) (accepted (kept hold_block o)) ≡ accepted (kept hold_loaded (then o (with d)))
 unfolding accepted kept then
 beside_with d (got μ y) = refl
 beside_with d (bad e) = refl
 
 -- the model was read, and its start stands behind it
-behind_plant : (s : Text) (at : ℕ) (d : eos.Model) (next : ℕ) → read_plant s at ≡ got d next → read_model_at s at ≡ then (read_marking_at (sizes_of d) s next) (with d)
+behind_plant : (s : Text) (at : ℕ) (d : Plant) (next : ℕ) → read_plant s at ≡ got d next → read_model_at s at ≡ then (read_marking_at (sizes_of d.model) s next) (with d)
 unfolding read_model_at read_lines then
-behind_plant s at d next e = rw e (join_end d s (read_block (bytes "start=") bounds (sizes_of d) s next))
+behind_plant s at d next e = rw e (join_end d s (read_block (bytes "start=") bounds (sizes_of d.model) s next))
 
 module _ (old mid : Reader) where
-  abbrev plant : Outcome eos.Model
+  abbrev plant : Outcome Plant
   plant = read_plant old.src.now old.at
 
   -- the model is refused
-  pub plant_refused : (e : Fault) → Reads (kept hold_model plant) old mid (Err e) → Err e ≡ accepted (kept hold_loaded (read_model_at old.src.now old.at))
+  pub plant_refused : (e : Fault) → Reads (kept hold_plant plant) old mid (Err e) → Err e ≡ accepted (kept hold_loaded (read_model_at old.src.now old.at))
   unfolding read_model_at read_lines then accepted kept
-  plant_refused e k = rw (refused_of hold_model plant e k).is
+  plant_refused e k = rw (refused_of hold_plant plant e k).is
 
-  module _ (m : Model) (first : Reads (kept hold_model plant) old mid (Ok m)) where
-    right : (d : eos.Model) → plant ≡ got d mid.at → right_model d ≡ true
+  module _ (m : Model) (first : Reads (kept hold_plant plant) old mid (Ok m)) where
+    right : (d : Plant) → plant ≡ got d mid.at → right_plant d ≡ true
     right d e = ((plant_exactly old.src.now).back old.at d mid.at e).fine-is
 
     -- a model that is read is held
     pub plant_held : held_model m ≡ true
-    plant_held = let q = read_of hold_model plant m first in rw q.held (hold_held q.value (right q.value q.is))
+    plant_held = let q = read_of hold_plant plant m first in rw q.held (hold_held q.value (right q.value q.is))
 
     -- the lines of a model and the start behind them, joined, are what the text says of both
     pub lines-joined : (start : Result Marking Fault) → start ≡ accepted (kept hold_block (read_marking_at (as_sizes (place_sizes m)) mid.src.now mid.at))
         → beside m start ≡ accepted (kept hold_loaded (read_model_at old.src.now old.at))
     lines-joined start e =
-        let q = read_of hold_model plant m first in
+        let q = read_of hold_plant plant m first in
         let same : mid.src.now ≡ old.src.now = ap (λ (x : Reader). x.src.now) q.moved in
-        let sizes : as_sizes (place_sizes m) ≡ sizes_of q.value = ap (λ (x : Model). as_sizes (place_sizes x)) q.held ∙ sizes_same q.value (right q.value q.is) in
-        let begun : start ≡ accepted (kept hold_block (read_marking_at (sizes_of q.value) old.src.now mid.at)) =
-        e ∙ ap (λ (z : Sizes). accepted (kept hold_block (read_marking_at z mid.src.now mid.at))) sizes ∙ ap (λ (s : Text). accepted (kept hold_block (read_marking_at (sizes_of q.value) s mid.at))) same in
+        let sizes : as_sizes (place_sizes m) ≡ sizes_of q.value.model = ap (λ (x : Model). as_sizes (place_sizes x)) q.held ∙ sizes_same _ q.value.model (right q.value q.is) in
+        let begun : start ≡ accepted (kept hold_block (read_marking_at (sizes_of q.value.model) old.src.now mid.at)) =
+        e ∙ ap (λ (z : Sizes). accepted (kept hold_block (read_marking_at z mid.src.now mid.at))) sizes ∙ ap (λ (s : Text). accepted (kept hold_block (read_marking_at (sizes_of q.value.model) s mid.at))) same in
         ap (λ (x : Model). beside x start) q.held
-        ∙ ap (beside (hold_model q.value)) begun
-        ∙ beside_with q.value (read_marking_at (sizes_of q.value) old.src.now mid.at)
+        ∙ ap (beside (hold_plant q.value)) begun
+        ∙ beside_with q.value (read_marking_at (sizes_of q.value.model) old.src.now mid.at)
         ∙ ap (λ (o : Outcome Loaded). accepted (kept hold_loaded o)) (sym (behind_plant old.src.now old.at q.value mid.at q.is))

@@ -11,7 +11,7 @@ use Rattle.text.proofs.TestLaws.{and_both}
 use Rattle.text.proofs.Exactly.{Exactly}
 use Rattle.text.proofs.ChainExactly.{exactly_by, first_makes, last_makes}
 use Rattle.eos.specs.Model as eos
-use Rattle.model.specs.Rules.{right_model}
+use Rattle.model.specs.Rules.{right_plant}
 use Rattle.model_text.proofs.PlantExactly.{plant_exactly}
 use Rattle.marking.specs.Held.{Sizes, sizes_of}
 use Rattle.marking.specs.Reading.{read_block, right_block}
@@ -30,10 +30,10 @@ unfolding read_lines model_text right_loaded marking_text need
 lines_exactly s =
     exactly_by
     (first_makes (plant_exactly s)
-    (λ m. last_makes (block_exactly bounds (sizes_of m) s (bytes "start=")) (λ μ. true) Syntax (λ μ. record { model = m; start = μ }) (λ l. l.start) (λ μ h. refl))
-    (λ l. l.model) (λ m l h r. ap (λ (l : Loaded). l.model) r.2))
-    (λ l h. and_both (right_model l.model) _ h.0 h.1.0)
-    (λ l h. let p = and_true (right_model l.model) _ h in (p.0, (p.1, refl, refl)))
+    (λ p. last_makes (block_exactly bounds (sizes_of p.model) s (bytes "start=")) (λ μ. true) Syntax (λ μ. record { plant = p; start = μ }) (λ l. l.start) (λ μ h. refl))
+    (λ l. l.plant) (λ p l h r. ap (λ (l : Loaded). l.plant) r.2))
+    (λ l h. and_both (right_plant l.plant) _ h.0 h.1.0)
+    (λ l h. let p = and_true (right_plant l.plant) _ h in (p.0, (p.1, refl, refl)))
 
 -- a model text is accepted with a model and its start exactly where it is their printed text and they are right
 pub reads_what_it_says : (s : Text) (l : Loaded) → (read_model s ≡ got l (length s)) ↔ ((s ≡ model_text l) × (right_loaded l ≡ true))

@@ -18,7 +18,7 @@ use Rattle.eos.specs.Model as eos
 use Rattle.model.specs.Limits.{longest}
 use Rattle.model.specs.Test.{held_model}
 use Rattle.model.specs.declared.Model.{Model}
-use Rattle.model.specs.Rules.{right_model}
+use Rattle.model.specs.Rules.{right_plant}
 use Rattle.model_text.specs.Printed.{plant_text}
 use Rattle.model_text.proofs.PlantExactly.{plant_exactly}
 use Rattle.model_text.proofs.PlantRefused.{PlantFaults, plant_refuses}
@@ -54,7 +54,7 @@ module _ (s : Text) where
 
   -- of the lines of a model and of its start, and of the end
   abbrev pub LoadedFaults : ℕ → Fault → Type 0
-  LoadedFaults = ThenFaults s plant_text (PlantFaults s) right_model λ m. BlockFaults s bounds (sizes_of m) (bytes "start=")
+  LoadedFaults = ThenFaults s plant_text (PlantFaults s) right_plant λ p. BlockFaults s bounds (sizes_of p.model) (bytes "start=")
 
   abbrev pub ModelFaults : ℕ → Fault → Type 0
   ModelFaults = ThenFaults s model_text LoadedFaults right_loaded λ l. EndFaults
@@ -62,8 +62,8 @@ module _ (s : Text) where
   pub lines_refuses : Refuses (read_lines s) LoadedFaults
   unfolding read_lines
   lines_refuses =
-      then_refuses (plant_exactly s) (plant_refuses s) (λ m.
-      made_refuses (block_refuses bounds (sizes_of m) s (bytes "start=")) (λ μ. record { model = m; start = μ }))
+      then_refuses (plant_exactly s) (plant_refuses s) (λ p.
+      made_refuses (block_refuses bounds (sizes_of p.model) s (bytes "start=")) (λ μ. record { plant = p; start = μ }))
 
   -- the text of a model
   pub model_refuses : Refuses (read_model_at s) ModelFaults

@@ -8,7 +8,7 @@ use Rattle.text.specs.declared.TooSmall as small
 use Rattle.eos.specs.Model as eos
 use Rattle.eos.specs.Causes.{Refusal}
 use Rattle.model.specs.Limits.{room_limit, longest}
-use Rattle.model.specs.Held.{hold_model, no_model}
+use Rattle.model.specs.Held.{hold_plant, no_model}
 use Rattle.model.specs.Test.{held_model}
 use Rattle.model.specs.declared.Model.{Model}
 use Rattle.marking.specs.Held.{hold_marking, no_marking, tokens_of, held_marking}
@@ -67,7 +67,7 @@ unfoldable pub short : ℕ → Text → Result (Unit {0}) ReadRefusal
 short most s = elim (leb (length s) most) [ true ↦ Ok tt | false ↦ Err TooLong ]
 
 unfoldable pub loaded : Text → Outcome Loaded → Result ModelReading ReadRefusal
-loaded s (got l x) = Ok (record { model = hold_model l.model; start = hold_marking (eos.canonical l.start) })
+loaded s (got l x) = Ok (record { model = hold_plant l.plant; start = hold_marking (eos.canonical l.start) })
 loaded s (bad e) = Err (faulty s e)
 
 -- reading a model: 1, then its lines

@@ -1,6 +1,6 @@
 -- How a model that is read with its start is held.
 use Rattle.eos.specs.Model as eos
-use Rattle.model.specs.Held.{hold_model}
+use Rattle.model.specs.Held.{hold_plant}
 use Rattle.model.specs.declared.Model.{Model}
 use Rattle.marking.specs.Held.{hold_marking}
 use Rattle.marking.specs.declared.Marking.{Marking}
@@ -8,4 +8,4 @@ use Rattle.reader.specs.Reading.{Loaded}
 
 -- the start in canonical order
 abbrev pub hold_loaded : Loaded → Model × Marking
-hold_loaded l = (hold_model l.model, hold_marking (eos.canonical l.start))
+hold_loaded l = (hold_plant l.plant, hold_marking (eos.canonical l.start))

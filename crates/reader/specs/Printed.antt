@@ -6,4 +6,4 @@ use Rattle.marking.specs.Printed.{marking_text}
 use Rattle.reader.specs.Reading.{Loaded}
 
 unfoldable pub model_text : Loaded → Text
-model_text l = plant_text l.model ++ marking_text l.start
+model_text l = plant_text l.plant ++ marking_text l.start

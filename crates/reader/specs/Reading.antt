@@ -1,11 +1,11 @@
--- What a model file says, whole: the model and its start. And the text of a marking, which is read for a held model by the same rules.
+-- What a model file says, whole: its header, the model and its start. And the text of a marking, which is read for a held model by the same rules.
 use Rattle.std.specs.Prelude.{ℕ, Bool, ◌&&◌, leb, length}
 use Rattle.text.specs.Bytes.{Text, bytes}
 use Rattle.text.specs.Lines.{Outcome, got, then, need}
 use Rattle.text.specs.declared.Cause.TheVariants.{Syntax}
 use Rattle.eos.specs.Model as eos
 use Rattle.model.specs.Limits.{line_limit, count_limit}
-use Rattle.model.specs.Rules.{right_model}
+use Rattle.model.specs.Rules.{Plant, right_plant}
 use Rattle.model_text.specs.Reading.{read_plant}
 use Rattle.marking.specs.Held.{Sizes, sizes_of}
 use Rattle.marking.specs.Reading.{Limits, limits, read_block, right_block}
@@ -15,7 +15,7 @@ abbrev pub bounds : Limits
 bounds = limits line_limit count_limit
 
 pub record Loaded : Type 0 where
-  pub model : eos.Model
+  pub plant : Plant
   pub start : eos.Marking
 
 -- nothing stands after the last line
@@ -25,7 +25,7 @@ read_end s a at = need (leb (length s) at) Syntax at (got a at)
 -- the lines of the model, and those of its start
 unfoldable pub read_lines : Text → ℕ → Outcome Loaded
 read_lines s at =
-    then (read_plant s at) λ m x. then (read_block (bytes "start=") bounds (sizes_of m) s x) λ μ y. got (record { model = m; start = μ }) y
+    then (read_plant s at) λ p x. then (read_block (bytes "start=") bounds (sizes_of p.model) s x) λ μ y. got (record { plant = p; start = μ }) y
 
 -- a model from a position to the end of the text; the whole text is read from position 0
 unfoldable pub read_model_at : Text → ℕ → Outcome Loaded
@@ -43,4 +43,4 @@ read_marking z s = read_marking_at z s 0
 
 -- a model within 01's rules, and net-tokens of it
 unfoldable pub right_loaded : Loaded → Bool
-right_loaded l = right_model l.model && right_block bounds (sizes_of l.model) l.start
+right_loaded l = right_plant l.plant && right_block bounds (sizes_of l.plant.model) l.start

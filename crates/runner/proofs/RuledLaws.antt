@@ -16,8 +16,8 @@ use Rattle.eos.specs.Firing.{Step, StepOf, after}
 use Rattle.eos.specs.Causes.{Cause, first, refusal}
 use Rattle.marking.specs.Tokens.{like, before, holding, tokens_in}
 use Rattle.marking.specs.declared.NetToken.{NetToken}
-use Rattle.model.specs.Rules.{right_model}
-use Rattle.model.specs.Held.{SizedModel, model_of}
+use Rattle.model.specs.Rules.{right_plant}
+use Rattle.model.specs.Held.{SizedModel, model_of, plant_of}
 use Rattle.model.specs.Test.{held_model}
 use Rattle.model.specs.declared.Model.{Model}
 use Rattle.model.proofs.ShapeLaws.{events-long}
@@ -72,11 +72,11 @@ read_right z events s t next e =
 
 -- ---- on a held model
 module _ (m : Model) (sized : SizedModel m) (held : held_model m ≡ true) where
-  model_right : right_model (model_of m) ≡ true
+  model_right : right_plant (plant_of m) ≡ true
   model_right = held_right m sized (held-is m held)
 
   sizes_are_lem : sizes_for m ≡ sizes_of (model_of m)
-  sizes_are_lem = ap sizes_for (held_again m sized (held-is m held)) ∙ sizes_same (model_of m) model_right
+  sizes_are_lem = ap sizes_for (held_again m sized (held-is m held)) ∙ sizes_same _ (model_of m) model_right
 
   proper_of : (lim : Limits) (ts : eos.Marking) → every (right_net_token lim (sizes_for m)) ts ≡ true → T (M.every (eos.proper (model_of m)) ts)
   proper_of lim ts h = proper_read lim (model_of m) ts (subst (λ (z : Sizes). every (right_net_token lim z) ts ≡ true) sizes_are_lem h)
@@ -84,14 +84,14 @@ module _ (m : Model) (sized : SizedModel m) (held : held_model m ≡ true) where
   -- net-tokens that were read
   pub read_placed : (ts : eos.Marking) → every (right_net_token bounds (sizes_for m)) ts ≡ true → length ts ≤ 256 → (l : List NetToken)
       → l ≡ map hold_token ts → Placed l
-  read_placed ts h few l is = rw is (placed-held (model_of m) model_right ts (proper_of bounds ts h) few)
+  read_placed ts h few l is = rw is (placed-held _ (model_of m) model_right ts (proper_of bounds ts h) few)
 
   module _ (t : Step) (r : RightStep (sizes_for m) m.listed t) where
     step_of : StepOf (model_of m) t
     step_of = record { known = rw (events-long m) r.known; taken = proper_of bounds t.taken r.taken; given = proper_of bounds t.given r.given }
 
     pub rule_is_sound : (q : Rule) (e : ℕ) → q ≡ hold_rule (model_of m) e → e ≡ t.event → Sound q
-    rule_is_sound q e h f = rw (h, f) (sound_rule (model_of m) model_right t.event step_of.known)
+    rule_is_sound q e h f = rw (h, f) (sound_rule _ (model_of m) model_right t.event step_of.known)
 
     module _ (room : ℕ) (k : Marking) (st : Stands (sizes_for m) k) where
       abbrev μ : eos.Marking
@@ -107,7 +107,7 @@ module _ (m : Model) (sized : SizedModel m) (held : held_model m ≡ true) where
       cause_same : first (causes_in room (hold_rule (model_of m) t.event) taken given (tokens_in k)) ≡ refusal (has_room room) (model_of m) t μ
       cause_same =
           ap (λ (ts : List NetToken). first (causes_in room (hold_rule (model_of m) t.event) taken given ts)) st.held_are
-          ∙ causes_are (model_of m) model_right t step_of room μ (proper_of free μ st.right)
+          ∙ causes_are _ (model_of m) model_right t step_of room μ (proper_of free μ st.right)
 
       -- and so is the marking after it
       change_same : changed k taken given ≡ hold_marking (eos.canonical (after t μ))

@@ -7,7 +7,8 @@ use lib.IntN.{ℤ, pos}
 use lib.ListN.{get_or}
 use Rattle.text.specs.Bytes.{Text}
 use Rattle.eos.specs.Model as eos
-use Rattle.model.specs.Held.{hold_model}
+use Rattle.model.specs.Rules.{under}
+use Rattle.model.specs.Held.{hold_plant}
 use Rattle.model.specs.declared.Model.{Model}
 use Rattle.marking.specs.Held.{hold_marking}
 use Rattle.marking.specs.declared.Marking.{Marking}
@@ -35,7 +36,7 @@ abbrev token : ℕ → List ℕ → eos.NetToken
 token p x = record { place = p; inside = x }
 
 abbrev model : Model
-model = hold_model plant
+model = hold_plant (under 1 plant)
 
 abbrev start : Marking
 start = hold_marking (token 0 (0 ∷ 0 ∷ []) ∷ token 0 (1 ∷ 0 ∷ []) ∷ [])
@@ -70,7 +71,7 @@ unfolding opened left_by answers_of
 listing-steps = (refl, refl)
 
 -- and so it was in the rule's own run
-pub listing_own : own_fired listing_run.plant steps ≡ true ∷ false ∷ []
+pub listing_own : own_fired listing_run.loaded steps ≡ true ∷ false ∷ []
 listing_own = sym listing_run.fired ∙ listing-steps.0
 
 -- so the premises of demand 3 can be met, with a step that fires

@@ -5,7 +5,7 @@ use Rattle.text.specs.Bytes.{Text, bytes, meet, far, newlines}
 use Rattle.text.specs.Number.{made, both, either, literal, digits, number_of, number, negated, signed, ended, item}
 use Rattle.text.specs.Lists.{stop_of, items, list_end}
 use Rattle.text.specs.Lines as lines
-use Rattle.text.specs.Lines.{then, need, many, behind, read_number, read_row, read_head}
+use Rattle.text.specs.Lines.{then, need, many, behind, read_number, read_row, read_head, read_heads}
 use Rattle.text.specs.Repeat.{many_at, fill}
 use Rattle.text.specs.Keyed.{keyed_form, read_keyed}
 use Rattle.text.specs.TokenLine.{counts_at, token_form, read_token}
@@ -16,7 +16,7 @@ use Rattle.eos.specs.Causes.{first, unless, at, causes, refusal}
 use Rattle.eos.specs.Weights.{value, weigh, effect, covers, weight_refusal}
 use Rattle.model.specs.Rules.{takes_part, right_act}
 use Rattle.model.specs.Acts.{held_act}
-use Rattle.model.specs.Held.{hold_model, hold_net, hold_nets, hold_event, hold_events, tabled, model_of, net_of, event_of}
+use Rattle.model.specs.Held.{hold_plant, hold_net, hold_nets, hold_event, hold_events, tabled, model_of, net_of, event_of}
 use Rattle.model.specs.Test.{empty_past, held_types, held_moves, held_net, held_nets, held_event, empty_event, held_events, held_model}
 use Rattle.model_text.specs.Reading.{read_sides, read_net, read_act, read_sync, read_event, read_plant}
 use Rattle.marking.specs.Held.{hold_marking, tokens_of, held_token, held_tokens}
@@ -53,8 +53,8 @@ unfolding listing_text with_model with_weights run_text cover_text sum_text trip
     read_plant read_event read_sync read_act read_keyed keyed_form either read_net read_sides
     weight_checking weights_or weighed judged_weights turned_or weight_refusal read_weights_at read_inner effect value weigh covers
     running run_where_held headed run_from onward held_in held_model held_types held_moves held_nets held_net held_events held_event empty_event held_act right_act empty_past
-    takes_part held_tokens held_token hold_model hold_net hold_nets hold_event hold_events tabled fill padded hold_marking model_of net_of event_of tokens_of sizes_in
-    tried read_then step_judged read_taking read_step read_block read_net_token read_token token_form counts_at read_head read_number read_row behind lines.judged many many_at need then list_end
+    takes_part held_tokens held_token hold_plant hold_net hold_nets hold_event hold_events tabled fill padded hold_marking model_of net_of event_of tokens_of sizes_in
+    tried read_then step_judged read_taking read_step read_block read_net_token read_token token_form counts_at read_head read_heads read_number read_row behind lines.judged many many_at need then list_end
     items item ended stop_of number number_of digits negated signed literal both made far meet newlines refusal causes first unless at outer_taken outer_given inner_taken
     inner_given outer inner outer_of inner_of block_text net_token_text number_text list_text weights_text token_text texts end_text items_text signed_text decimal decimal_of
 listing-cases = (refl, refl, refl, refl, refl)

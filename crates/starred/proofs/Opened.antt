@@ -3,7 +3,7 @@ use Rattle.text.specs.Bytes.{meet, far, newlines}
 use Rattle.text.specs.Number.{made, both, either, literal, digits, number_of, number, negated, signed, ended, item}
 use Rattle.text.specs.Lists.{stop_of, items, list_end}
 use Rattle.text.specs.Lines as lines
-use Rattle.text.specs.Lines.{then, need, many, behind, read_number, read_row, read_head}
+use Rattle.text.specs.Lines.{then, need, many, behind, read_number, read_row, read_head, read_heads}
 use Rattle.text.specs.Repeat.{many_at, fill}
 use Rattle.text.specs.Keyed.{keyed_form, read_keyed}
 use Rattle.text.specs.TokenLine.{counts_at, token_form, read_token}
@@ -15,7 +15,7 @@ use Rattle.eos.specs.Weights.{value, weigh, effect, covers, weight_refusal}
 use Rattle.eos.specs.Spread.{binomial, spread}
 use Rattle.model.specs.Rules.{takes_part, right_act}
 use Rattle.model.specs.Acts.{held_act}
-use Rattle.model.specs.Held.{hold_model, hold_net, hold_nets, hold_event, hold_events, tabled, model_of, net_of, event_of}
+use Rattle.model.specs.Held.{hold_plant, hold_net, hold_nets, hold_event, hold_events, tabled, model_of, net_of, event_of}
 use Rattle.model.specs.Test.{empty_past, held_types, held_moves, held_net, held_nets, held_event, empty_event, held_events, held_model}
 use Rattle.model_text.specs.Reading.{read_sides, read_net, read_act, read_sync, read_event, read_plant}
 use Rattle.marking.specs.Held.{hold_marking, tokens_of, held_token, held_tokens}
@@ -34,7 +34,7 @@ use Rattle.spread.specs.Call.{spread_call}
 -- numbers, lists, lines
 unfoldable pub lined : Unit {0}
 unfolding literal both made far meet newlines digits number_of number negated signed ended item stop_of items list_end then need many many_at lines.judged behind
-    read_number read_row read_head counts_at token_form read_token
+    read_number read_row read_head read_heads counts_at token_form read_token
 lined = tt
 
 -- models, markings, steps, weight files
@@ -45,7 +45,7 @@ read = tt
 
 -- held models and markings, and their tests
 unfoldable pub held : Unit {0}
-unfolding padded fill tabled hold_net hold_nets hold_event hold_events hold_model net_of event_of model_of hold_marking tokens_of sizes_in empty_past held_types held_moves
+unfolding padded fill tabled hold_net hold_nets hold_event hold_events hold_plant net_of event_of model_of hold_marking tokens_of sizes_in empty_past held_types held_moves
     held_net held_nets held_act right_act held_event empty_event held_events held_model held_token held_tokens held_in
 held = tt
 

@@ -4,7 +4,7 @@ use Prim.Native.Nat.{ℕ}
 use mathlib.Core.Path.{◌≡◌, refl}
 use mathlib.Core.List.{List, [], ◌∷◌}
 use Rattle.text.specs.Bytes.{bytes, meet, far}
-use Rattle.text.specs.Number.{made, both, either, literal, digits, number_of, number, negated, signed, ended, item}
+use Rattle.text.specs.Number.{made, both, literal, digits, number_of, number, ended, item}
 use Rattle.text.specs.Lists.{stop_of, items, list_end}
 use Rattle.text.specs.Lines as lines
 use Rattle.text.specs.Lines.{then, need, many, behind, read_number, read_head}
@@ -15,8 +15,8 @@ use Rattle.eos.specs.Causes.{first, unless, at, causes, refusal}
 use Rattle.text.specs.Answers.{padded}
 use Rattle.text.specs.Repeat.{fill}
 use Rattle.model.specs.Limits.{room_limit}
-use Rattle.model.specs.Held.{hold_model, hold_net, hold_nets, hold_event, hold_events, tabled, model_of, net_of, event_of}
-use Rattle.model.specs.Rules.{takes_part, right_act}
+use Rattle.model.specs.Held.{hold_plant, hold_net, hold_nets, hold_event, hold_events, tabled, model_of, net_of, event_of}
+use Rattle.model.specs.Rules.{under, takes_part, right_act}
 use Rattle.model.specs.Acts.{held_act}
 use Rattle.model.specs.Test.{empty_past, held_types, held_moves, held_net, held_nets, held_event, empty_event, held_events, held_model}
 use Rattle.marking.specs.Held.{sizes_of, hold_marking, tokens_of, held_token, held_tokens}
@@ -58,11 +58,11 @@ step-cases = (refl, refl)
 
 -- the run over the listing's trace: one step fires, and the second stops it
 pub run-case :
-    running (hold_model listing) (hold_marking start)
+    running (hold_plant (under 1 listing)) (hold_marking start)
     (bytes "run=1\nfire=1\ntake=1\ntoken=1:1,0\ngive=1\ntoken=2:0,1\nfire=1\ntake=1\ntoken=1:0,0\ngive=1\ntoken=2:0,0\n")
     ≡ ran 1 51 (Err (Turned (Short 1))) (hold_marking (token 0 (0 ∷ 0 ∷ []) ∷ token 1 (0 ∷ 1 ∷ []) ∷ []))
 unfolding running run_where_held headed run_from onward held_in held_model held_types held_moves held_nets held_net held_events held_event empty_event held_act right_act empty_past
-    takes_part held_tokens held_token hold_model hold_net hold_nets hold_event hold_events tabled fill padded hold_marking model_of net_of event_of tokens_of sizes_in
+    takes_part held_tokens held_token hold_plant hold_net hold_nets hold_event hold_events tabled fill padded hold_marking model_of net_of event_of tokens_of sizes_in
     tried read_then step_judged read_taking read_step read_block read_net_token read_token token_form counts_at read_head read_number behind lines.judged many need then list_end items item
     ended stop_of number number_of digits literal both made far meet refusal causes first unless at outer_taken outer_given inner_taken inner_given outer inner outer_of inner_of
 run-case = refl

@@ -4,7 +4,7 @@ use Prim.Native.Nat.{ℕ}
 use mathlib.Core.Path.{◌≡◌, refl}
 use mathlib.Core.List.{List, [], ◌∷◌}
 use Rattle.text.specs.Bytes.{Text, bytes, meet, far}
-use Rattle.text.specs.Number.{made, both, either, literal, digits, number_of, number, negated, signed, ended, item}
+use Rattle.text.specs.Number.{made, both, literal, digits, number_of, number, ended, item}
 use Rattle.text.specs.Lists.{stop_of, items, list_end}
 use Rattle.text.specs.Lines.{got, bad, fault_at, out_at, then, need, many, judged, behind, read_number}
 use Rattle.text.specs.Printed.{decimal_of, decimal, items_text, end_text, texts, number_text, token_text}

@@ -5,9 +5,9 @@ use mathlib.Core.Bool.{true, false}
 use mathlib.Core.List.{[], ◌∷◌}
 use lib.IntN.{ℤ, pos, negsuc}
 use Rattle.text.specs.Bytes.{bytes, meet, far}
-use Rattle.text.specs.Number.{made, both, either, literal, digits, number_of, number, negated, signed, ended, item}
+use Rattle.text.specs.Number.{made, both, literal, digits, number_of, number, negated, signed, ended, item}
 use Rattle.text.specs.Lists.{stop_of, items, list_end}
-use Rattle.text.specs.Lines.{got, bad, fault_at, fault, out_at, then, need, judged, behind, read_number, read_row, read_weights, read_head}
+use Rattle.text.specs.Lines.{got, bad, fault_at, fault, out_at, then, need, judged, behind, read_number, read_row, read_head}
 use Rattle.text.specs.Printed.{decimal_of, decimal, signed_text, items_text, end_text, texts, number_text, weights_text}
 use Rattle.text.specs.Repeat.{many_at}
 use Rattle.eos.specs.Model.{Marking, Transition, move, idle, Model}

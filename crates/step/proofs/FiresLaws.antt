@@ -32,7 +32,7 @@ module _ (room t : ℕ) (q : Rule) (taken given held : List NetToken) (fires : v
   last : (lacking_tokens held 0 [] taken ≡ none) × T (leb (length held - length taken + length given) room)
   unfolding causes_in marking_causes
   last =
-      let m = rest_none (inner_causes q taken given) _ (rest_none (outer_causes q.pre q.post taken given) _ (none_met t _ fires)) in
+      let m = rest_none (inner_causes q taken given) _ (rest_none (outer_causes q taken given) _ (none_met t _ fires)) in
       let a = first_none _ _ m in
       let b = first_none _ _ a.1 in
       (at_yes missing _ a.0, unless_yes _ crowded b.0)

@@ -11,7 +11,7 @@ use Rattle.eos.specs.Multiset as M
 use Rattle.eos.specs.Model.{NetToken, Marking, Model, type_of, size_of, proper}
 use Rattle.eos.specs.Causes.{lacking}
 use Rattle.eos.proofs.Basics.{and_l, and_r, and_i}
-use Rattle.model.specs.Rules.{right_model}
+use Rattle.model.specs.Rules.{under, right_plant}
 use Rattle.model.proofs.RuleLaws.{right_is, right_type}
 use Rattle.marking.specs.Held.{hold_token, sizes_of}
 use Rattle.marking.proofs.HeldOrder.{Fitting, All, none, more}
@@ -20,16 +20,16 @@ use Rattle.step.specs.Verdict.{lacking_tokens}
 use Rattle.step.proofs.SidesHeld.{net-small}
 use Rattle.step.proofs.ProjectionLaws.{fit}
 
-module _ (m : Model) (right : right_model m ≡ true) where
+module _ (header : ℕ) (m : Model) (right : right_plant (under header m) ≡ true) where
   size_small : (d : ℕ) → d ≤ length m.nets → size_of m d ≤ 32
   size_small zero h = omega arith
-  size_small (suc n) h = net-small m right n h
+  size_small (suc n) h = net-small _ m right n h
 
   -- a net-token of the model fits its room
   fitting : (t : NetToken) → T (proper m t) → Fitting (sizes_of m) t
   fitting t h =
       let f = fit m t h in
-      let k = size_small (type_of m t.place) (right_type m (right_is m right) t.place f.place) in
+      let k = size_small (type_of m t.place) (right_type _ (right_is _ right) t.place f.place) in
       let e : suc t.place - 1 ≡ t.place = omega arith in
       record { size = rw e f.size; room = omega (arith, f.size) }
 

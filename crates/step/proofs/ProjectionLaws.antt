@@ -1,6 +1,6 @@
 -- The projections of held net-tokens are those of the net-tokens, padded.
 use Prim.Native.Nat.{ℕ, suc, ◌-◌, ◌≤◌, ◌<◌}
-use mathlib.Core.Path.{◌≡◌, refl, sym, ap, ◌∙◌}
+use mathlib.Core.Path.{◌≡◌, refl, sym, ap, ap₂, ◌∙◌}
 use mathlib.Core.Bool.{Bool, true, false, cond}
 use mathlib.Core.List.{[], ◌∷◌, map}
 use native.Mathlib.Omega.{arith}
@@ -15,10 +15,10 @@ use Rattle.eos.proofs.VectorLaws.{get_d-⊕}
 use Rattle.eos.proofs.VectorSums.{length-unit, length-zeros, long_right, nth_zero}
 use Rattle.text.specs.Answers.{padded}
 use Rattle.text.proofs.PaddedLaws.{at-padded, length-padded}
-use Rattle.model.specs.Rules.{nth, right_model}
+use Rattle.model.specs.Rules.{under, nth, right_plant}
 use Rattle.model.proofs.RuleLaws.{right_is, few-places}
 use Rattle.marking.specs.Held.{hold_token}
-use Rattle.step.specs.Verdict.{outer_tokens, inside_in, inner_tokens}
+use Rattle.step.specs.Verdict.{outer_tokens, types_in, inside_in, inner_tokens}
 use Rattle.step.proofs.TokenSums.{outer_none, outer_more, inner_none, inner_more}
 use Rattle.step.proofs.PaddedTests.{padded_of}
 use Rattle.step.proofs.SidesHeld.{net-small}
@@ -34,9 +34,9 @@ fit m t h = record {
   size = eqb→eq (length t.inside) _ (and_r (ltb t.place (places m)) _ h);
 }
 
-module _ (m : Model) (right : right_model m ≡ true) where
+module _ (header : ℕ) (m : Model) (right : right_plant (under header m) ≡ true) where
   few : places m ≤ 32
-  few = few-places m (right_is m right)
+  few = few-places _ (right_is _ right)
 
   -- ---- the outer projection
   outer-nth : (l : Marking) (i : ℕ) → nth (outer_tokens (map hold_token l)) i ≡ nth (outer m l) i
@@ -67,15 +67,20 @@ module _ (m : Model) (right : right_model m ≡ true) where
   pub outer_held : (l : Marking) → T (M.every (proper m) l) → outer_tokens (map hold_token l) ≡ padded (outer m l)
   outer_held l h = padded_of (outer_tokens (map hold_token l)) (outer m l) (outer_wide l h) (omega (arith, outer-long l h, few)) (outer-nth l)
 
+  -- ---- the type of a net-token's place
+  type_same : (t : NetToken) → get_or (padded m.types) (suc t.place - 1) 0 ≡ type_of m t.place
+  type_same t =
+      let e : suc t.place - 1 ≡ t.place = omega arith in
+      rw e (at-padded m.types few t.place)
+
+  pub types_held : (l : Marking) → types_in (padded m.types) (map hold_token l) ≡ map (λ t. type_of m t.place) l
+  types_held [] = refl
+  types_held (t ∷ l) = ap₂ ◌∷◌ (type_same t) (types_held l)
+
   -- ---- the inner projection of net n
   module _ (n : ℕ) (k : n < length m.nets) where
     own_long : (t : NetToken) → Fit m t → type_of m t.place ≡ suc n → length t.inside ≡ (net m n).size
     own_long t f e = f.size ∙ ap (size_of m) e
-
-    type_same : (t : NetToken) → get_or (padded m.types) (suc t.place - 1) 0 ≡ type_of m t.place
-    type_same t =
-        let e : suc t.place - 1 ≡ t.place = omega arith in
-        rw e (at-padded m.types few t.place)
 
     inside-nth : (t : NetToken) → Fit m t → (i : ℕ) → nth (inside_in (padded m.types) n (hold_token t)) i ≡ nth (inside_of m n t) i
     inside-nth t f i = rw (type_same t) (go (eqb (type_of m t.place) (suc n)) refl)
@@ -83,7 +88,7 @@ module _ (m : Model) (right : right_model m ≡ true) where
         go : (b : Bool) → eqb (type_of m t.place) (suc n) ≡ b → nth (cond b (padded t.inside) []) i ≡ nth (cond b t.inside []) i
         go true e =
             let d : type_of m t.place ≡ suc n = eqb→eq (type_of m t.place) (suc n) (true_is e) in
-            at-padded t.inside (omega (arith, own_long t f d, net-small m right n k)) i
+            at-padded t.inside (omega (arith, own_long t f d, net-small _ m right n k)) i
         go false e = refl
 
     inner-nth : (l : Marking) → T (M.every (proper m) l) → (i : ℕ) → nth (inner_tokens (padded m.types) n (map hold_token l)) i ≡ nth (inner m n l) i
@@ -126,4 +131,4 @@ module _ (m : Model) (right : right_model m ≡ true) where
 
     pub inner-held : (l : Marking) → T (M.every (proper m) l) → inner_tokens (padded m.types) n (map hold_token l) ≡ padded (inner m n l)
     inner-held l h =
-        padded_of (inner_tokens (padded m.types) n (map hold_token l)) (inner m n l) (inner_wide l) (omega (arith, inner-long l h, net-small m right n k)) (inner-nth l h)
+        padded_of (inner_tokens (padded m.types) n (map hold_token l)) (inner m n l) (inner_wide l) (omega (arith, inner-long l h, net-small _ m right n k)) (inner-nth l h)

@@ -1,11 +1,11 @@
 -- What the parts of the code answer for a held model is what the model's event asks and gives.
 use Prim.Native.Nat.{ℕ, zero, suc, ◌+◌, ◌*◌, ◌≤◌, ◌<◌}
 use mathlib.Core.Path.{◌≡◌, refl, ap, sym, ◌∙◌}
-use mathlib.Core.Bool.{Bool, true}
+use mathlib.Core.Bool.{Bool, true, not}
 use mathlib.Core.List.{List, [], ◌∷◌}
 use native.Mathlib.Omega.{arith}
 use native.Mathlib.Nat.{zero-add, add-zero}
-use lib.Dec.{ltb}
+use lib.Dec.{ltb, eqb}
 use borrow.Author.Tests.{ltb-true}
 use lib.ListN.{length, take, get_or, length-take, get_or-eq_default}
 use lib.Seq.{ext_get_or, get_or-take}
@@ -19,7 +19,7 @@ use Rattle.eos.specs.Firing.{act_side, of_act, outer_of, inner_of, summed, pre, 
 use Rattle.eos.proofs.VectorLaws.{get_d-⊕}
 use Rattle.eos.proofs.VectorSums.{length-times, length-unit, length-zeros, length-one, long-left, nth-times, nth_zero}
 use Rattle.model.specs.Rules.{nth, right_act}
-use Rattle.model.specs.Acts.{act_of, held_act, outer_in}
+use Rattle.model.specs.Acts.{act_of, alone_of, held_act, outer_in}
 use Rattle.model.specs.Held.{tabled, row, row_in, listed, no_net, no_event, sides_in, net_of, event_of, sync_in, model_of, row_at}
 use Rattle.model.specs.Test.{held_net, empty_past, used_of, frame_in}
 use Rattle.model.specs.declared.ObjectNet.{ObjectNet}
@@ -238,10 +238,20 @@ module _ (m : Model) (held : Held m) (e : ℕ) (known : e < m.listed) where
         λ i. omega (arith, get_d-⊕ (unit p) (zeros n) i, nth_zero n i, get_d-⊕ (unit p) (zeros 32) i, nth_zero 32 i) in
         ext_get_or 0 (padded v) one (length-padded v ∙ sym (length-one p 32 (omega arith))) (λ i q. nth-padded v short i ∙ at i)
 
+    -- and none
+    none-is : padded (zeros (eos.places (model_of m))) ≡ zeros 32
+    unfolding model_of
+    none-is =
+        let n = length (take m.places m.types) in
+        let wide = most-places m held in
+        let short : length (zeros n) ≤ 32 = omega (arith, length-zeros n, length-take m.places m.types) in
+        ext_get_or 0 (padded (zeros n)) (zeros 32) (length-padded (zeros n) ∙ sym (length-zeros 32)) (λ i q. nth-padded (zeros n) short i ∙ nth_zero n i ∙ sym (nth_zero 32 i))
+
     outer-is : (a : eos.Act) → right_act (frame_in m) a ≡ true → padded (of_act side (model_of m) a) ≡ act_side (row_at table) 32 a
     unfolding right_act
     outer-is (eos.move k) h = move-is k (ltb-true k m.moves h)
-    outer-is (eos.idle p) h = idle-is p (ltb-true p m.places (and_true (ltb p m.places) _ h).0)
+    outer-is (eos.idle p) h = idle-is p (ltb-true p m.places (and_true (ltb p m.places) _ (and_true (not (eqb m.header 2)) _ h).1).0)
+    outer-is (eos.alone n) h = none-is
 
   -- ---- the whole
 
@@ -257,6 +267,10 @@ module _ (m : Model) (held : Held m) (e : ℕ) (known : e < m.listed) where
   unfolding outer_of event_of
   outer_of_lem {side} s = rw (event-is m e known) (sym (outer-is s (act_of event.kind event.index) (act-is (frame_in m) event.kind event.index act-held).right))
 
+  alone_same : alone_of (act_of event.kind event.index) ≡ alone_of (eos.event (model_of m) e).act
+  unfolding event_of
+  alone_same = ap (λ (v : eos.Event). alone_of v.act) (sym (event-is m e known))
+
   -- a side from its parts
   abbrev pub sides_with : (ObjectNet → List (List ℕ)) → List (List ℕ) → Sides
   sides_with pick table = record {
@@ -267,6 +281,7 @@ module _ (m : Model) (held : Held m) (e : ℕ) (known : e < m.listed) where
   pub rule_is : length m.types ≡ 32 → ((i : ℕ) → i < 32 → length (row_at m.pre i) ≡ 32) → ((i : ℕ) → i < 32 → length (row_at m.post i) ≡ 32)
       → record {
         nets = m.nets;
+        alone = alone_of (act_of event.kind event.index);
         types = m.types;
         pre = sides_with (λ o. o.pre) m.pre;
         post = sides_with (λ o. o.post) m.post;
@@ -277,7 +292,7 @@ module _ (m : Model) (held : Held m) (e : ℕ) (known : e < m.listed) where
       let q = outer_of_lem (post_moving c) in
       let i = inners_are pre_side in
       let j = inners_are post_side in
-      λ x. record { nets = sym (nets-long m) x; types = types_are a x; pre = record { outer = o x; inner = i x }; post = record { outer = q x; inner = j x } }
+      λ x. record { nets = sym (nets-long m) x; alone = alone_same x; types = types_are a x; pre = record { outer = o x; inner = i x }; post = record { outer = q x; inner = j x } }
 
 -- no net has more transitions than a table has rows
 pub few-transitions : (m : Model) → Held m → length m.objects ≡ 8 → (n : ℕ) → (get_or m.objects n no_net).transitions ≤ 32
@@ -287,8 +302,8 @@ few-transitions m held long n =
     (λ h. few-steps m.nets n o.places o.transitions (count-is m held n h))
     (λ h. omega (arith, ap (λ (o : ObjectNet). o.transitions) (get_or-eq_default m.objects no_net {n = n} (omega arith))))
 
--- the number of an event's move or place is that of a row
+-- the number of an event's move, place or net is that of a row
 pub index-few : (m : Model) → Held m → (e : ℕ) → e < m.listed → (1 ≤ (get_or m.events e no_event).index) × ((get_or m.events e no_event).index ≤ 32)
 index-few m held e known =
     let v = get_or m.events e no_event in
-    act_range (frame_in m) v.kind v.index (act-held m held e known) (most-moves m held) (most-places m held)
+    act_range (frame_in m) v.kind v.index (act-held m held e known) (most-moves m held) (most-places m held) (most-nets m held)

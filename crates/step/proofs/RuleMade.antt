@@ -6,7 +6,7 @@ use native.Mathlib.Omega.{arith}
 use lib.ListN.{get_or}
 use Rattle.eos.specs.Model.{Act}
 use Rattle.eos.specs.Firing.{act_side}
-use Rattle.model.specs.Acts.{index_of, act_of}
+use Rattle.model.specs.Acts.{index_of, alone_of, act_of}
 use Rattle.model.specs.Held.{SizedModel, row_at, no_net, no_event, model_of}
 use Rattle.model.specs.Test.{held_model}
 use Rattle.model.specs.declared.Event.{Event}
@@ -48,12 +48,12 @@ module _ (m : Model) (right : held_model m ≡ true) where
           omega (arith, ap index_of r, index_back event.kind event.index i.0, i.1)
 
       -- a rule from its parts
-      pub rule_made : (r : Rule) → r.nets ≡ m.nets → r.types ≡ m.types
+      pub rule_made : (r : Rule) → r.nets ≡ m.nets → r.alone ≡ alone_of (act_of event.kind event.index) → r.types ≡ m.types
           → r.pre.outer ≡ act_side (row_at m.pre) 32 (act_of event.kind event.index) → r.pre.inner ≡ net_sums pre_arcs m event.sync
           → r.post.outer ≡ act_side (row_at m.post) 32 (act_of event.kind event.index) → r.post.inner ≡ net_sums post_arcs m event.sync
           → r ≡ hold_rule (model_of m) e
-      rule_made r a b o i p j =
-          (λ x. record { nets = a x; types = b x; pre = record { outer = o x; inner = i x }; post = record { outer = p x; inner = j x } })
+      rule_made r a u b o i p j =
+          (λ x. record { nets = a x; alone = u x; types = b x; pre = record { outer = o x; inner = i x }; post = record { outer = p x; inner = j x } })
           ∙ rule_is m is_held e known sized.types sized.pre.wide sized.post.wide
 
       -- the same, where the counts are read of the event

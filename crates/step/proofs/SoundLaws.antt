@@ -20,7 +20,7 @@ use Rattle.text.specs.Lines.{every}
 use Rattle.text.specs.Answers.{padded}
 use Rattle.text.proofs.PaddedLaws.{at-padded}
 use Rattle.text.proofs.TestLaws.{within-is}
-use Rattle.model.specs.Rules.{nth, byte, right_sides, right_model, frame_of}
+use Rattle.model.specs.Rules.{under, nth, byte, right_sides, right_plant, frame_of}
 use Rattle.model.specs.Held.{tabled, row, listed}
 use Rattle.model.proofs.PaddedRows.{small_at, nth-zeros, padded_none}
 use Rattle.model.proofs.RuleLaws.{list_is, sides_are, net-is, right_is, few-nets, few-places, right_type, right_net_lem, right_event_lem, sync_at}
@@ -59,13 +59,13 @@ module _ (side : Transition → List ℕ) (s : Side side) (b : Bytes side) where
       let x : c * nth (side t) i ≤ 255 * 255 = mul-le-mul few (b size t q.0 i) in
       omega (arith, get_d-⊕ (times c (side t)) (summed side cs ts) i, nth-times c (side t) i, x, summed-small size cs ts p.1 q.1 i)
 
-  module _ (m : Model) (right : right_model m ≡ true) (e : ℕ) (known : e < length m.events) where
+  module _ (header : ℕ) (m : Model) (right : right_plant (under header m) ≡ true) (e : ℕ) (known : e < length m.events) where
     inner-small : (n : ℕ) → n < length m.nets → (i : ℕ) → nth (inner_of side m (event m e) n) i ≤ 2080800
     unfolding inner_of
     inner-small n h i =
-        let ev = right_event_lem m (right_is m right) e known in
-        let y = sync_at (frame_of m) (event m e) ev n (omega (arith, ev.long)) in
-        let r = net-is (net m n) (right_net_lem m (right_is m right) n h) in
+        let ev = right_event_lem _ (right_is _ right) e known in
+        let y = sync_at (frame_of (under header m)) (event m e) ev n (omega (arith, ev.long)) in
+        let r = net-is (net m n) (right_net_lem _ (right_is _ right) n h) in
         let few = within-is 0 32 (length (net m n).transitions) r.few in
         let z = zeros (net m n).size in
         omega (
@@ -82,47 +82,47 @@ module _ (side : Transition → List ℕ) (s : Side side) (b : Bytes side) where
         by_index (length m.nets) n
         (λ h.
         rw (listed_at f (length m.nets) n [] h)
-        (omega (arith, at-padded (f n) (omega (arith, inner_side_long side s m right (event m e) n h, net-small m right n h)) c, inner-small n h c)))
+        (omega (arith, at-padded (f n) (omega (arith, inner_side_long side s _ m right (event m e) n h, net-small _ m right n h)) c, inner-small n h c)))
         (λ h. rw (listed_past f (length m.nets) n [] h, padded_none) (omega (arith, nth-zeros 32 c)))
 
     side_small : SmallRows (hold_sides side m (event m e)).inner
     unfolding hold_sides
     side_small n k =
         let l = listed (inner_of side m (event m e)) 0 (length m.nets) in
-        let few = few-nets m (right_is m right) in
+        let few = few-nets _ (right_is _ right) in
         by_index 8 n
         (λ h. rw (tabled-row row [] refl 8 l (omega (arith, length-listed (inner_of side m (event m e)) 0 (length m.nets))) n h) (omega (arith, padded-small n k)))
         (λ h. rw (get_or-eq_default (tabled row 8 l) [] {n = n} (omega (arith, length-tabled row 8 l))) (omega arith))
 
 -- ---- what is required of a rule
-pub sound_rule : (m : Model) → right_model m ≡ true → (e : ℕ) → e < length m.events → Sound (hold_rule m e)
+pub sound_rule : (header : ℕ) (m : Model) → right_plant (under header m) ≡ true → (e : ℕ) → e < length m.events → Sound (hold_rule m e)
 unfolding hold_rule
-sound_rule m right e known = record {
-  nets = few-nets m (right_is m right);
+sound_rule _ m right e known = record {
+  nets = few-nets _ (right_is _ right);
   types = λ p.
       by_index (places m) p
       (λ h.
       omega (
         arith,
-        at-padded m.types (few-places m (right_is m right)) p,
-        right_type m (right_is m right) p h,
-        few-nets m (right_is m right),
+        at-padded m.types (few-places _ (right_is _ right)) p,
+        right_type _ (right_is _ right) p h,
+        few-nets _ (right_is _ right),
       ))
-      (λ h. omega (arith, at-padded m.types (few-places m (right_is m right)) p, get_or-eq_default m.types 0 {n = p} h));
-  pre = side_small pre pre_side pre-bytes m right e known;
-  post = side_small post post_side post-bytes m right e known;
+      (λ h. omega (arith, at-padded m.types (few-places _ (right_is _ right)) p, get_or-eq_default m.types 0 {n = p} h));
+  pre = side_small pre pre_side pre-bytes _ m right e known;
+  post = side_small post post_side post-bytes _ m right e known;
 }
 
 -- ---- what is required of net-tokens
 
-on_places : (m : Model) → right_model m ≡ true → (l : Marking) → T (M.every (proper m) l) → OnPlaces (map hold_token l)
-on_places m right [] h = tt
-on_places m right (t ∷ l) h =
+on_places : (header : ℕ) (m : Model) → right_plant (under header m) ≡ true → (l : Marking) → T (M.every (proper m) l) → OnPlaces (map hold_token l)
+on_places _ m right [] h = tt
+on_places _ m right (t ∷ l) h =
     let f = fit m t (and_l (proper m t) (M.every (proper m) l) h) in
-    (omega arith, omega (arith, f.place, few-places m (right_is m right)), on_places m right l (and_r (proper m t) (M.every (proper m) l) h))
+    (omega arith, omega (arith, f.place, few-places _ (right_is _ right)), on_places _ m right l (and_r (proper m t) (M.every (proper m) l) h))
 
-pub placed-held : (m : Model) → right_model m ≡ true → (ts : Marking) → T (M.every (proper m) ts) → length ts ≤ 256 → Placed (map hold_token ts)
-placed-held m right ts h few = record { few = omega (arith, length-map ts hold_token); places = on_places m right ts h }
+pub placed-held : (header : ℕ) (m : Model) → right_plant (under header m) ≡ true → (ts : Marking) → T (M.every (proper m) ts) → length ts ≤ 256 → Placed (map hold_token ts)
+placed-held _ m right ts h few = record { few = omega (arith, length-map ts hold_token); places = on_places _ m right ts h }
 
 -- net-tokens that are read for a model are the model's
 pub proper_read : (lim : Limits) (m : Model) (ts : Marking) → every (right_net_token lim (sizes_of m)) ts ≡ true → T (M.every (proper m) ts)

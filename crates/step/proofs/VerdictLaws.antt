@@ -1,7 +1,7 @@
 -- Laws of the verdict: the tests before one are passed, and it says why.
-use Prim.Native.Nat.{ℕ, suc, ◌+◌, ◌-◌, ◌≤◌, ◌<◌}
+use Prim.Native.Nat.{ℕ, zero, suc, ◌+◌, ◌-◌, ◌≤◌, ◌<◌}
 use mathlib.Core.Path.{◌≡◌, refl, sym, ap, ◌∙◌}
-use mathlib.Core.Bool.{Bool, true, false}
+use mathlib.Core.Bool.{Bool, true, false, and-false}
 use mathlib.Core.List.{List, [], ◌∷◌, ◌++◌}
 use mathlib.Core.Option.{Option, none, some}
 use native.Mathlib.Omega.{arith}
@@ -13,11 +13,10 @@ use Rattle.eos.specs.Vector.{le_v, eq_v}
 use Rattle.eos.specs.Causes.{Cause, taking, giving, short, unequal, missing, crowded, first, unless, at, failing}
 use Rattle.marking.specs.declared.NetToken.{NetToken}
 use Rattle.model.specs.Held.{row_at, told}
-use Rattle.step.specs.declared.Sides.{Sides}
 use Rattle.step.specs.declared.Rule.{Rule}
 use Rattle.step.specs.declared.Refusal.TheVariants.{Places, Short, Unequal, Missing, Crowded}
 use Rattle.step.specs.declared.Refusal.{Refusal}
-use Rattle.step.specs.Verdict.{outer_tokens, inner_taken_in, inner_given_in, lacking_tokens, outer_causes, inner_causes, marking_causes, causes_in, verdict_of}
+use Rattle.step.specs.Verdict.{outer_tokens, types_in, by_alone, outer_taken_in, outer_given_in, inner_taken_in, inner_given_in, lacking_tokens, outer_causes, inner_causes, marking_causes, causes_in, verdict_of}
 use Rattle.step.specs.VerdictParts.{Inner, even_in}
 use Rattle.eos.proofs.FailingLaws.{failing_same}
 use Rattle.step.proofs.LackLaws.{lacking_fewer}
@@ -88,26 +87,60 @@ module _ (t : ℕ) (b : List (Option Cause)) where
   turns (none ∷ a) e = turns a e
   turns (some c ∷ a) e = e
 
+-- ---- an event that names its places, and one that is `alone`
+
+module _ {B : Type 0} (named alone : B) where
+  is_named : (n : ℕ) → n ≡ 0 → by_alone n named alone ≡ named
+  is_named n e = rw e
+
+  is_alone : (n : ℕ) → (n ≡ 0 → ⊥) → by_alone n named alone ≡ alone
+  is_alone zero e = absurd (e refl)
+  is_alone (suc n) e = refl
+
+module _ (q : Rule) (taken : List NetToken) where
+  module _ (e : q.alone ≡ 0) where
+    pub taken_named : eq_v (outer_tokens taken) q.pre.outer ≡ outer_taken_in q taken
+    unfolding outer_taken_in
+    taken_named = sym (is_named (eq_v (outer_tokens taken) q.pre.outer) (eq_v (types_in q.types taken) (q.alone ∷ [])) q.alone e)
+
+    pub given_named : (given : List NetToken) → eq_v (outer_tokens given) q.post.outer ≡ outer_given_in q taken given
+    unfolding outer_given_in
+    given_named given = ap (eq_v (outer_tokens given)) (sym (is_named q.post.outer (outer_tokens taken) q.alone e))
+
+  module _ (e : q.alone ≡ 0 → ⊥) where
+    pub taken_alone : eq_v (types_in q.types taken) (q.alone ∷ []) ≡ outer_taken_in q taken
+    unfolding outer_taken_in
+    taken_alone = sym (is_alone (eq_v (outer_tokens taken) q.pre.outer) (eq_v (types_in q.types taken) (q.alone ∷ [])) q.alone e)
+
+    pub given_alone : (given : List NetToken) → eq_v (outer_tokens given) (outer_tokens taken) ≡ outer_given_in q taken given
+    unfolding outer_given_in
+    given_alone given = ap (eq_v (outer_tokens given)) (sym (is_alone q.post.outer (outer_tokens taken) q.alone e))
+
+-- not one net-token
+pub not_one : (types : List ℕ) (net : ℕ) (taken : List NetToken) → (length taken ≡ 1 → ⊥) → false ≡ eq_v (types_in types taken) (net ∷ [])
+not_one types net [] h = refl
+not_one types net (t ∷ []) h = absurd (h refl)
+not_one types net (t ∷ u ∷ l) h = sym (and-false _)
+
 -- ---- the tests on the places
-module _ (t : ℕ) (pre post : Sides) (taken given : List NetToken) where
+module _ (t : ℕ) (q : Rule) (taken given : List NetToken) where
   abbrev pub on_places : Verdict
-  on_places = answer t (outer_causes pre post taken given)
+  on_places = answer t (outer_causes q taken given)
 
-  pub stop_take : eq_v (outer_tokens taken) pre.outer ≡ false → on_places ≡ Err (Places 2)
+  pub stop_take : outer_taken_in q taken ≡ false → on_places ≡ Err (Places 2)
   unfolding outer_causes verdict_of
-  stop_take e = stop t taking _ (eq_v (outer_tokens taken) pre.outer) e
+  stop_take e = stop t taking _ (outer_taken_in q taken) e
 
-  module _ (a : eq_v (outer_tokens taken) pre.outer ≡ true) where
-    pub stop_give : eq_v (outer_tokens given) post.outer ≡ false → on_places ≡ Err (Places (t + 3))
+  module _ (a : outer_taken_in q taken ≡ true) where
+    pub stop_give : outer_given_in q taken given ≡ false → on_places ≡ Err (Places (t + 3))
     unfolding outer_causes verdict_of
     stop_give e =
         let k : 3 + t ≡ t + 3 = omega arith in
-        skip t taking _ (eq_v (outer_tokens taken) pre.outer) a ∙ stop t giving [] (eq_v (outer_tokens given) post.outer) e
-        ∙ ap (λ (n : ℕ). Err (Places n)) k
+        skip t taking _ (outer_taken_in q taken) a ∙ stop t giving [] (outer_given_in q taken given) e ∙ ap (λ (n : ℕ). Err (Places n)) k
 
-    pub pass_places : eq_v (outer_tokens given) post.outer ≡ true → on_places ≡ Ok tt
+    pub pass_places : outer_given_in q taken given ≡ true → on_places ≡ Ok tt
     unfolding outer_causes
-    pass_places e = skip t taking _ (eq_v (outer_tokens taken) pre.outer) a ∙ skip t giving [] (eq_v (outer_tokens given) post.outer) e ∙ nothing t
+    pass_places e = skip t taking _ (outer_taken_in q taken) a ∙ skip t giving [] (outer_given_in q taken given) e ∙ nothing t
 
 -- ---- the tests on the nets
 module _ (t : ℕ) (q : Rule) (taken given : List NetToken) where
@@ -189,14 +222,14 @@ module _ (room t : ℕ) (q : Rule) (taken given held : List NetToken) where
   behind_places = inner_causes q taken given ++ marking_causes room taken (length given) held
 
   -- turned down on the places
-  pub by_places : (r : Refusal) → Err r ≡ on_places t q.pre q.post taken given → Err r ≡ in_turn
+  pub by_places : (r : Refusal) → Err r ≡ on_places t q taken given → Err r ≡ in_turn
   unfolding causes_in
-  by_places r e = sym (turns t behind_places (outer_causes q.pre q.post taken given) (sym e))
+  by_places r e = sym (turns t behind_places (outer_causes q taken given) (sym e))
 
-  module _ (e : Ok tt ≡ on_places t q.pre q.post taken given) where
+  module _ (e : Ok tt ≡ on_places t q taken given) where
     places-passed : answer t behind_places ≡ in_turn
     unfolding causes_in
-    places-passed = sym (goes_on t behind_places (outer_causes q.pre q.post taken given) (sym e))
+    places-passed = sym (goes_on t behind_places (outer_causes q taken given) (sym e))
 
     -- on the nets
     pub by_nets : (r : Refusal) → Err r ≡ on_nets t q taken given → Err r ≡ in_turn

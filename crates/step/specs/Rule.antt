@@ -3,6 +3,7 @@ use Rattle.std.specs.Prelude.{ℕ, List, length, replicate}
 use Rattle.text.specs.Answers.{padded}
 use Rattle.eos.specs.Model as eos
 use Rattle.eos.specs.Firing.{outer_of, inner_of, pre, post}
+use Rattle.model.specs.Acts.{alone_of}
 use Rattle.model.specs.Held.{no_row, tabled, row, listed}
 use Rattle.step.specs.declared.Sides.{Sides}
 use Rattle.step.specs.declared.Rule.{Rule}
@@ -15,6 +16,7 @@ hold_sides side m e = record { outer = padded (outer_of side m e); inner = table
 unfoldable pub hold_rule : eos.Model → ℕ → Rule
 hold_rule m k = record {
   nets = length m.nets;
+  alone = alone_of (eos.event m k).act;
   types = padded m.types;
   pre = hold_sides pre m (eos.event m k);
   post = hold_sides post m (eos.event m k);
@@ -25,4 +27,4 @@ abbrev pub no_sides : Sides
 no_sides = record { outer = no_row; inner = replicate 8 no_row }
 
 abbrev pub no_rule : Rule
-no_rule = record { nets = 0; types = replicate 32 0; pre = no_sides; post = no_sides }
+no_rule = record { nets = 0; alone = 0; types = replicate 32 0; pre = no_sides; post = no_sides }

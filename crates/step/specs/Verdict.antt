@@ -1,5 +1,5 @@
 -- Why a step is turned down, over its net-tokens as they are held: 01's causes 8 to 12, in the table's order.
-use Rattle.std.specs.Prelude.{ℕ, suc, ◌+◌, ◌-◌, Bool, cond, List, [], ◌∷◌, ◌++◌, leb, eqb, length, get_or, Result, Ok, Err}
+use Rattle.std.specs.Prelude.{ℕ, zero, suc, ◌+◌, ◌-◌, Bool, cond, List, [], ◌∷◌, ◌++◌, map, leb, eqb, length, get_or, Result, Ok, Err}
 use Rattle.std.proofs.Math.Option.{Option, none, some}
 use Rattle.eos.specs.Vector.{◌⊕◌, ◌⊖◌, zeros, unit, le_v, eq_v}
 use Rattle.eos.specs.Multiset as M
@@ -8,7 +8,6 @@ use Rattle.eos.specs.Causes.{Refusal, Cause, taking, giving, short, unequal, mis
 use Rattle.marking.specs.Tokens.{like}
 use Rattle.marking.specs.declared.NetToken.{NetToken}
 use Rattle.model.specs.Held.{row_at}
-use Rattle.step.specs.declared.Sides.{Sides}
 use Rattle.step.specs.declared.Rule.{Rule}
 use Rattle.step.specs.declared.Refusal as refusal
 use Rattle.step.specs.declared.Refusal.TheVariants.{Places, Short, Unequal, Missing, Crowded}
@@ -26,6 +25,23 @@ inside_in types n t = cond (eqb (get_or types (t.place - 1) 0) (suc n)) t.counts
 unfoldable pub inner_tokens : List ℕ → ℕ → List NetToken → List ℕ
 inner_tokens types n [] = zeros 32
 inner_tokens types n (t ∷ ts) = inside_in types n t ⊕ inner_tokens types n ts
+
+-- the type of the place of each net-token
+abbrev pub types_in : List ℕ → List NetToken → List ℕ
+types_in types ts = map (λ t. get_or types (t.place - 1) 0) ts
+
+-- what holds of an event that names its places, and what of one that is `alone`, by its net, from 1, or 0
+abbrev pub by_alone : {B : Type 0} → ℕ → B → B → B
+by_alone zero named alone = named
+by_alone (suc n) named alone = alone
+
+-- the net-tokens taken are on the places that the event asks; of `alone` it is one, of its net
+unfoldable pub outer_taken_in : Rule → List NetToken → Bool
+outer_taken_in q taken = by_alone q.alone (eq_v (outer_tokens taken) q.pre.outer) (eq_v (types_in q.types taken) (q.alone ∷ []))
+
+-- the net-tokens given are on the places that the event gives; of `alone` on those of the net-tokens taken
+unfoldable pub outer_given_in : Rule → List NetToken → List NetToken → Bool
+outer_given_in q taken given = eq_v (outer_tokens given) (by_alone q.alone q.post.outer (outer_tokens taken))
 
 -- the net-tokens taken have what the event asks of net n
 unfoldable pub inner_taken_in : Rule → List NetToken → ℕ → Bool
@@ -46,10 +62,10 @@ abbrev pub has_room : ℕ → Marking → Bool
 has_room room μ = leb (length μ) room
 
 -- the tests of a step in three parts: on the places of the system net (8)
-unfoldable pub outer_causes : Sides → Sides → List NetToken → List NetToken → List (Option Cause)
-outer_causes pre post taken given =
-    unless (eq_v (outer_tokens taken) pre.outer) taking
-    ∷ unless (eq_v (outer_tokens given) post.outer) giving
+unfoldable pub outer_causes : Rule → List NetToken → List NetToken → List (Option Cause)
+outer_causes q taken given =
+    unless (outer_taken_in q taken) taking
+    ∷ unless (outer_given_in q taken given) giving
     ∷ []
 
 -- on each object net (9 and 10)
@@ -68,7 +84,7 @@ marking_causes room taken give held =
 
 -- all tests of a step in their order
 unfoldable pub causes_in : ℕ → Rule → List NetToken → List NetToken → List NetToken → List (Option Cause)
-causes_in room q taken given held = outer_causes q.pre q.post taken given ++ (inner_causes q taken given ++ marking_causes room taken (length given) held)
+causes_in room q taken given held = outer_causes q taken given ++ (inner_causes q taken given ++ marking_causes room taken (length given) held)
 
 -- a step is turned down by a cause. Nets are numbered from 1, lines from the step's `fire` line: `take` is line 2, its `lines` token lines
 -- follow, then `give`

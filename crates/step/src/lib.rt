@@ -27,10 +27,12 @@ impl Sides {
     }
 }
 
-// What the firing rule asks of a step of one event: how many nets there are, the types of the places, and the event's two sides.
+// What the firing rule asks of a step of one event: how many nets there are, the net of `alone`, from 1, or 0, the types of the places, and the
+// event's two sides.
 #[derive(Clone, Copy)]
 pub struct Rule {
     pub nets: usize,
+    pub alone: u8,
     pub types: [u8; 32],
     pub pre: Sides,
     pub post: Sides,
@@ -43,6 +45,7 @@ impl Rule {
     {
         Rule {
             nets: 0,
+            alone: 0,
             types: [0u8; 32],
             pre: Sides::empty(),
             post: Sides::empty(),

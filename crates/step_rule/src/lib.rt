@@ -10,7 +10,7 @@ ghost use Rattle.step.specs.Rule.{hold_rule};
 ghost use Rattle.step.specs.RuleParts.{sum_rows, pre_arcs, post_arcs, net_sums};
 
 use model::Model;
-use model_acts::outer_side;
+use model_acts::{alone_of, outer_side};
 use step::Rule;
 
 // A row of arcs added to the sum, as often as it is counted.
@@ -63,6 +63,7 @@ pub fn rule_of(m: &Model, e: usize, rule: &mut Rule)
     let event = &m.events[e];
     let act = event.act();
     rule.nets = m.nets;
+    rule.alone = alone_of(act);
     rule.types = m.types;
     rule.pre.outer = outer_side(act, &m.pre);
     rule.post.outer = outer_side(act, &m.post);

@@ -2,34 +2,64 @@
 // step's lines, and so of what is taken and what is given each by itself.
 #![tactic(auto)]
 
-ghost use Rattle.std.specs.Prelude.{◌≡◌, ◌≤◌, length};
+ghost use Rattle.std.specs.Prelude.{◌≡◌, ◌≤◌, length, [], ◌∷◌};
+ghost use Rattle.eos.specs.Vector.{eq_v};
 ghost use Rattle.eos.specs.Causes.{first};
 ghost use Rattle.eos.specs.Multiset as M;
 ghost use Rattle.model.specs.Limits.{room_limit};
 ghost use Rattle.marking.specs.Tokens.{before};
-ghost use Rattle.step.specs.Verdict.{outer_causes, inner_causes, marking_causes, causes_in, verdict_of};
+ghost use Rattle.step.specs.Verdict.{types_in, outer_taken_in, outer_given_in, outer_causes, inner_causes, marking_causes, causes_in, verdict_of};
 ghost use Rattle.step.specs.VerdictParts.{Sound, Placed};
 
 use marking::NetToken;
-use step::{Refusal, Rule, Sides};
+use step::{Refusal, Rule};
 use step_projections::containment::lacking;
 use step_projections::nets::{short_net, unbalanced_net};
 use step_projections::{inner_of, outer_of};
 
-// The tests on the places (8): the net-tokens taken are those that the event asks, and those given are those that it gives.
-pub fn on_places(
-    pre: &Sides,
-    post: &Sides,
-    taken: &[NetToken],
-    given: &[NetToken],
-) -> Result<(), Refusal>
-    requires { Placed taken.now × Placed given.now }
-    ensures { result ≡ verdict_of (length taken.now) (first (outer_causes pre.now post.now taken.now given.now)) }
+// Whether the net-tokens taken are one, of the net that is `alone`.
+fn one_of_net(rule: &Rule, taken: &[NetToken]) -> bool
+    requires { Placed taken.now }
+    ensures { result ≡ eq_v (types_in rule.now.types taken.now) (rule.now.alone ∷ []) }
 {
-    if outer_of(taken) != pre.outer {
+    if taken.len() != 1 {
+        return false;
+    }
+    let place = usize::from(taken[0].place) - 1;
+    rule.types[place] == rule.alone
+}
+
+// Whether the net-tokens taken are on the places that the event asks.
+fn asked(rule: &Rule, taken: &[NetToken]) -> bool
+    requires { Placed taken.now }
+    ensures { result ≡ outer_taken_in rule.now taken.now }
+{
+    if rule.alone == 0 {
+        return outer_of(taken) == rule.pre.outer;
+    }
+    one_of_net(rule, taken)
+}
+
+// Whether the net-tokens given are on the places that the event gives.
+fn left(rule: &Rule, taken: &[NetToken], given: &[NetToken]) -> bool
+    requires { Placed taken.now × Placed given.now }
+    ensures { result ≡ outer_given_in rule.now taken.now given.now }
+{
+    if rule.alone == 0 {
+        return outer_of(given) == rule.post.outer;
+    }
+    outer_of(given) == outer_of(taken)
+}
+
+// The tests on the places (8): the net-tokens taken are those that the event asks, and those given are those that it gives.
+pub fn on_places(rule: &Rule, taken: &[NetToken], given: &[NetToken]) -> Result<(), Refusal>
+    requires { Placed taken.now × Placed given.now }
+    ensures { result ≡ verdict_of (length taken.now) (first (outer_causes rule.now taken.now given.now)) }
+{
+    if !asked(rule, taken) {
         return Err(Refusal::Places { line: 2 });
     }
-    if outer_of(given) != post.outer {
+    if !left(rule, taken, given) {
         return Err(Refusal::Places {
             line: taken.len() + 3,
         });
@@ -88,7 +118,7 @@ pub fn verdict(
     requires { (room ≤ room_limit) × Sound rule.now × Placed taken.now × Placed given.now × (length held.now ≤ room_limit) × M.Sorted before held.now }
     ensures { result ≡ verdict_of (length taken.now) (first (causes_in room rule.now taken.now given.now held.now)) }
 {
-    on_places(&rule.pre, &rule.post, taken, given)?;
+    on_places(rule, taken, given)?;
     on_nets(rule, taken, given)?;
     on_marking(room, taken, given.len(), held)
 }

@@ -2,16 +2,18 @@
 use Prim.Native.Nat.{ℕ}
 use mathlib.Core.Path.{◌≡◌, refl}
 use mathlib.Core.List.{List, [], ◌∷◌, ◌++◌}
+use mathlib.Core.Bool.{true, false}
 use lib.IntN.{ℤ, pos, negsuc}
 use lib.ListN.{length, take}
 use Rattle.text.specs.Bytes.{Text, bytes, meet, far, newlines}
 use Rattle.text.specs.Number.{made, both, either, literal, digits, number_of, number, negated, signed, ended, item}
 use Rattle.text.specs.Lists.{stop_of, items, list_end, any_items, any_list}
-use Rattle.text.specs.Lines.{Outcome, got, bad, fault_at, spot_of, then, many, judged, out_at, in_range, modest, behind, read_number, read_row, read_list, read_weights, read_head}
+use Rattle.text.specs.Lines.{Outcome, got, bad, fault_at, spot_of, then, many, judged, out_at, in_range, modest, behind, read_number, read_row, read_list, read_weights, read_head, read_heads}
 use Rattle.text.specs.Token.{Token}
 use Rattle.text.specs.TokenLine.{counts_at, token_form, token_out, read_token}
 use Rattle.text.specs.Keyed.{keyed_form, read_keyed}
 use Rattle.text.specs.Printed.{decimal_of, decimal, signed_text, items_text, end_text, texts, number_text, list_text, weights_text, token_text}
+use Rattle.text.proofs.Standing.{differ}
 use Rattle.text.specs.declared.Cause.TheVariants.{Syntax, Range, Idling}
 use Rattle.text.specs.declared.Keyed.{Keyed}
 use Rattle.text.specs.declared.Keyed.TheVariants.{Former, Latter}
@@ -160,6 +162,28 @@ pub keyed_edges : (act (bytes "event=3\n") ≡ got (Former 3) 8)
     × (act (bytes "idle=2") ≡ bad (fault_at Syntax 0 6))
 unfolding read_keyed keyed_form judged behind literal both made either far meet item ended number number_of digits
 keyed_edges = (refl, refl, refl, refl, refl, refl, refl, refl)
+
+abbrev eos : Text → Outcome ℕ
+eos s = read_heads (bytes "eos=1\n") (bytes "eos=2\n") s 0
+
+-- a first line of two forms: which of them it is, and a line that is neither goes wrong where no such line goes on
+pub heads_edges : (eos (bytes "eos=1\n") ≡ got 1 6)
+    × (eos (bytes "eos=2\n") ≡ got 2 6)
+    × (eos (bytes "eos=3\n") ≡ bad (fault_at Syntax 0 4))
+    × (eos (bytes "eos=12\n") ≡ bad (fault_at Syntax 0 5))
+    × (eos (bytes "eos=21\n") ≡ bad (fault_at Syntax 0 5))
+    × (eos (bytes "eos=2x") ≡ bad (fault_at Syntax 0 5))
+    × (eos (bytes "eos=2") ≡ bad (fault_at Syntax 0 5))
+    × (eos (bytes "eoz=1\n") ≡ bad (fault_at Syntax 0 2))
+    × (eos (bytes "") ≡ bad (fault_at Syntax 0 0))
+    × (read_heads (bytes "eos=1\n") (bytes "eos=2\n") (bytes "\neos=2\n") 1 ≡ got 2 7)
+    × (read_heads (bytes "eos=1\n") (bytes "eos=2\n") (bytes "\neos=3\n") 1 ≡ bad (fault_at Syntax 1 5))
+unfolding read_heads judged literal made either far meet
+heads_edges = (refl, refl, refl, refl, refl, refl, refl, refl, refl, refl, refl)
+
+-- its two forms differ, as its laws want; a beginning of the other would not
+pub forms_differ : (differ (bytes "eos=1\n") (bytes "eos=2\n") ≡ true) × (differ (bytes "eos=1") (bytes "eos=12") ≡ false)
+forms_differ = (refl, refl)
 
 -- a fault by its line and its column, from 1, which only 2 and 3 have
 pub spots : (spot_of (bytes "eos=1\nnets=99\n") (fault_at Range 6 11) ≡ record { cause = Range; line = 2; column = 6 })

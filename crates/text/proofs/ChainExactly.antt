@@ -24,6 +24,15 @@ exactly_by m to from = record {
   forth = λ at c st h. m.forth at c st (from c h);
 }
 
+-- the same by another text, which is that of all that is Fine
+pub made_as : {C : Type 0} {s : Text} {f : ℕ → Outcome C} {text told : C → Text} {Fine : C → Type 0} → Makes s f text Fine
+    → ((c : C) → Fine c → text c ≡ told c) → Makes s f told Fine
+made_as {s} m same = record {
+  reach = λ at c next e. subst (λ t. Reaches s at t next) (same c (m.told at c next e)) (m.reach at c next e);
+  told = m.told;
+  forth = λ at c st h. rw (← same c h) (m.forth at c (rw (same c h) st) h);
+}
+
 -- what is exact, as what is made
 pub made_exactly : {C : Type 0} {s : Text} {f : ℕ → Outcome C} {text : C → Text} {fine : C → Bool} → Exactly s f text fine → Makes s f text (λ c. fine c ≡ true)
 made_exactly one = record {

@@ -2,9 +2,9 @@
 use Prim.Native.Nat.{ℕ, zero, suc}
 use mathlib.Core.Bool.{Bool, true, false}
 use Rattle.text.specs.Bytes.{Text, lf}
-use Rattle.text.specs.Number.{Read, missing, found, literal, number, item}
+use Rattle.text.specs.Number.{Read, missing, found, made, either, literal, number, item}
 use Rattle.text.specs.Lists.{list_end}
-use Rattle.text.specs.Lines.{Outcome, got, bad, then, need, many, judged, every, behind, read_number, read_row, read_head, cause_number}
+use Rattle.text.specs.Lines.{Outcome, got, bad, then, need, many, judged, every, behind, read_number, read_row, read_head, read_heads, cause_number}
 use Rattle.text.specs.Repeat.{many_at}
 use Rattle.text.specs.TokenLine.{token_form, token_range, read_token}
 use Rattle.text.specs.Keyed.{by_key, keyed_form, read_keyed}
@@ -68,10 +68,16 @@ module _ (P : ℕ → Type 0) where
     token_faults key places size range s at = judged_faults (token_range places range) _ at (token_form key places size s at)
 
   -- the first line of a file with 2 alone
-  pub head_faults : P 2 → (line s : Text) (at : ℕ) → Faults (read_head line s at)
-  unfolding read_head judged
-  head_faults two line s at = go (literal line s at)
-    where
-      go : (r : Read (Unit {0})) → Faults (judged (λ _. true) (λ _. at) at r)
-      go (missing b) = two
-      go (found a next) = tt
+  module _ (two : P 2) where
+    unranged_faults : {A : Type 0} (at : ℕ) (r : Read A) → Faults (judged (λ _. true) (λ _. at) at r)
+    unfolding judged
+    unranged_faults at (missing b) = two
+    unranged_faults at (found a next) = tt
+
+    pub head_faults : (line s : Text) (at : ℕ) → Faults (read_head line s at)
+    unfolding read_head
+    head_faults line s at = unranged_faults at (literal line s at)
+
+    pub heads_faults : (former latter s : Text) (at : ℕ) → Faults (read_heads former latter s at)
+    unfolding read_heads
+    heads_faults former latter s at = unranged_faults at (either (made (λ _. 1) (literal former s at)) (made (λ _. 2) (literal latter s at)))

@@ -1,21 +1,23 @@
 -- The kinds of line, each as a part: what it finds exactly, and how far its right lines go where it finds nothing.
-use Prim.Native.Nat.{ℕ}
+use Prim.Native.Nat.{ℕ, zero, suc}
 use mathlib.Core.Path.{◌≡◌, refl, sym, ◌∙◌}
 use mathlib.Core.List.{[], ◌∷◌, ◌++◌, append_assoc}
-use mathlib.Core.Bool.{Bool, true, false, false≢true}
+use mathlib.Core.Bool.{Bool, true, false, ◌||◌, and-false, false≢true}
+use native.Mathlib.Omega.{arith}
 use lib.Dec.{eqb, lit<}
-use lib.ListN.{length, get_or}
+use borrow.Author.Tests.{eqb-true, ne_eqb, lt-leb}
+use lib.ListN.{length}
 use Rattle.text.specs.Bytes.{Text, lf, colon}
-use Rattle.text.specs.Number.{Read, literal, number, item}
+use Rattle.text.specs.Number.{Read, made, either, literal, number, item}
 use Rattle.text.specs.Lists.{list_end}
 use Rattle.text.specs.Lines.{in_range, behind}
-use Rattle.text.specs.Printed.{decimal, end_text, number_text, place_text, token_text}
+use Rattle.text.specs.Printed.{decimal, end_text, number_text, place_text, token_text, head_text}
 use Rattle.text.specs.Token.{Token}
 use Rattle.text.specs.TokenLine.{counts_at, token_form, sized, token_formed}
 use Rattle.text.specs.Keyed.{by_key, keyed_text, keyed_form}
 use Rattle.text.specs.declared.Keyed.{Keyed}
 use Rattle.text.specs.declared.Keyed.TheVariants.{Former, Latter}
-use Rattle.text.proofs.Standing.{Stands, first_byte}
+use Rattle.text.proofs.Standing.{Stands, differ, differ_stand}
 use Rattle.text.proofs.Spelled.{Spelled, number_spelled}
 use Rattle.text.proofs.Halts.{Halts, number_halts}
 use Rattle.text.proofs.Parts.{Part, literal_part, row_part, made_part, either_part, same_part}
@@ -35,6 +37,35 @@ row_line value text one halts key n = behind_part key (list_part value text one 
 -- the first line of a file
 pub head_line : (line : Text) → Part (literal line) (λ _. line) (λ _. true)
 head_line line = literal_part line
+
+-- ---- the first line of a file that has two forms
+
+-- what holds of both holds of it
+pub head_holds : (P : Text → Type 0) (one two : Text) → P one → P two → (h : ℕ) → P (head_text one two h)
+head_holds P one two p q zero = q
+head_holds P one two p q (suc zero) = p
+head_holds P one two p q (suc (suc h)) = q
+
+one_or_two : (h : ℕ) → (eqb h 1 || eqb h 2) ≡ in_range 1 2 h
+one_or_two zero = refl
+one_or_two (suc zero) = refl
+one_or_two (suc (suc zero)) = refl
+one_or_two (suc (suc (suc h))) =
+    let n : ℕ = suc (suc (suc h)) in
+    rw (ne_eqb n 1 (λ e. omega (arith, e)), ne_eqb n 2 (λ e. omega (arith, e)), lt-leb n 2 (omega arith), and-false) refl
+
+module _ (one two : Text) (differs : differ one two ≡ true) where
+  abbrev line_of : ℕ → Text
+  line_of = head_text one two
+
+  unlike_lines : (g h : ℕ) → eqb g 1 ≡ true → eqb h 2 ≡ true → (s : Text) (at : ℕ) → Stands s at (line_of g) → Stands s at (line_of h) → ⊥
+  unlike_lines g h p q s at st su = differ_stand s at one two differs (rw (eqb-true g 1 p) at st) (rw (eqb-true h 2 q) at su)
+
+  pub heads_line : Part (λ s at. either (made (λ _. 1) (literal one s at)) (made (λ _. 2) (literal two s at))) line_of (in_range 1 2)
+  heads_line =
+      let former = made_part (λ _. 1) (literal_part one) line_of (λ h. eqb h 1) (λ v g. (refl, refl)) (λ h g. (tt, sym (eqb-true h 1 g), refl)) in
+      let latter = made_part (λ _. 2) (literal_part two) line_of (λ h. eqb h 2) (λ v g. (refl, refl)) (λ h g. (tt, sym (eqb-true h 2 g), refl)) in
+      same_part (either_part former latter unlike_lines) line_of (in_range 1 2) (λ h g. (refl, sym (one_or_two h) ∙ g)) (λ h g. one_or_two h ∙ g)
 
 -- ---- the line of a net-token
 
@@ -64,17 +95,13 @@ is_former = by_key (λ n. true) (λ n. false)
 abbrev is_latter : Keyed → Bool
 is_latter = by_key (λ n. false) (λ n. true)
 
--- the first byte of such a line
-key_byte : (c : ℕ) (key : Text) (n : ℕ) (s : Text) (at : ℕ) → Stands s at (number_text (c ∷ key) n) → get_or s at 0 ≡ c
-unfolding number_text
-key_byte c key n s at st = first_byte s at _ st
-
 module _ (c d : ℕ) (k l : Text) (unlike : c ≡ d → ⊥) where
   abbrev text : Keyed → Text
   text = keyed_text (c ∷ k) (d ∷ l)
 
   apart : (a b : Keyed) → is_former a ≡ true → is_latter b ≡ true → (s : Text) (at : ℕ) → Stands s at (text a) → Stands s at (text b) → ⊥
-  apart (Former m) (Latter n) p q s at st su = unlike (sym (key_byte c k m s at st) ∙ key_byte d l n s at su)
+  unfolding number_text
+  apart (Former m) (Latter n) p q s at st su = differ_stand s at (text (Former m)) (text (Latter n)) (rw (ne_eqb c d unlike) refl) st su
   apart (Former m) (Former n) p q s at st su = false≢true q
   apart (Latter m) b p q s at st su = false≢true p
 

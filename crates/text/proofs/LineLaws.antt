@@ -10,7 +10,7 @@ use Rattle.text.specs.Bytes.{Text, far}
 use Rattle.text.proofs.Basics.{by_test, and_true}
 use Rattle.text.specs.Number.{Read, missing, found, made, both, either, literal, number, item}
 use Rattle.text.specs.Capped.{passed}
-use Rattle.text.specs.Lines.{Outcome, got, bad, fault_at, fault, need, judged, in_range, behind, read_head}
+use Rattle.text.specs.Lines.{Outcome, got, bad, fault_at, fault, need, judged, in_range, behind, read_head, read_heads}
 use Rattle.std.specs.Prelude.{Result}
 use Rattle.std.specs.declared.result.Result.TheVariants.{Ok, Err}
 use Rattle.text.specs.Keyed.{by_key, keyed_out}
@@ -172,3 +172,19 @@ module _ (line s : Text) (at : ℕ) where
   pub head_stands : (u : ℕ) → Ok u ≡ passed (literal line s at) → Ok (record { value = tt; end = u }) ≡ parsed (read_head line s at)
   unfolding read_head judged parsed
   head_stands u e = rw (passed_found (literal line s at) u e).1
+
+-- ---- the first line of a file that has two forms
+
+module _ (one two s : Text) (at : ℕ) where
+  pub heads_former : (u : ℕ) → Ok u ≡ passed (literal one s at) → Ok (record { value = 1; end = u }) ≡ parsed (read_heads one two s at)
+  unfolding read_heads judged either made parsed
+  heads_former u e = rw (passed_found (literal one s at) u e).1
+
+  module _ (b : ℕ) (missed : Err b ≡ passed (literal one s at)) where
+    pub heads_latter : (u : ℕ) → Ok u ≡ passed (literal two s at) → Ok (record { value = 2; end = u }) ≡ parsed (read_heads one two s at)
+    unfolding read_heads judged either made parsed
+    heads_latter u e = rw (passed_missing (literal one s at) b missed, (passed_found (literal two s at) u e).1)
+
+    pub heads_missing : (c : ℕ) → Err c ≡ passed (literal two s at) → Err (fault_at Syntax at (max b c)) ≡ parsed (read_heads one two s at)
+    unfolding read_heads judged either made parsed
+    heads_missing c e = rw (passed_missing (literal one s at) b missed, passed_missing (literal two s at) c e)

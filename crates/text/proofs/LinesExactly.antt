@@ -2,23 +2,24 @@
 use Prim.Native.Nat.{ℕ, ◌+◌}
 use mathlib.Core.Path.{◌≡◌, sym, subst, fun_ext}
 use mathlib.Core.List.{◌∷◌}
-use mathlib.Core.Bool.{Bool, true, ◌&&◌}
+use mathlib.Core.Bool.{Bool, true, ◌&&◌, and-true}
 use lib.Dec.{eqb}
 use lib.IntN.{ℤ}
 use lib.ListN.{length}
 use Rattle.text.specs.Bytes.{Text}
 use Rattle.text.specs.Number.{number, signed}
-use Rattle.text.specs.Lines.{read_row, out_at, every, in_range, read_number, read_list, read_weights, read_head}
-use Rattle.text.specs.Printed.{decimal, signed_text, number_text, list_text, weights_text, token_text}
+use Rattle.text.specs.Lines.{read_row, out_at, every, in_range, read_number, read_list, read_weights, read_head, read_heads}
+use Rattle.text.specs.Printed.{decimal, signed_text, number_text, list_text, weights_text, token_text, head_text}
 use Rattle.text.specs.Token.{Token}
 use Rattle.text.specs.TokenLine.{sized, token_range, token_out, read_token, token_formed, right_token}
 use Rattle.text.specs.Keyed.{by_key, keyed_text, keyed_out, read_keyed}
 use Rattle.text.proofs.Basics.{by_test}
 use Rattle.text.proofs.Spelled.{number_spelled, signed_spelled}
 use Rattle.text.proofs.Halts.{number_halts, signed_halts}
+use Rattle.text.proofs.Standing.{differ}
 use Rattle.text.proofs.Exactly.{Exactly}
 use Rattle.text.proofs.Columns.{part_exactly}
-use Rattle.text.proofs.LineKinds.{number_line, row_line, head_line, token_line, keyed_line}
+use Rattle.text.proofs.LineKinds.{number_line, row_line, head_line, heads_line, token_line, keyed_line}
 
 -- the line of a number
 pub number_exactly : (key : Text) (range : ℕ → Bool) (s : Text) → Exactly s (read_number key range s) (number_text key) range
@@ -43,6 +44,13 @@ weights_exactly key n range s =
 pub head_exactly : (line s : Text) → Exactly s (read_head line s) (λ _. line) (λ _. true)
 unfolding read_head
 head_exactly line s = part_exactly (head_line line) (λ _. true) (λ at _. at) s
+
+-- the first line of a file that has two forms
+pub heads_exactly : (one two : Text) → differ one two ≡ true → (s : Text) → Exactly s (read_heads one two s) (head_text one two) (in_range 1 2)
+unfolding read_heads
+heads_exactly one two differs s =
+    subst (Exactly s (read_heads one two s) (head_text one two)) (fun_ext λ h. and-true _)
+    (part_exactly (heads_line one two differs) (λ _. true) (λ at _. at) s)
 
 -- the line of one of two keys
 pub keyed_exactly : (c d : ℕ) (k l : Text) → (c ≡ d → ⊥) → (range₁ range₂ : ℕ → Bool) (s : Text)

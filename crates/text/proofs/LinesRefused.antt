@@ -9,23 +9,28 @@ use lib.IntN.{ℤ}
 use lib.ListN.{length}
 use Rattle.text.specs.Bytes.{Text}
 use Rattle.text.specs.Number.{number, signed}
-use Rattle.text.specs.Lines.{Outcome, then, every, out_at, read_row, read_number, read_list, read_weights, read_head}
-use Rattle.text.specs.Printed.{decimal, signed_text, number_text, list_text, weights_text, token_text}
+use Rattle.text.specs.Lines.{Outcome, then, every, out_at, in_range, read_row, read_number, read_list, read_weights, read_head, read_heads}
+use Rattle.text.specs.Printed.{decimal, signed_text, number_text, list_text, weights_text, token_text, head_text}
 use Rattle.text.specs.TokenLine.{token_range, token_out, token_formed, read_token}
 use Rattle.text.specs.Keyed.{by_key, keyed_text, keyed_out, read_keyed}
 use Rattle.text.specs.declared.Fault.{Fault}
 use Rattle.text.proofs.Spelled.{number_spelled, signed_spelled}
 use Rattle.text.proofs.Halts.{number_halts, signed_halts}
+use Rattle.text.proofs.Standing.{differ}
 use Rattle.text.proofs.Refusals.{Refuses, LineFaults, ThenFaults, then_refuses}
 use Rattle.text.proofs.Columns.{column-exactly}
-use Rattle.text.proofs.LineKinds.{number_line, row_line, head_line, token_line, keyed_line}
-use Rattle.text.proofs.LinesExactly.{number_exactly, head_exactly}
+use Rattle.text.proofs.LineKinds.{number_line, row_line, head_line, heads_line, token_line, keyed_line}
+use Rattle.text.proofs.LinesExactly.{number_exactly, head_exactly, heads_exactly}
 
 -- ---- the faults of each kind of line
 module _ (s : Text) where
   -- of the first line of a file, which is one line and no other
   abbrev pub HeadFaults : Text → ℕ → Fault → Type 0
   HeadFaults line = LineFaults s (λ (v : Unit {0}). line) (λ v. true) (λ v. true) (λ at v. at)
+
+  -- of the first line of a file that has two forms, which is one of them
+  abbrev pub HeadsFaults : Text → Text → ℕ → Fault → Type 0
+  HeadsFaults one two = LineFaults s (head_text one two) (in_range 1 2) (λ h. true) (λ at h. at)
 
   -- of a line of key and a number; its form is that of any number
   abbrev pub NumberFaults : Text → (ℕ → Bool) → ℕ → Fault → Type 0
@@ -51,6 +56,9 @@ module _ (s : Text) where
   abbrev pub HeadThen : Text → (ℕ → Fault → Type 0) → ℕ → Fault → Type 0
   HeadThen line Next = ThenFaults s (λ (v : Unit {0}). line) (HeadFaults line) (λ v. true) (λ v. Next)
 
+  abbrev pub HeadsThen : Text → Text → (ℕ → ℕ → Fault → Type 0) → ℕ → Fault → Type 0
+  HeadsThen one two Next = ThenFaults s (head_text one two) (HeadsFaults one two) (in_range 1 2) Next
+
   abbrev pub NumberThen : Text → (ℕ → Bool) → (ℕ → ℕ → Fault → Type 0) → ℕ → Fault → Type 0
   NumberThen key range Next = ThenFaults s (number_text key) (NumberFaults key range) range Next
 
@@ -60,6 +68,11 @@ module _ (s : Text) where
 pub head_refuses : (line s : Text) → Refuses (read_head line s) (HeadFaults s line)
 unfolding read_head
 head_refuses line s = column-exactly (head_line line) (λ v. true) (λ at v. at) s
+
+-- the first line of a file that has two forms
+pub heads_refuses : (one two : Text) → differ one two ≡ true → (s : Text) → Refuses (read_heads one two s) (HeadsFaults s one two)
+unfolding read_heads
+heads_refuses one two differs s = column-exactly (heads_line one two differs) (λ h. true) (λ at h. at) s
 
 -- the line of a number
 pub number_refuses : (key : Text) (range : ℕ → Bool) (s : Text) → Refuses (read_number key range s) (NumberFaults s key range)
@@ -95,6 +108,10 @@ token_refuses key places size range s = column-exactly (token_line key places si
 pub head_then : {B : Type 0} (line s : Text) {rest : ℕ → Outcome B} {Next : ℕ → Fault → Type 0}
     → Refuses rest Next → Refuses (λ at. then (read_head line s at) λ v. rest) (HeadThen s line Next)
 head_then line s two = then_refuses (head_exactly line s) (head_refuses line s) (λ v. two)
+
+pub heads_then : {B : Type 0} (one two : Text) → differ one two ≡ true → (s : Text) {rest : ℕ → ℕ → Outcome B} {Next : ℕ → ℕ → Fault → Type 0}
+    → ((h : ℕ) → Refuses (rest h) (Next h)) → Refuses (λ at. then (read_heads one two s at) rest) (HeadsThen s one two Next)
+heads_then one two differs s next = then_refuses (heads_exactly one two differs s) (heads_refuses one two differs s) next
 
 pub number-then : {B : Type 0} (key : Text) (range : ℕ → Bool) (s : Text) {rest : ℕ → ℕ → Outcome B} {Next : ℕ → ℕ → Fault → Type 0}
     → ((n : ℕ) → Refuses (rest n) (Next n)) → Refuses (λ at. then (read_number key range s at) rest) (NumberThen s key range Next)

@@ -1,7 +1,7 @@
 -- Lines `key=value`: what is read, or the one fault that ends the reading.
 use Rattle.std.specs.Prelude.{ℕ, zero, suc, ◌+◌, List, [], ◌∷◌, Bool, true, false, ◌&&◌, leb, ℤ, nat_abs, length}
 use Rattle.text.specs.Bytes.{Text, lf, line_at, column_at}
-use Rattle.text.specs.Number.{Read, missing, found, both, literal, number, signed, item}
+use Rattle.text.specs.Number.{Read, missing, found, made, both, either, literal, number, signed, item}
 use Rattle.text.specs.Lists.{list_end}
 use Rattle.text.specs.Printed.{decimal, signed_text}
 use Rattle.text.specs.declared.Cause.{Cause}
@@ -99,3 +99,7 @@ modest most w = leb (nat_abs w) most
 -- the first line of a file, which is the same in every file of its kind. 01: "In eos, inv and run any other number is 2"
 unfoldable pub read_head : Text → Text → ℕ → Outcome (Unit {0})
 read_head line s at = judged (λ _. true) (λ _. at) at (literal line s at)
+
+-- the first line of a file that has two forms: 1 where it is the one, 2 where it is the other
+unfoldable pub read_heads : Text → Text → Text → ℕ → Outcome ℕ
+read_heads one two s at = judged (λ _. true) (λ _. at) at (either (made (λ _. 1) (literal one s at)) (made (λ _. 2) (literal two s at)))

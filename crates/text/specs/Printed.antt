@@ -51,3 +51,8 @@ place_text key p = key ++ (decimal p ++ (colon ∷ []))
 
 unfoldable pub token_text : Text → Token → Text
 token_text key t = key ++ ((decimal t.place ++ (colon ∷ [])) ++ end_text decimal t.counts)
+
+-- the first line of a file that has two forms, by its number
+abbrev pub head_text : Text → Text → ℕ → Text
+head_text one two (suc zero) = one
+head_text one two h = two

@@ -1,11 +1,11 @@
-// Lines `key=number`, lines of one of two keys, and the first line of a file. A key has its '=' at its end. The functions of a line take the
-// bytes and a place: 01 has them know no reader.
+// Lines `key=number`, lines of one of two keys, and the first line of a file, which has one form or two. A key has its '=' at its end. The
+// functions of a line take the bytes and a place: 01 has them know no reader.
 #![tactic(auto)]
 
 ghost use Rattle.std.specs.Prelude.{◌≡◌, ℕ, Ok};
 ghost use Rattle.text.specs.Number.{Read};
 ghost use Rattle.text.specs.Capped.{capped};
-ghost use Rattle.text.specs.Lines.{in_range, judged, read_number, read_head};
+ghost use Rattle.text.specs.Lines.{in_range, judged, read_number, read_head, read_heads};
 ghost use Rattle.text.specs.Keyed.{read_keyed};
 ghost use Rattle.text.specs.Answers.{parsed};
 
@@ -82,4 +82,16 @@ pub fn head_line(s: &[u8], at: usize, line: &[u8]) -> Result<Parsed<()>, Fault>
         return Err(syntax_fault(at, read));
     };
     Ok(Parsed { value: (), end })
+}
+
+// The first line of a file that has two forms, each with its LF: 1 where it is `one`, 2 where it is `two`. Where neither stands, the one that
+// goes on further with the text names the byte at fault.
+pub fn heads_line(s: &[u8], at: usize, one: &[u8], two: &[u8]) -> Result<Parsed<u8>, Fault>
+    ensures { result ≡ parsed (read_heads one.now two.now s.now at) }
+{
+    match (literal(s, at, one), literal(s, at, two)) {
+        (Ok(end), _) => Ok(Parsed { value: 1, end }),
+        (Err(_), Ok(end)) => Ok(Parsed { value: 2, end }),
+        (Err(first), Err(second)) => Err(fault_at(Cause::Syntax, at, first.max(second))),
+    }
 }

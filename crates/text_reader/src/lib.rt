@@ -4,14 +4,14 @@
 ghost use Rattle.std.specs.Prelude.{◌≡◌, ◌-◌, leb, get_or, ℤ};
 ghost use Rattle.text.specs.Number.{signed_if};
 ghost use Rattle.text.specs.Printed.{signed_text};
-ghost use Rattle.text.specs.Lines.{Outcome, modest, in_range, read_number, read_row, read_head};
+ghost use Rattle.text.specs.Lines.{Outcome, modest, in_range, read_number, read_row, read_head, read_heads};
 ghost use Rattle.text.specs.Keyed.{read_keyed};
 ghost use Rattle.text.specs.TokenLine.{read_token};
 ghost use Rattle.text.specs.Answers.{kept, parsed, accepted, row, token_line};
 ghost use Rattle.text_reader.specs.Place.{Reads, closed};
 
 use text::{Cause, Fault, Keyed, Parsed, TokenLine, Value};
-use text_lines::{head_line, keyed_line, number_line};
+use text_lines::{head_line, heads_line, keyed_line, number_line};
 use text_lists::list_line;
 use text_scan::fault_at;
 use text_tokens::token_line;
@@ -37,6 +37,13 @@ impl<'a> Reader<'a> {
         ensures { Reads (read_head line.now self.old.src.now self.old.at) self.old self.new result }
     {
         self.take(head_line(self.src, self.at, line))
+    }
+
+    // The first line of a file that has two forms: 1 where it is `one`, 2 where it is `two`.
+    pub fn heads(&mut self, one: &[u8], two: &[u8]) -> Result<u8, Fault>
+        ensures { Reads (read_heads one.now two.now self.old.src.now self.old.at) self.old self.new result }
+    {
+        self.take(heads_line(self.src, self.at, one, two))
     }
 
     // The line of key and one number from lo to hi.

@@ -3,6 +3,7 @@
 
 ghost use Rattle.std.specs.Prelude.{◌≡◌, MatchResult};
 ghost use Rattle.reader.specs.Answers.{pair, triple, unread_triple, unwritten_triple};
+ghost use Rattle.converter.specs.Answers.{unconverted_triple};
 ghost use Rattle.text.specs.Lines.{cause_number};
 ghost use Rattle.step.specs.Verdict.{turned_triple};
 ghost use Rattle.runner.specs.Answers.{unfired_triple};
@@ -10,6 +11,7 @@ ghost use Rattle.keeper.specs.Answers.{unpassed_triple};
 ghost use Rattle.spread.specs.Call.{beyond_triple};
 ghost use Rattle.triples.specs.Triples.{refusal_of};
 
+use converter::ConversionRefusal;
 use keeper::WeightRefusal;
 use reader::{ReadRefusal, WriteRefusal};
 use runner::StepRefusal;
@@ -78,6 +80,18 @@ impl From<WriteRefusal> for Triple {
         match refusal {
             WriteRefusal::Unheld => row(14, 0),
             WriteRefusal::TooSmall { needed } => row(13, needed),
+        }
+    }
+}
+
+// Of the converter.
+impl From<ConversionRefusal> for Triple {
+    ghost from_gives = { λ refusal p. refusal_of p ≡ unconverted_triple refusal };
+
+    fn from(refusal: ConversionRefusal) -> Triple {
+        match refusal {
+            ConversionRefusal::NotHeld => row(14, 0),
+            ConversionRefusal::Irreplaceable { event } => row(21, event),
         }
     }
 }

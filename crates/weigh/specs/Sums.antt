@@ -52,11 +52,12 @@ unfoldable pub move_gain : List ℤ → ℕ → ℤ
 move_gain row zero = pos 0
 move_gain row (suc k) = number_of row k
 
--- what an event gains: what its move gains, and each transition's gain as often as it is counted. Idling gains nothing outside
+-- what an event gains: what its move gains, and each transition's gain as often as it is counted. Idling, at a place or alone, gains nothing
+-- outside
 unfoldable pub event_gain : ℕ → Event → List (List ℤ) → ℤ
 event_gain nets e gains = move_gain (row_at gains 0) (move_in e.kind e.index) +ℤ total nets (λ n. dot (row_at gains (suc n)) (row_at e.sync n))
 
--- an event's move or place is one of 32
+-- an event's move, place or net is one of 32
 pub record ActIn (e : Event) : Type 0 where
   pub least : 1 ≤ e.index
   pub most : e.index ≤ 32

@@ -39,7 +39,7 @@ pub struct Gains {
     pub ghost small: { (r : ℕ) → Small (row_at rows r) },
 }
 
-// What an act gains: its move does, and idling gains nothing.
+// What an act gains: its move does, and idling, at a place or alone, gains nothing.
 fn act_gain(act: Act, gains: &[i64; 32]) -> i64
     requires { index_of (as_act act) ≤ 32 }
     ensures { result ≡ move_gain gains.now (move_of (as_act act)) }
@@ -47,6 +47,7 @@ fn act_gain(act: Act, gains: &[i64; 32]) -> i64
     match act {
         Act::Move { index } => gains[index],
         Act::Idle { .. } => 0,
+        Act::Alone { .. } => 0,
     }
 }
 

@@ -40,6 +40,12 @@ deviations! {
     InnerTotalsOnly: "inner projections are compared by their totals";
     SyncOnce: "a sync count above 1 counts as 1";
     IdlingAnywhere: "idling takes and gives at any place";
+    AloneOnTwo: "alone fires on two racks of its net";
+    AloneOfAnyNet: "alone fires on a rack of another net";
+    AloneOfBlackToken: "alone fires on a black token";
+    AloneAtFirstPlace: "alone fires at its net's first place only";
+    AloneGivesElsewhere: "alone gives at another place of its net";
+    AloneGiveAtTake: "8 for what alone gives stands beside the take line";
     GivenBeforeTaken: "the outer projection of the given is tested first";
     PreAndPostNetByNet: "9 and 10 are judged net by net";
     GreatestNet: "9 and 10 stand beside the greatest net";
@@ -65,6 +71,9 @@ deviations! {
     // Weights.
     OuterWeightsOnly: "only the outer weights are balanced";
     IdlingNotBalanced: "idling events are not balanced";
+    AloneNotBalanced: "alone events are not balanced";
+    AloneRackWeighed: "the outer weight of the rack that alone gives counts";
+    AloneHallsAlike: "alone asks for places of its net that weigh alike";
     GreatestEvent: "7 stands beside the greatest event";
     SumIn16Bits: "the sum is kept in 16 bits";
     SumIn32Bits: "the sum is kept in 32 bits";
@@ -101,6 +110,11 @@ deviations! {
     IdlingAtBlackPlaces: "idling at a type 0 place is read";
     IdlingWithAnotherNet: "idling engages another net";
     IdlingWithoutTransitions: "idling with all counts 0 is read";
+    HeaderThreeRead: "eos=3 is read";
+    IdleUnderTwo: "idle is read under eos=2";
+    AloneUnderOne: "alone is read under eos=1";
+    AloneCountsPlaces: "alone's number is one of places";
+    AloneNeedsAPlace: "alone of a net that types no place is 5";
     RefusedReadingGivesNothing: "a refused reading leaves the model that stood there";
     // Columns.
     ColumnsFromZero: "columns are counted from 0";
@@ -112,7 +126,7 @@ deviations! {
     BytesAfterAtZero: "bytes after the last line have column 0";
     UnendedAtItsLast: "an early end has the column of the last byte";
     WrongKeyAtItsFirst: "a wrong key has the column of its first byte";
-    IdleKeyNotTried: "a key that is no event is not tried as idle";
+    SecondKeyNotTried: "a key that is no event is not tried as idle or alone";
     HeaderAtItsNumber: "a header with another number has the column of its number";
     ExtraNumberAfterComma: "a list that is too long has the column of the number after its comma";
     ShortListAtItsNumber: "a list that is too short has the column of its last number";
@@ -129,11 +143,25 @@ deviations! {
     RunWithoutColumn: "a run's stop has no column";
     // Held models and markings.
     LeavingMovesNotHeld: "a held model with a move that gives none of a net that it takes is 14";
+    HeaderThreeHeld: "a held model with header 3 is taken as one with header 2";
+    KindsOfEitherHeader: "a held model's kinds of events do not depend on its header";
     UnusedRoomOfModel: "unused room of a held model is not tested";
     UnusedRoomOfMarking: "unused room of a held marking is not tested";
     InsideRoomNotTested: "counts past the net's inner places are not tested";
     OrderNotTested: "the order of a held marking is not tested";
     HeldBeforeSlice: "14 is judged before 1";
+    // Converting.
+    PlaceMissedReplaced: "idle events that miss a place of their net are replaced";
+    RepeatedIdleCounts: "the same idle event twice counts for two places";
+    RepeatedIdleKept: "the same idle event twice becomes two alone events";
+    LikeWhateverCounts: "idle events of a net are like whatever they count";
+    GreatestIdle: "21 stands beside the greatest event";
+    AloneAtTheLast: "alone stands where the last of the like events stood";
+    AloneMerged: "like alone events are merged";
+    NumberOneOff: "the last event's new number is one too large";
+    NumbersNotMovedUp: "new numbers do not move up";
+    HeaderKept: "a model without idle events keeps its header";
+    RefusedConverted: "a refused model is given back as it was";
     // Writing.
     RoomAfterTextCleared: "bytes past a written text are cleared";
     WrittenInPart: "a text that does not fit is written in part";

@@ -2,9 +2,10 @@
 
 use crate::broken::{broken, note_read, Broken};
 use crate::cause::{Refusal, BUFFER, HELD};
+use crate::convert;
 use crate::held::{hold_marking, hold_model, marking_of, model_of, HeldMarking, HeldModel};
 use crate::marking::{self, Marking};
-use crate::model::{self, within_slice, Model};
+use crate::model::{self, within_slice, Header, Model, EVENTS};
 use crate::weights::Passed;
 use crate::{listing, spread, step, weights};
 
@@ -69,6 +70,19 @@ pub struct Spread {
     pub column: usize,
     pub ways: u64,
 }
+
+/// A model converted: the held model of header 2, and the new number of each event, 0 past them. A refused conversion gives
+/// the empty model and no number.
+#[repr(C)]
+#[derive(Clone, Debug, PartialEq, Eq)]
+pub struct Converted {
+    pub answer: Answer,
+    pub model: HeldModel,
+    pub numbers: [u8; EVENTS],
+}
+
+// It has no padding either.
+const _: () = assert!(size_of::<Converted>() == 3 * size_of::<usize>() + size_of::<HeldModel>() + EVENTS);
 
 impl Answer {
     fn of<T>(result: &Result<T, Refusal>) -> Answer {
@@ -179,6 +193,21 @@ pub fn listing(model: &[u8], weights: &[u8], trace: &[u8], out: &mut [u8]) -> Wr
     lend_out(&listing::listing(model, weights, trace), out)
 }
 
+pub fn convert(held: &HeldModel) -> Box<Converted> {
+    let converted = judged_model(held, &[]).and_then(|model| convert::convert(&model));
+    let answer = Answer::of(&converted);
+    let mut answered = Box::new(Converted { answer, model: HeldModel::empty(), numbers: [0; EVENTS] });
+    match converted {
+        Ok(convert::Converted { model, numbers }) => {
+            answered.model = hold_model(&model);
+            answered.numbers.iter_mut().zip(numbers).for_each(|(cell, number)| *cell = number as u8);
+        }
+        Err(_) if broken(Broken::RefusedConverted) => answered.model = held.clone(),
+        Err(_) => {}
+    }
+    answered
+}
+
 /// Judges a text's length, then the held model.
 fn judged_model(model: &HeldModel, text: &[u8]) -> Result<Model, Refusal> {
     if !broken(Broken::HeldBeforeSlice) {
@@ -206,7 +235,7 @@ fn right_model(held: &HeldModel) -> Option<Model> {
 
 /// Broken: what stands in for a wrong model.
 fn model_of_one_place() -> Model {
-    Model { types: vec![0], moves: Vec::new(), nets: Vec::new(), events: Vec::new() }
+    Model { header: Header::One, types: vec![0], moves: Vec::new(), nets: Vec::new(), events: Vec::new() }
 }
 
 /// Holds the marking after a step.

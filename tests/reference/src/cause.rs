@@ -8,7 +8,7 @@ pub const SYNTAX: usize = 2;
 pub const RANGE: usize = 3;
 /// Given to nothing: it was a rule's that was taken back.
 pub const RETIRED: usize = 4;
-/// Idling at a black place, or with counts that are no idling.
+/// Idling at a black place, or with counts that are no idling; of `alone` these counts.
 pub const IDLING: usize = 5;
 /// All weights are 0.
 pub const ALL_ZERO: usize = 6;
@@ -28,6 +28,11 @@ pub const NO_ROOM: usize = 12;
 pub const BUFFER: usize = 13;
 /// A held model or marking that no accepted reading gives.
 pub const HELD: usize = 14;
+/// An idle event whose like is missing at a place of its net.
+pub const NOT_EVERYWHERE: usize = 21;
+
+/// The numbers that calls answer, 0 for what is accepted, and the retired one.
+pub const NUMBERS: [usize; 16] = [0, 1, 2, 3, 4, 5, 6, 7, 8, 9, 10, 11, 12, 13, 14, 21];
 
 /// A refusal: its number, what stands beside it, and the column; 0 where no byte of a line is at fault.
 #[derive(Clone, Copy, Debug, PartialEq, Eq)]

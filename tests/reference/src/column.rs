@@ -10,8 +10,8 @@ use crate::pattern::Pattern;
 /// The right lines at a place of a text.
 #[derive(Clone, Copy)]
 pub enum Right<'a> {
-    /// A key and the number 1.
-    Header(&'a str),
+    /// A key and one of these numbers.
+    Header(&'a str, &'a [&'a str]),
     /// One of these keys and a number.
     Number(&'a [&'a str]),
     /// A key and a list of so many numbers.
@@ -26,9 +26,12 @@ impl Right<'_> {
     /// The right lines, each with its LF. Of a token line the text is asked for its place.
     pub fn pattern(self, line: &[u8]) -> Pattern {
         let lines = match self {
-            Right::Header(key) => of_key(key, Pattern::bytes(b"1")),
+            Right::Header(key, numbers) => {
+                let one_of = |found: Pattern, number: &&str| found.or(Pattern::bytes(number.as_bytes()));
+                of_key(key, numbers.iter().fold(Pattern::Nothing, one_of))
+            }
             Right::Number(keys) => {
-                let tried = if broken(Broken::IdleKeyNotTried) { &keys[..1] } else { keys };
+                let tried = if broken(Broken::SecondKeyNotTried) { &keys[..1] } else { keys };
                 let of = |lines: Pattern, key: &&str| lines.or(of_key(key, number()));
                 tried.iter().fold(Pattern::Nothing, of)
             }
@@ -125,7 +128,7 @@ fn misplaced_syntax(right: Right, line: &[u8], column: usize) -> usize {
         line.len().max(1)
     } else if column < value && broken(Broken::WrongKeyAtItsFirst) {
         1
-    } else if matches!(right, Right::Header(_)) && column > value && broken(Broken::HeaderAtItsNumber) {
+    } else if matches!(right, Right::Header(..)) && column > value && broken(Broken::HeaderAtItsNumber) {
         value
     } else if at == Some(b'\n') && column > value && broken(Broken::ShortListAtItsNumber) {
         last_number

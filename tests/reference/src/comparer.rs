@@ -2,14 +2,16 @@
 //! leave in lent memory is compared.
 
 pub mod batch;
+mod conversion;
+pub mod fixed;
 pub mod report;
 pub mod whole_list;
 
 use std::collections::BTreeMap;
 use std::fmt::Debug;
 
-use crate::calls::{Answer, Ran, Spread, Stepped, Weighed, Written};
-use crate::cause::HELD;
+use crate::calls::{Answer, Converted, Ran, Spread, Stepped, Weighed, Written};
+use crate::cause::{HELD, NUMBERS};
 use crate::engine::Engine;
 use crate::held::{HeldMarking, HeldModel};
 use crate::marking::Row;
@@ -46,8 +48,8 @@ impl Difference {
     }
 }
 
-/// How many answers of each cause there were.
-pub type Causes = [u64; 15];
+/// How many answers of each cause there were, in the order of the numbers.
+pub type Causes = [u64; NUMBERS.len()];
 
 /// How many comparisons there were, in all and by call and cause, and how many steps fired.
 #[derive(Clone, Debug, Default)]
@@ -62,8 +64,9 @@ pub struct Tally {
 impl Tally {
     fn count(&mut self, call: &'static str, number: usize) {
         self.comparisons += 1;
-        if let Some(cause) = self.calls.entry(call).or_default().get_mut(number) {
-            *cause += 1;
+        let causes = self.calls.entry(call).or_default();
+        if let Some(cause) = NUMBERS.iter().position(|&cause| cause == number) {
+            causes[cause] += 1;
         }
     }
 
@@ -146,7 +149,11 @@ impl Context<'_> {
             return Ok(());
         }
         let sizes = |m: &HeldModel| {
-            format!("nets {} places {} moves {} listed {}", m.nets, m.places, m.moves, m.listed)
+            let kinds: Vec<u8> = m.events.iter().map(|event| event.kind).collect();
+            let HeldModel { header, nets, places, moves, listed, .. } = m;
+            format!(
+                "header {header} nets {nets} places {places} moves {moves} listed {listed} kinds {kinds:?}"
+            )
         };
         Err(self.difference(what, sizes(left), sizes(right)))
     }
@@ -345,6 +352,19 @@ impl<'e> Comparer<'e> {
         self.tally.count(context.call, right.number);
         context.same("answer", &(tokens, racks, left), &(tokens, racks, right))?;
         Ok(left)
+    }
+
+    /// Compares a conversion; gives what an accepted one holds.
+    pub fn convert(&mut self, model: &HeldModel) -> Compared<Option<Box<Converted>>> {
+        let context = Context { call: "convert", texts: &[] };
+        let lent_model = Box::new(model.clone());
+        let [left, right] = self.engines().map(|engine| engine.convert(&lent_model));
+        self.tally.count(context.call, right.answer.number);
+        context.same("answer", &left.answer, &right.answer)?;
+        context.same_model("model", &left.model, &right.model)?;
+        context.same("numbers", &left.numbers, &right.numbers)?;
+        context.same_model("lent model", &lent_model, model)?;
+        Ok((left.answer.number == 0).then_some(left))
     }
 
     /// Compares the listing of three files, written to a buffer with this room.

@@ -1,7 +1,7 @@
 //! An engine behind the C header, and the reference as one.
 
 use crate::broken::{broken, with_deviation, Broken};
-use crate::calls::{self, Answer, Ran, Spread, Stepped, Weighed, Written};
+use crate::calls::{self, Answer, Converted, Ran, Spread, Stepped, Weighed, Written};
 use crate::held::{HeldMarking, HeldModel};
 
 /// The calls of the C header; a lent text or buffer is a slice, and what a call returns of a model or a marking is stored.
@@ -15,6 +15,7 @@ pub trait Engine {
     fn step(&self, model: &HeldModel, marking: &mut HeldMarking, text: &[u8]) -> Stepped;
     fn run(&self, model: &HeldModel, marking: &mut HeldMarking, text: &[u8]) -> Ran;
     fn ways(&self, tokens: usize, racks: usize) -> Spread;
+    fn convert(&self, model: &HeldModel) -> Box<Converted>;
     fn listing(&self, model: &[u8], weights: &[u8], trace: &[u8], out: &mut [u8]) -> Written;
 }
 
@@ -92,6 +93,10 @@ impl Engine for Reference {
 
     fn ways(&self, tokens: usize, racks: usize) -> Spread {
         self.call(|| calls::ways(tokens, racks))
+    }
+
+    fn convert(&self, model: &HeldModel) -> Box<Converted> {
+        self.call(|| calls::convert(model))
     }
 
     fn listing(&self, model: &[u8], weights: &[u8], trace: &[u8], out: &mut [u8]) -> Written {

@@ -1,6 +1,6 @@
 //! The proved engine, linked through its C header.
 
-use crate::calls::{Answer, Ran, Spread, Stepped, Weighed, Written};
+use crate::calls::{Answer, Converted, Ran, Spread, Stepped, Weighed, Written};
 use crate::engine::Engine;
 use crate::held::{HeldMarking, HeldModel};
 
@@ -43,6 +43,7 @@ extern "C" {
     fn fp_step(model: HeldModel, marking: HeldMarking, text: *const u8, len: usize) -> StepDone;
     fn fp_run(model: HeldModel, marking: HeldMarking, text: *const u8, len: usize) -> RunDone;
     fn fp_ways(tokens: usize, racks: usize) -> Spread;
+    fn fp_convert(model: HeldModel) -> Converted;
     fn fp_listing(
         model: *const u8,
         model_len: usize,
@@ -104,6 +105,10 @@ impl Engine for Proved {
 
     fn ways(&self, tokens: usize, racks: usize) -> Spread {
         unsafe { fp_ways(tokens, racks) }
+    }
+
+    fn convert(&self, model: &HeldModel) -> Box<Converted> {
+        Box::new(unsafe { fp_convert(model.clone()) })
     }
 
     fn listing(&self, model: &[u8], weights: &[u8], trace: &[u8], out: &mut [u8]) -> Written {

@@ -5,7 +5,8 @@ use std::mem::size_of;
 use crate::broken::{broken, Broken};
 use crate::marking::{Marking, Row};
 use crate::model::{
-    loses_a_net, Mode, Model, ObjectNet, Transition, EVENTS, INNER, MOVES, NETS, PLACES, TOKENS, TRANSITIONS,
+    loses_a_net, Header, Mode, Model, ObjectNet, Transition, EVENTS, INNER, MOVES, NETS, PLACES, TOKENS,
+    TRANSITIONS,
 };
 
 const ARCS: usize = 32 * 32;
@@ -20,7 +21,7 @@ pub struct HeldObjectNet {
     pub post: [u8; ARCS],
 }
 
-/// An event: kind 1 a move, kind 2 idling; counts at net * 32 + transition.
+/// An event: kind 1 a move, kind 2 idling, kind 3 alone; counts at net * 32 + transition.
 #[repr(C)]
 #[derive(Clone, Debug, PartialEq, Eq)]
 pub struct HeldEvent {
@@ -33,6 +34,7 @@ pub struct HeldEvent {
 #[repr(C)]
 #[derive(Clone, Debug, PartialEq, Eq)]
 pub struct HeldModel {
+    pub header: usize,
     pub nets: usize,
     pub places: usize,
     pub moves: usize,
@@ -53,15 +55,16 @@ pub struct HeldMarking {
 }
 
 // Neither struct has padding, so that equal fields are equal bytes.
-const _: () = assert!(size_of::<HeldModel>() == 4 * size_of::<usize>() + 35_104);
+const _: () = assert!(size_of::<HeldModel>() == 5 * size_of::<usize>() + 35_104);
 const _: () = assert!(size_of::<HeldMarking>() == size_of::<usize>() + 2 * 8_448);
 
 impl HeldModel {
-    /// The empty model: no places.
+    /// The empty model: no places, and no header.
     pub fn empty() -> HeldModel {
         let object = HeldObjectNet { places: 0, transitions: 0, pre: [0; ARCS], post: [0; ARCS] };
         let event = HeldEvent { kind: 0, index: 0, sync: [0; NETS * TRANSITIONS] };
         HeldModel {
+            header: 0,
             nets: 0,
             places: 0,
             moves: 0,
@@ -85,6 +88,7 @@ impl HeldMarking {
 /// Holds a model.
 pub fn hold_model(model: &Model) -> HeldModel {
     let mut held = HeldModel::empty();
+    held.header = model.header.number();
     held.nets = model.nets.len();
     held.places = model.places();
     held.moves = model.moves.len();
@@ -100,6 +104,7 @@ pub fn hold_model(model: &Model) -> HeldModel {
         (held_event.kind, held_event.index) = match event.mode {
             Mode::Move(index) => (1, index as u8 + 1),
             Mode::Idle(place) => (2, place as u8 + 1),
+            Mode::Alone(net) => (3, net as u8 + 1),
         };
         for (counts, net) in event.sync.iter().zip(held_event.sync.chunks_mut(TRANSITIONS)) {
             net[..counts.len()].copy_from_slice(counts);
@@ -135,9 +140,10 @@ pub fn model_of(held: &HeldModel) -> Option<Model> {
     if types.iter().any(|&net| usize::from(net) > held.nets) {
         return None;
     }
+    let header = header_of(held)?;
     let moves = transitions(&held.pre, &held.post, held.moves, held.places);
     let nets = held.objects[..held.nets].iter().map(object_net).collect::<Option<_>>()?;
-    let mut model = Model { types, moves, nets, events: Vec::new() };
+    let mut model = Model { header, types, moves, nets, events: Vec::new() };
     if broken(Broken::LeavingMovesNotHeld) && model.moves.iter().any(|each| loses_a_net(&model.types, each)) {
         return None;
     }
@@ -146,7 +152,18 @@ pub fn model_of(held: &HeldModel) -> Option<Model> {
         let sync = sync_of(&model, event, mode)?;
         model.events.push(model.event(mode, sync));
     }
-    (broken(Broken::UnusedRoomOfModel) || hold_model(&model) == *held).then_some(model)
+    let mut again = hold_model(&model);
+    if broken(Broken::HeaderThreeHeld) {
+        again.header = held.header;
+    }
+    (broken(Broken::UnusedRoomOfModel) || again == *held).then_some(model)
+}
+
+fn header_of(held: &HeldModel) -> Option<Header> {
+    if held.header == 3 && broken(Broken::HeaderThreeHeld) {
+        return Some(Header::Two);
+    }
+    Header::ALL.into_iter().find(|header| header.number() == held.header)
 }
 
 fn transitions(pre: &[u8; ARCS], post: &[u8; ARCS], number: usize, places: usize) -> Vec<Transition> {
@@ -164,15 +181,14 @@ fn object_net(held: &HeldObjectNet) -> Option<ObjectNet> {
 
 fn mode_of(model: &Model, event: &HeldEvent) -> Option<Mode> {
     let index = usize::from(event.index).checked_sub(1)?;
-    match event.kind {
-        1 => (index < model.moves.len()).then_some(Mode::Move(index)),
-        2 => {
-            let known = index < model.places();
-            let typed = || model.net_of(index).is_some() || broken(Broken::IdlingAtBlackPlaces);
-            (known && typed()).then_some(Mode::Idle(index))
-        }
-        _ => None,
-    }
+    let (mode, number) = match event.kind {
+        1 => (Mode::Move(index), model.moves.len()),
+        2 => (Mode::Idle(index), model.places()),
+        3 => (Mode::Alone(index), model.nets.len()),
+        _ => return None,
+    };
+    let of_header = model.header.has(mode) || broken(Broken::KindsOfEitherHeader);
+    (of_header && index < number && !model.place_fault(mode)).then_some(mode)
 }
 
 fn sync_of(model: &Model, event: &HeldEvent, mode: Mode) -> Option<Vec<Vec<u8>>> {

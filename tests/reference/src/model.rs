@@ -41,14 +41,44 @@ pub struct ObjectNet {
     pub transitions: Vec<Transition>,
 }
 
-/// What an event does in the system net: a move, or idling at a place, counted from 0.
+/// The header of a model's file. Beside moves, `eos=1` has idling at a place, and `eos=2` any one rack of a net alone.
+#[derive(Clone, Copy, Debug, PartialEq, Eq)]
+pub enum Header {
+    One,
+    Two,
+}
+
+impl Header {
+    pub const ALL: [Header; 2] = [Header::One, Header::Two];
+
+    pub fn number(self) -> usize {
+        match self {
+            Header::One => 1,
+            Header::Two => 2,
+        }
+    }
+
+    /// Whether its files have events of this mode.
+    pub fn has(self, mode: Mode) -> bool {
+        match mode {
+            Mode::Move(_) => true,
+            Mode::Idle(_) => self == Header::One,
+            Mode::Alone(_) => self == Header::Two,
+        }
+    }
+}
+
+/// What an event does in the system net: a move, idling at a place, or idling of any one rack of a net, wherever it
+/// stands; each counted from 0.
 #[derive(Clone, Copy, Debug, PartialEq, Eq)]
 pub enum Mode {
     Move(usize),
     Idle(usize),
+    Alone(usize),
 }
 
-/// An event: its mode, a count for each transition of each object net, and what these add up to.
+/// An event: its mode, a count for each transition of each object net, and what these add up to. An `alone` event has no
+/// outer part: its rack may stand at any place of the net.
 #[derive(Clone, Debug, PartialEq, Eq)]
 pub struct Event {
     pub mode: Mode,
@@ -62,6 +92,7 @@ pub struct Event {
 /// An elementary object system; `types` has a net's number, from 1, or 0 for each place.
 #[derive(Clone, Debug, PartialEq, Eq)]
 pub struct Model {
+    pub header: Header,
     pub types: Vec<u8>,
     pub moves: Vec<Transition>,
     pub nets: Vec<ObjectNet>,
@@ -78,6 +109,11 @@ impl Model {
         usize::from(self.types[place]).checked_sub(1)
     }
 
+    /// Whether a net types some place.
+    pub fn types_a_place(&self, net: usize) -> bool {
+        (0..self.places()).any(|place| self.net_of(place) == Some(net))
+    }
+
     /// The number of inner places of a net-token at a place.
     pub fn inner_places(&self, place: usize) -> usize {
         self.net_of(place).map_or(0, |net| self.nets[net].places)
@@ -91,6 +127,7 @@ impl Model {
                 (outer_counts(pre), outer_counts(post))
             }
             Mode::Idle(place) => (one_at(place), one_at(place)),
+            Mode::Alone(_) => ([0; PLACES], [0; PLACES]),
         };
         let nets = || self.nets.iter().zip(&sync);
         let inner_pre = nets().map(|(net, counts)| summed(net, counts, |t| &t.pre)).collect();
@@ -98,14 +135,25 @@ impl Model {
         Event { mode, sync, outer_pre, outer_post, inner_pre, inner_post }
     }
 
-    /// Whether these counts of a net cannot stand in an event of this mode: idling engages its own net, and
-    /// no other.
+    /// Whether an event of this mode idles at a place that no net types.
+    pub fn place_fault(&self, mode: Mode) -> bool {
+        match mode {
+            Mode::Move(_) => false,
+            Mode::Idle(place) => self.net_of(place).is_none() && !broken(Broken::IdlingAtBlackPlaces),
+            Mode::Alone(net) => broken(Broken::AloneNeedsAPlace) && !self.types_a_place(net),
+        }
+    }
+
+    /// Whether these counts of a net cannot stand in an event of this mode: a net that idles or is alone engages itself,
+    /// and no other.
     pub fn idling_fault(&self, mode: Mode, net: usize, counts: &[u8]) -> bool {
-        let Mode::Idle(place) = mode else {
-            return false;
+        let own = match mode {
+            Mode::Move(_) => return false,
+            Mode::Idle(place) => self.net_of(place),
+            Mode::Alone(net) => Some(net),
         };
         let none = counts.iter().all(|&count| count == 0);
-        if self.net_of(place) == Some(net) {
+        if own == Some(net) {
             none && !broken(Broken::IdlingWithoutTransitions)
         } else {
             !none && !broken(Broken::IdlingWithAnotherNet)
@@ -167,14 +215,20 @@ pub fn read_model(text: &[u8]) -> Result<(Model, Marking), Refusal> {
 }
 
 fn read_nets(reader: &mut Reader) -> Result<Model, Refusal> {
-    reader.header("eos")?;
+    let header = read_header(reader)?;
     let nets = reader.number("nets", 0, NETS)?;
     let most = PLACES - usize::from(broken(Broken::PlacesOneFewer));
     let places = reader.number("places", 1, most)?;
     let types = reader.list("type", places, nets)?;
     let moves = read_moves(reader, &types)?;
     let nets = (0..nets).map(|_| read_object_net(reader)).collect::<Result<_, _>>()?;
-    Ok(Model { types, moves, nets, events: Vec::new() })
+    Ok(Model { header, types, moves, nets, events: Vec::new() })
+}
+
+fn read_header(reader: &mut Reader) -> Result<Header, Refusal> {
+    let numbers = if broken(Broken::HeaderThreeRead) { ["1", "2", "3"].as_slice() } else { &["1", "2"] };
+    let index = reader.header("eos", numbers)?;
+    Ok(if index == 0 { Header::One } else { Header::Two })
 }
 
 fn read_moves(reader: &mut Reader, types: &[u8]) -> Result<Vec<Transition>, Refusal> {
@@ -215,18 +269,32 @@ fn read_events(reader: &mut Reader, model: &mut Model) -> Result<(), Refusal> {
 }
 
 fn read_mode(reader: &mut Reader, model: &Model) -> Result<Mode, Refusal> {
-    let right = Right::Number(&["event", "idle"]);
+    let keys = event_keys(model.header);
+    let right = Right::Number(keys);
     let line = reader.line(right)?;
-    if let Some(value) = value_of(line, "event") {
-        let index = reader.in_range(value, right, 1, model.moves.len())?;
-        return Ok(Mode::Move(index - 1));
-    }
-    let value = value_of(line, "idle").ok_or_else(|| reader.refuse_syntax(right))?;
-    let place = reader.in_range(value, right, 1, model.places())? - 1;
-    if model.net_of(place).is_none() && !broken(Broken::IdlingAtBlackPlaces) {
+    let known = keys.iter().find_map(|&key| Some((key, value_of(line, key)?)));
+    let (key, value) = known.ok_or_else(|| reader.refuse_syntax(right))?;
+    let index = |most: usize| Ok(reader.in_range(value, right, 1, most)? - 1);
+    let mode = match key {
+        "event" => Mode::Move(index(model.moves.len())?),
+        "idle" => Mode::Idle(index(model.places())?),
+        _ if broken(Broken::AloneCountsPlaces) => Mode::Alone(index(model.places())?),
+        _ => Mode::Alone(index(model.nets.len())?),
+    };
+    if model.place_fault(mode) {
         return Err(reader.refuse(IDLING));
     }
-    Ok(Mode::Idle(place))
+    Ok(mode)
+}
+
+/// The keys of an event's first line.
+fn event_keys(header: Header) -> &'static [&'static str] {
+    match header {
+        Header::One if broken(Broken::AloneUnderOne) => &["event", "idle", "alone"],
+        Header::One => &["event", "idle"],
+        Header::Two if broken(Broken::IdleUnderTwo) => &["event", "alone", "idle"],
+        Header::Two => &["event", "alone"],
+    }
 }
 
 fn read_sync(reader: &mut Reader, model: &Model, mode: Mode) -> Result<Vec<Vec<u8>>, Refusal> {

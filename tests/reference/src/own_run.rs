@@ -141,9 +141,8 @@ fn token(model: &Model, value: &[u8]) -> Option<NetToken> {
 
 /// The firing predicate (000, equation 5).
 fn predicate(model: &Model, step: &Step) -> bool {
-    let (pre, post) = outer_arcs(model, step.event);
-    outer(model, &step.taken) == pre
-        && outer(model, &step.given) == post
+    let projections = (outer(model, &step.taken), outer(model, &step.given));
+    outer_arcs(model, step.event).contains(&projections)
         && (0..model.nets.len()).all(|net| {
             let pre = inner_arcs(model, step.event, net, |transition| &transition.pre);
             let post = inner_arcs(model, step.event, net, |transition| &transition.post);
@@ -172,17 +171,21 @@ pub fn inner(model: &Model, tokens: &Multiset, net: usize) -> Vec<Natural> {
     sums
 }
 
-/// Pre and post of an event in the system net; idling has one token at its place in both.
-fn outer_arcs(model: &Model, event: &Event) -> (Vec<usize>, Vec<usize>) {
+/// The outer projections that an event may take and give: a move's pre and post, one token at the place that idles, or one
+/// at some place of the net that is alone.
+fn outer_arcs(model: &Model, event: &Event) -> Vec<(Vec<usize>, Vec<usize>)> {
+    let places = || 0..model.places();
+    let idling = |idle: usize| {
+        let one: Vec<usize> = places().map(|place| usize::from(place == idle)).collect();
+        (one.clone(), one)
+    };
     match event.mode {
         Mode::Move(index) => {
             let arcs = |arcs: &[u8]| arcs.iter().map(|&arc| usize::from(arc)).collect();
-            (arcs(&model.moves[index].pre), arcs(&model.moves[index].post))
+            vec![(arcs(&model.moves[index].pre), arcs(&model.moves[index].post))]
         }
-        Mode::Idle(idle) => {
-            let one: Vec<usize> = (0..model.places()).map(|place| usize::from(place == idle)).collect();
-            (one.clone(), one)
-        }
+        Mode::Idle(place) => vec![idling(place)],
+        Mode::Alone(net) => places().filter(|&place| model.net_of(place) == Some(net)).map(idling).collect(),
     }
 }
 

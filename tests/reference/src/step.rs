@@ -69,12 +69,53 @@ fn predicate(model: &Model, step: &Step) -> Result<(), Refusal> {
     if broken(Broken::GivenBeforeTaken) {
         test_outer(&step.given, &event.outer_post, step.give_line())?;
     }
-    if matches!(event.mode, Mode::Idle(_)) && broken(Broken::IdlingAnywhere) {
-        return test_inner(model, event, step);
+    match event.mode {
+        Mode::Idle(_) if broken(Broken::IdlingAnywhere) => {}
+        Mode::Alone(net) => test_alone(model, net, step)?,
+        _ => {
+            test_outer(&step.taken, &event.outer_pre, TAKE_LINE)?;
+            test_outer(&step.given, &event.outer_post, step.give_line())?;
+        }
     }
-    test_outer(&step.taken, &event.outer_pre, TAKE_LINE)?;
-    test_outer(&step.given, &event.outer_post, step.give_line())?;
     test_inner(model, event, step)
+}
+
+/// One rack of the net is taken, and one net-token given where it stood.
+fn test_alone(model: &Model, net: usize, step: &Step) -> Result<(), Refusal> {
+    if broken(Broken::AloneOnTwo) && two_of_net(model, net, step) {
+        return Ok(());
+    }
+    let taken = match step.taken[..] {
+        [rack] if alone_takes(model, net, &rack) => rack,
+        _ => return Err(Refusal::new(OUTER, TAKE_LINE)),
+    };
+    let elsewhere =
+        |rack: &Row| broken(Broken::AloneGivesElsewhere) && racks_of(model, &[*rack], net).count() == 1;
+    match step.given[..] {
+        [given] if given[0] == taken[0] || elsewhere(&given) => Ok(()),
+        _ if broken(Broken::AloneGiveAtTake) => Err(Refusal::new(OUTER, TAKE_LINE)),
+        _ => Err(Refusal::new(OUTER, step.give_line())),
+    }
+}
+
+/// Whether this net-token can be the one that `alone` of the net takes.
+fn alone_takes(model: &Model, net: usize, rack: &Row) -> bool {
+    let place = usize::from(rack[0]) - 1;
+    match model.net_of(place) {
+        None => broken(Broken::AloneOfBlackToken),
+        Some(other) if other != net => broken(Broken::AloneOfAnyNet),
+        Some(_) => {
+            let first = model.types[..place].iter().all(|&other| other != model.types[place]);
+            first || !broken(Broken::AloneAtFirstPlace)
+        }
+    }
+}
+
+/// Broken: whether two racks of the net are taken, and as many net-tokens given at their places.
+fn two_of_net(model: &Model, net: usize, step: &Step) -> bool {
+    step.taken.len() == 2
+        && racks_of(model, &step.taken, net).count() == 2
+        && outer_projection(&step.taken) == outer_projection(&step.given)
 }
 
 /// The inner projections of all nets: 9 over all of them, then 10.
@@ -202,7 +243,7 @@ fn run_steps(
 ) -> Result<(), Refusal> {
     within_slice(text)?;
     let mut reader = Reader::new(text);
-    reader.header("run")?;
+    reader.header("run", &["1"])?;
     used.push(reader.used());
     let mut rest = &text[reader.used()..];
     while !rest.is_empty() {

@@ -94,16 +94,16 @@ impl<'a> Reader<'a> {
         Ok(())
     }
 
-    /// A first line; its number must be 1.
-    pub fn header(&mut self, key: &str) -> Result<(), Refusal> {
-        let right = Right::Header(key);
-        match self.value(key, right)? {
-            b"1" => self.ended(right),
-            other if broken(Broken::OtherHeaderOutOfRange) && natural(other).is_some() => {
-                Err(self.refuse_range(0))
-            }
-            _ => Err(self.refuse_syntax(right)),
-        }
+    /// A first line with one of these numbers; which, counted from 0.
+    pub fn header(&mut self, key: &str, numbers: &[&str]) -> Result<usize, Refusal> {
+        let right = Right::Header(key, numbers);
+        let value = self.value(key, right)?;
+        let Some(index) = numbers.iter().position(|number| number.as_bytes() == value) else {
+            let range = broken(Broken::OtherHeaderOutOfRange) && natural(value).is_some();
+            return Err(if range { self.refuse_range(0) } else { self.refuse_syntax(right) });
+        };
+        self.ended(right)?;
+        Ok(index)
     }
 
     /// The next line, a number from `least` to `most`.

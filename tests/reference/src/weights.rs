@@ -108,7 +108,7 @@ fn kept(sum: i64, marking: &Marking) -> i64 {
 /// Reads a weight file.
 pub fn read_weights(model: &Model, text: &[u8]) -> Result<Weights, Refusal> {
     let mut reader = Reader::new(text);
-    reader.header("inv")?;
+    reader.header("inv", &["1"])?;
     let outer = reader.weights("outer", model.places(), WEIGHT)?;
     let mut inner = Vec::with_capacity(model.nets.len());
     for net in &model.nets {
@@ -130,10 +130,32 @@ fn unbalanced(model: &Model, weights: &Weights) -> Option<usize> {
     if broken(Broken::WeightsAllRefused) {
         return Some(0);
     }
-    let idle_free = |event: &Event| broken(Broken::IdlingNotBalanced) && matches!(event.mode, Mode::Idle(_));
-    let at_fault = |event: &Event| weights.effect(event) != 0 && !idle_free(event);
+    let free = |event: &Event| match event.mode {
+        Mode::Move(_) => false,
+        Mode::Idle(_) => broken(Broken::IdlingNotBalanced),
+        Mode::Alone(_) => broken(Broken::AloneNotBalanced),
+    };
+    let effect = |event: &Event| weights.effect(event) + outer_of_alone(model, weights, event);
+    let at_fault = |event: &Event| effect(event) != 0 && !free(event);
     if broken(Broken::GreatestEvent) {
         return model.events.iter().rposition(at_fault);
     }
     model.events.iter().position(at_fault)
+}
+
+/// Broken: what the outer weights at the places of its net add to the effect of an `alone` event.
+fn outer_of_alone(model: &Model, weights: &Weights, event: &Event) -> i64 {
+    let Mode::Alone(net) = event.mode else {
+        return 0;
+    };
+    let of_net = (0..model.places()).filter(|&place| model.net_of(place) == Some(net));
+    let outer: Vec<i64> = of_net.map(|place| weights.outer[place]).collect();
+    let first = outer.first().copied().unwrap_or_default();
+    if broken(Broken::AloneRackWeighed) {
+        first
+    } else if broken(Broken::AloneHallsAlike) {
+        outer.iter().map(|weight| (weight - first).abs()).sum()
+    } else {
+        0
+    }
 }

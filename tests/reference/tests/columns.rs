@@ -20,9 +20,9 @@ const MODEL: &str = "eos=1\nnets=2\nplaces=3\ntype=1,1,0\nmoves=1\npre=1,0,0\npo
     post=0,1\npre=0,0\npost=0,0\ninner=1\nsteps=0\nevents=1\nevent=1\nsync=1,0\nsync=\nstart=1\ntoken=1:1,0\n";
 /// The keys of a model.
 #[rustfmt::skip]
-const KEYS: [&str; 15] = [
-    "eos", "nets", "places", "type", "moves", "pre", "post", "inner", "steps", "events", "event", "idle", "sync",
-    "start", "token",
+const KEYS: [&str; 16] = [
+    "eos", "nets", "places", "type", "moves", "pre", "post", "inner", "steps", "events", "event", "idle", "alone",
+    "sync", "start", "token",
 ];
 const WEIGHTS: &str = "inv=1\nouter=1,1,1\ninner=1,1\ninner=1\n";
 const STEP: &str = "fire=1\ntake=1\ntoken=1:1,0\ngive=1\ntoken=2:0,1\n";
@@ -35,7 +35,15 @@ fn held() -> (Box<HeldModel>, Box<HeldMarking>) {
 
 /// The answer to the model with its first line `old` put otherwise; lines are put with their LF.
 fn model_with(old: &str, new: &str) -> (usize, usize, usize) {
-    let text = replaced(MODEL, old, new);
+    model_read(&replaced(MODEL, old, new))
+}
+
+/// So under `eos=2`.
+fn second_with(old: &str, new: &str) -> (usize, usize, usize) {
+    model_read(&replaced(&replaced(MODEL, "eos=1\n", "eos=2\n"), old, new))
+}
+
+fn model_read(text: &str) -> (usize, usize, usize) {
     let Answer { number, beside, column } = calls::read_model(text.as_bytes()).answer;
     (number, beside, column)
 }
@@ -76,7 +84,18 @@ fn replaced(text: &str, old: &str, new: &str) -> String {
 
 #[test]
 fn headers() {
-    assert_eq!(model_with("eos=1\n", "eos=2\n"), (2, 1, 5));
+    assert_eq!(model_with("eos=1\n", "eos=2\n"), (0, 0, 0));
+    assert_eq!(model_with("eos=1\n", "eos=3\n"), (2, 1, 5));
+    assert_eq!(model_with("eos=1\n", "eos=0\n"), (2, 1, 5));
+    assert_eq!(model_with("eos=1\n", "eos=02\n"), (2, 1, 5));
+    assert_eq!(model_with("eos=1\n", "eos=12\n"), (2, 1, 6));
+    assert_eq!(model_with("eos=1\n", "eos=21\n"), (2, 1, 6));
+    assert_eq!(model_with(MODEL, "eos=2"), (2, 1, 6));
+    assert_eq!(model_with(MODEL, "eos="), (2, 1, 5));
+    assert_eq!(model_with(MODEL, "eo"), (2, 1, 3));
+    assert_eq!(model_with(MODEL, "eos=2\n"), (2, 2, 1));
+    assert_eq!(weights_with("inv=1\n", "inv=2\n"), (2, 1, 5));
+    assert_eq!(run("run=2\n"), (2, 1, 5));
     assert_eq!(model_with("eos=1\n", "eos=11\n"), (2, 1, 6));
     assert_eq!(model_with("eos=1\n", "eos=\n"), (2, 1, 5));
     assert_eq!(model_with("eos=1\n", "eos1\n"), (2, 1, 4));
@@ -99,6 +118,48 @@ fn two_keys_at_one_place() {
     assert_eq!(model_with("event=1\n", "event=2\n"), (3, 17, 7));
     assert_eq!(model_with("event=1\n", "event=0\n"), (3, 17, 7));
     assert_eq!(model_with("event=1\n", "idle=3\n"), (5, 17, 0));
+}
+
+/// `idle` is no key of `eos=2`, nor `alone` one of `eos=1`.
+#[test]
+fn keys_of_either_header() {
+    assert_eq!(model_with("event=1\n", "alone=1\n"), (2, 17, 1));
+    assert_eq!(model_with("event=1\n", "alone=9\n"), (2, 17, 1));
+    assert_eq!(second_with("event=1\n", "idle=1\n"), (2, 17, 1));
+    assert_eq!(second_with("event=1\n", "idle=9\n"), (2, 17, 1));
+    assert_eq!(second_with("event=1\n", "event=1\n"), (0, 0, 0));
+    assert_eq!(second_with("event=1\n", "event=2\n"), (3, 17, 7));
+    assert_eq!(second_with("event=1\n", "xvent=1\n"), (2, 17, 1));
+    assert_eq!(second_with("event=1\n", "avent=1\n"), (2, 17, 2));
+    assert_eq!(second_with("event=1\n", "elone=1\n"), (2, 17, 2));
+    assert_eq!(second_with("event=1\n", "alon=1\n"), (2, 17, 5));
+    assert_eq!(second_with("event=1\n", "alones=1\n"), (2, 17, 6));
+    assert_eq!(second_with("event=1\n", "alone\n"), (2, 17, 6));
+    assert_eq!(second_with("event=1\n", "alone=\n"), (2, 17, 7));
+    assert_eq!(second_with("event=1\n", "alone=-1\n"), (2, 17, 7));
+    assert_eq!(second_with("event=1\n", "alone=01\n"), (2, 17, 8));
+    assert_eq!(second_with("event=1\n", "alone=1,1\n"), (2, 17, 8));
+    assert_eq!(second_with(&MODEL[MODEL.find("event=").unwrap()..], "alone=1"), (2, 17, 8));
+    assert_eq!(second_with(&MODEL[MODEL.find("event=").unwrap()..], "alone=3"), (2, 17, 8));
+}
+
+#[test]
+fn nets_that_are_alone() {
+    assert_eq!(second_with("event=1\n", "alone=1\n"), (0, 0, 0));
+    assert_eq!(second_with("event=1\n", "alone=0\n"), (3, 17, 7));
+    assert_eq!(second_with("event=1\n", "alone=3\n"), (3, 17, 7));
+    assert_eq!(second_with("event=1\n", "alone=18446744073709551617\n"), (3, 17, 7));
+    assert_eq!(second_with("event=1\n", "alone=2\n"), (5, 18, 0));
+    assert_eq!(second_with("event=1\nsync=1,0\n", "alone=1\nsync=0,0\n"), (5, 18, 0));
+    assert_eq!(second_with("event=1\nsync=1,0\n", "alone=2\nsync=0,0\n"), (5, 19, 0));
+    assert_eq!(second_with("event=1\nsync=1,0\n", "alone=2\nsync=256,0\n"), (3, 18, 6));
+    let no_nets = |line: &str| {
+        let head = "eos=2\nnets=0\nplaces=1\ntype=0\nmoves=0\nevents=1\n";
+        model_read(&format!("{head}{line}\nstart=0\n"))
+    };
+    assert_eq!(no_nets("alone=0"), (3, 7, 7));
+    assert_eq!(no_nets("alone=1"), (3, 7, 7));
+    assert_eq!(no_nets("idle=1"), (2, 7, 1));
 }
 
 #[test]
@@ -246,20 +307,24 @@ fn columns_from_all_right_lines() {
         let weights = |line: &[u8]| refused_by_2(Reader::new(line).weights("outer", length, 9));
         check("outer", Right::Weights("outer", length), b"02,-\n", 7, 4, weights);
     }
+    let numbers = ["1", "2"];
+    let header = |line: &[u8]| refused_by_2(Reader::new(line).header("eos", &numbers));
+    check("eos", Right::Header("eos", &numbers), b"0123,\n", 5, 2, header);
     let token = |line: &[u8]| refused_by_2(read_marking(&model, &[b"start=1\n", line].concat()));
     check("token", Right::Token(&model), b"0139:,\n", 7, 5, token);
 }
 
-/// The plant that is damaged at every byte has every key, and is right but for its weights.
+/// The plants that are damaged at every byte have every key, and are right but for the weights.
 #[test]
-fn the_plant_of_every_line_is_right() {
+fn the_plants_of_every_line_are_right() {
+    assert_eq!(calls::read_model(limits::EVERY_ALONE).answer, Answer::default());
     let read = calls::read_model(limits::EVERY_LINE);
     assert_eq!(read.answer, Answer::default());
     let weighed = calls::check_weights(&read.model, &read.start, limits::EVERY_WEIGHT);
     assert_eq!((weighed.number, weighed.beside), (7, 1));
     let stepped = calls::step(&read.model, &mut read.start.clone(), limits::EVERY_STEP);
     assert_eq!((stepped.number, stepped.used), (0, limits::EVERY_STEP.len()));
-    let text = String::from_utf8_lossy(limits::EVERY_LINE);
+    let text = String::from_utf8_lossy(&[limits::EVERY_LINE, limits::EVERY_ALONE].concat()).into_owned();
     assert!(KEYS.iter().all(|key| text.lines().any(|line| line.starts_with(&format!("{key}=")))));
 }
 

@@ -1,5 +1,6 @@
 //! Two ways to the same answer, on made-up plants.
 
+use reference::convert::convert;
 use reference::engine::{Engine, Reference};
 use reference::generate::held_damage::{damage_marking, damage_model};
 use reference::generate::limits::{model_of_length, round_trip, trace_of_length};
@@ -9,7 +10,9 @@ use reference::generate::steps::{firing_step, poor_step, spoil};
 use reference::generate::texts::{model_text, step_text};
 use reference::held::{hold_marking, hold_model, HeldMarking, HeldModel};
 use reference::marking::{Marking, Row};
-use reference::model::{read_model, EVENTS, INNER, MOVES, NETS, PLACES, TOKENS, TRANSITIONS};
+use reference::model::{
+    read_model, Header, Mode, Model, EVENTS, INNER, MOVES, NETS, PLACES, TOKENS, TRANSITIONS,
+};
 use reference::own_run::OwnRun;
 use reference::step::{run, step};
 
@@ -29,7 +32,8 @@ fn print(held: &HeldModel, marking: &HeldMarking) -> Option<String> {
         return None;
     }
     let types = list(&held.types[..held.places]);
-    let mut text = format!("eos=1\nnets={}\nplaces={}\ntype={types}\n", held.nets, held.places);
+    let HeldModel { header, nets: number, places, .. } = held;
+    let mut text = format!("eos={header}\nnets={number}\nplaces={places}\ntype={types}\n");
     text += &format!("moves={}\n{}", held.moves, arcs(&held.pre, &held.post, held.moves, held.places));
     for net in nets {
         if net.places > INNER || net.transitions > TRANSITIONS {
@@ -40,7 +44,7 @@ fn print(held: &HeldModel, marking: &HeldMarking) -> Option<String> {
     }
     text += &format!("events={}\n", held.listed);
     for event in &held.events[..held.listed] {
-        let key = ["none", "event", "idle"].get(usize::from(event.kind)).unwrap_or(&"none");
+        let key = ["none", "event", "idle", "alone"].get(usize::from(event.kind)).unwrap_or(&"none");
         text += &format!("{key}={}\n", event.index);
         for (at, net) in nets.iter().enumerate() {
             text += &format!("sync={}\n", list(&event.sync[at * 32..at * 32 + net.transitions]));
@@ -147,4 +151,64 @@ fn plants_of_every_size_are_right() {
         most = std::array::from_fn(|at| most[at].max(sizes[at]));
     }
     assert_eq!(most, [NETS, PLACES, EVENTS, TOKENS]);
+}
+
+/// The text of a model with its idle events as `alone` ones, made line by line, if each stands at every place of its net; of
+/// like ones the first is kept.
+fn alone_text(model: &Model, start: &[Row]) -> Option<String> {
+    let text = String::from_utf8(model_text(model, start)).unwrap();
+    let (head, rest) = text.split_once("events=").unwrap();
+    let (_, rest) = rest.split_once('\n').unwrap();
+    let (events, start) = rest.split_at(rest.find("start=").unwrap());
+    let lines: Vec<&str> = events.split_inclusive('\n').collect();
+    let events: Vec<String> = lines.chunks(1 + model.nets.len()).map(|lines| lines.concat()).collect();
+    let mut kept: Vec<String> = Vec::new();
+    for event in &events {
+        let Some((place, counts)) = event.strip_prefix("idle=").and_then(|rest| rest.split_once('\n')) else {
+            kept.push(event.clone());
+            continue;
+        };
+        let net = model.types[place.parse::<usize>().unwrap() - 1];
+        let halls = (1..=model.places()).filter(|&place| model.types[place - 1] == net);
+        if !halls.map(|place| format!("idle={place}\n{counts}")).all(|like| events.contains(&like)) {
+            return None;
+        }
+        let alone = format!("alone={net}\n{counts}");
+        if !kept.contains(&alone) {
+            kept.push(alone);
+        }
+    }
+    let head = head.replacen("eos=1", "eos=2", 1);
+    Some(format!("{head}events={}\n{}{start}", kept.len(), kept.concat()))
+}
+
+#[test]
+fn conversions_agree_with_rewritten_texts() {
+    let mut met = [0; 3];
+    for case in 0..3_000 {
+        let (_, plant) = made(case);
+        let model = plant.model;
+        if model.header == Header::Two {
+            let converted = convert(&model).unwrap();
+            assert!(converted.model == model && converted.numbers.into_iter().eq(1..=model.events.len()));
+            continue;
+        }
+        let (text, converted) = (alone_text(&model, &plant.start), convert(&model));
+        let read = text.map(|text| read_model(text.as_bytes()).unwrap().0);
+        assert_eq!(converted.as_ref().ok().map(|converted| &converted.model), read.as_ref(), "case {case}");
+        let Ok(converted) = converted else {
+            met[0] += 1;
+            continue;
+        };
+        for (event, &number) in model.events.iter().zip(&converted.numbers) {
+            let new = &converted.model.events[number - 1];
+            let mode = match event.mode {
+                Mode::Idle(place) => Mode::Alone(model.net_of(place).unwrap()),
+                other => other,
+            };
+            assert!(new.mode == mode && new.sync == event.sync);
+        }
+        met[1 + usize::from(converted.model.events.len() < model.events.len())] += 1;
+    }
+    assert!(met.iter().all(|&times| times > 50), "{met:?}");
 }

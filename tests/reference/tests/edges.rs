@@ -1,6 +1,6 @@
 //! The listing and the edges of the paper.
 
-use reference::calls::{self, Answer, Spread, Stepped, Weighed, Written};
+use reference::calls::{self, Answer, Converted, Spread, Stepped, Weighed, Written};
 use reference::held::{HeldMarking, HeldModel};
 use reference::own_run::OwnRun;
 use reference::{listing::listing, model};
@@ -319,4 +319,210 @@ fn the_rules_own_run_has_no_limits() {
     assert_eq!(run.rows(), None);
     let (token, likes) = run.state().first_key_value().unwrap();
     assert_eq!((token.inside[0].to_string(), *likes), ("65536".to_string(), 1));
+}
+
+/// Two halls of a net, one of another with as many inner places, and a black one. The first event moves a token within, the
+/// second and third do nothing.
+const ALONE: &str = "eos=2\nnets=2\nplaces=4\ntype=1,1,2,0\nmoves=1\npre=0,0,0,1\npost=0,0,0,1\ninner=2\nsteps=2\n\
+    pre=1,0\npost=0,1\npre=0,0\npost=0,0\ninner=2\nsteps=1\npre=0,0\npost=0,0\nevents=4\nalone=1\nsync=1,0\nsync=0\n\
+    alone=1\nsync=0,1\nsync=0\nalone=2\nsync=0,0\nsync=1\nevent=1\nsync=0,0\nsync=0\nstart=5\ntoken=1:1,0\n\
+    token=1:2,0\ntoken=2:1,0\ntoken=3:1,0\ntoken=4:\n";
+
+/// The answer to a step of `ALONE` with these net-tokens taken and given.
+fn alone(event: usize, taken: &[&str], given: &[&str]) -> (usize, usize) {
+    let block = |key: &str, tokens: &[&str]| {
+        let lines: Vec<String> = tokens.iter().map(|token| format!("token={token}\n")).collect();
+        format!("{key}={}\n{}", tokens.len(), lines.concat())
+    };
+    stepped(ALONE, &format!("fire={event}\n{}{}", block("take", taken), block("give", given)))
+}
+
+#[test]
+fn any_one_rack_of_the_net_is_alone() {
+    assert_eq!(alone(1, &["1:1,0"], &["1:0,1"]), (0, 0));
+    assert_eq!(alone(1, &["1:2,0"], &["1:1,1"]), (0, 0));
+    assert_eq!(alone(1, &["2:1,0"], &["2:0,1"]), (0, 0));
+    assert_eq!(alone(2, &["2:1,0"], &["2:1,0"]), (0, 0));
+    assert_eq!(alone(3, &["3:1,0"], &["3:1,0"]), (0, 0));
+    assert_eq!(alone(4, &["4:"], &["4:"]), (0, 0));
+}
+
+#[test]
+fn alone_takes_one_rack_of_its_net() {
+    assert_eq!(alone(2, &["3:1,0"], &["3:1,0"]), (8, 2));
+    assert_eq!(alone(3, &["1:1,0"], &["1:1,0"]), (8, 2));
+    assert_eq!(alone(2, &["4:"], &["4:"]), (8, 2));
+    assert_eq!(alone(2, &["1:1,0", "1:2,0"], &["1:1,0", "1:2,0"]), (8, 2));
+    assert_eq!(alone(2, &["1:1,0", "1:1,0"], &["1:1,0"]), (8, 2));
+    assert_eq!(alone(2, &["1:1,0", "2:1,0"], &["1:1,0", "2:1,0"]), (8, 2));
+    assert_eq!(alone(2, &["1:1,0", "4:"], &["1:1,0", "4:"]), (8, 2));
+    assert_eq!(alone(2, &[], &[]), (8, 2));
+    assert_eq!(alone(2, &[], &["1:0,0"]), (8, 2));
+}
+
+#[test]
+fn alone_gives_where_it_took() {
+    assert_eq!(alone(2, &["1:1,0"], &["2:1,0"]), (8, 4));
+    assert_eq!(alone(2, &["1:1,0"], &["3:1,0"]), (8, 4));
+    assert_eq!(alone(2, &["1:1,0"], &["4:"]), (8, 4));
+    assert_eq!(alone(2, &["1:1,0"], &[]), (8, 4));
+    assert_eq!(alone(2, &["1:1,0"], &["1:1,0", "1:0,0"]), (8, 4));
+    assert_eq!(alone(2, &["1:1,0"], &["1:1,0", "4:"]), (8, 4));
+}
+
+#[test]
+fn insides_of_alone_racks() {
+    assert_eq!(alone(1, &["1:0,1"], &["1:0,1"]), (9, 1));
+    assert_eq!(alone(1, &["1:1,0"], &["1:1,0"]), (10, 1));
+    assert_eq!(alone(1, &["2:2,0"], &["2:1,1"]), (11, 3));
+    assert_eq!(alone(2, &["1:1,0"], &["1:0,1"]), (10, 1));
+    assert_eq!(alone(3, &["3:1,0"], &["3:0,0"]), (10, 2));
+}
+
+/// A net that types no place may be alone; its event fires on no rack.
+#[test]
+fn alone_without_a_place() {
+    let model =
+        "eos=2\nnets=2\nplaces=1\ntype=1\nmoves=0\ninner=1\nsteps=0\ninner=1\nsteps=1\npre=0\npost=0\n\
+        events=1\nalone=2\nsync=\nsync=1\nstart=1\ntoken=1:0\n";
+    assert_eq!(stepped(model, "fire=1\ntake=1\ntoken=1:0\ngive=1\ntoken=1:0\n"), (8, 2));
+    assert_eq!(stepped(model, "fire=1\ntake=0\ngive=0\n"), (8, 2));
+    assert_eq!(weighed(model, "inv=1\nouter=1\ninner=1\ninner=1\n"), passed(1, 1));
+}
+
+#[test]
+fn counts_of_alone_events() {
+    let with = |old: &str, new: &str| ALONE.replacen(old, new, 1);
+    assert_eq!(refused(&with("sync=1,0\nsync=0\n", "sync=0,0\nsync=0\n")), (5, 20, 0));
+    assert_eq!(refused(&with("sync=1,0\nsync=0\n", "sync=1,0\nsync=1\n")), (5, 21, 0));
+    assert_eq!(refused(&with("sync=0,0\nsync=1\n", "sync=0,0\nsync=0\n")), (5, 27, 0));
+    assert_eq!(refused(&with("sync=0,0\nsync=1\n", "sync=0,1\nsync=1\n")), (5, 26, 0));
+    assert_eq!(refused(&with("alone=2\n", "alone=3\n")), (3, 25, 7));
+    assert_eq!(refused(&with("alone=2\n", "alone=0\n")), (3, 25, 7));
+    assert_eq!(refused(&with("eos=2", "eos=1")), (2, 19, 1));
+    assert_eq!(refused(&MODEL.replacen("eos=1", "eos=2", 1)), (2, 15, 1));
+}
+
+/// The halls of a net may weigh what they like: its event moves no rack.
+#[test]
+fn weights_of_alone_events() {
+    let with = |outer: &str, inner: &str| format!("inv=1\nouter={outer}\ninner={inner}\ninner=3,4\n");
+    assert_eq!(weighed(ALONE, &with("1,5,9,2", "1,1")), passed(25, 1));
+    assert_eq!(weighed(ALONE, &with("-1,0,1,0", "0,0")), passed(2, 0));
+    let unbalanced = Weighed { number: 7, beside: 1, ..Weighed::default() };
+    assert_eq!(weighed(ALONE, &with("1,1,1,1", "1,2")), unbalanced);
+}
+
+#[test]
+fn held_headers_and_kinds() {
+    let test = |held: &HeldModel, change: &dyn Fn(&mut HeldModel)| {
+        let mut held = Box::new(held.clone());
+        change(&mut held);
+        calls::test_model(&held)
+    };
+    let (first, second) = (read(MODEL).0, read(ALONE).0);
+    assert_eq!((first.header, second.header, HeldModel::empty().header), (1, 2, 0));
+    assert_eq!((first.events[1].kind, first.events[1].index), (2, 2));
+    assert_eq!((second.events[2].kind, second.events[2].index), (3, 2));
+    for header in [0, 1, 2, 3, 1 << 32 | 1, usize::MAX] {
+        assert_eq!(test(&first, &|held| held.header = header), header == 1);
+        assert_eq!(test(&second, &|held| held.header = header), header == 2);
+    }
+    assert!(!test(&first, &|held| held.events[1].kind = 3));
+    assert!(!test(&second, &|held| held.events[0].kind = 2));
+    for index in 0..=255 {
+        assert_eq!(test(&second, &|held| held.events[0].index = index), index == 1);
+    }
+}
+
+/// A plant with two halls of a net, one of another, and these events: their first lines and the counts of either net.
+fn idlers(header: usize, events: &[(&str, &str, &str)]) -> String {
+    let event = |(first, one, other): &(&str, &str, &str)| format!("{first}\nsync={one}\nsync={other}\n");
+    let lines: Vec<String> = events.iter().map(event).collect();
+    format!(
+        "eos={header}\nnets=2\nplaces=3\ntype=1,2,1\nmoves=1\npre=1,0,0\npost=0,0,1\ninner=1\nsteps=2\npre=1\npost=0\n\
+        pre=0\npost=1\ninner=1\nsteps=1\npre=1\npost=1\nevents={}\n{}start=1\ntoken=1:3\n",
+        events.len(),
+        lines.concat()
+    )
+}
+
+/// Checks that the second events come of the first, with these numbers.
+fn becomes(idle: &[(&str, &str, &str)], alone: &[(&str, &str, &str)], numbers: &[u8]) {
+    let converted = calls::convert(&read(&idlers(1, idle)).0);
+    assert_eq!(converted.answer, Answer::default());
+    assert!(converted.model == *read(&idlers(2, alone)).0);
+    assert_eq!(converted.numbers[..numbers.len()], *numbers);
+    assert!(converted.numbers[numbers.len()..].iter().all(|&number| number == 0));
+}
+
+/// The event beside which a conversion is refused.
+fn not_everywhere(idle: &[(&str, &str, &str)]) -> usize {
+    let converted = calls::convert(&read(&idlers(1, idle)).0);
+    let Converted { answer: Answer { number, beside, column }, model, numbers } = *converted;
+    assert_eq!((number, column, numbers), (21, 0, [0; 64]));
+    assert!(model == HeldModel::empty());
+    beside
+}
+
+const MOVED: (&str, &str, &str) = ("event=1", "1,0", "0");
+
+#[test]
+fn like_idle_events_become_one() {
+    let [one, other, third] = [("idle=1", "1,0", "0"), ("idle=3", "1,0", "0"), ("idle=2", "0,0", "1")];
+    let [first, second] = [("alone=1", "1,0", "0"), ("alone=2", "0,0", "1")];
+    becomes(&[], &[], &[]);
+    becomes(&[MOVED], &[MOVED], &[1]);
+    becomes(&[third], &[second], &[1]);
+    becomes(&[one, other], &[first], &[1, 1]);
+    becomes(&[MOVED, other, MOVED, one, MOVED], &[MOVED, first, MOVED, MOVED], &[1, 2, 3, 2, 4]);
+    becomes(&[third, one, third, MOVED, other], &[second, first, MOVED], &[1, 2, 1, 3, 2]);
+    becomes(&[other, other, MOVED, one], &[first, MOVED], &[1, 1, 2, 1]);
+}
+
+/// Like events have the same counts.
+#[test]
+fn unlike_idle_events_stay_apart() {
+    let idle =
+        [("idle=1", "1,0", "0"), ("idle=1", "0,1", "0"), ("idle=3", "0,1", "0"), ("idle=3", "1,0", "0")];
+    becomes(&idle, &[("alone=1", "1,0", "0"), ("alone=1", "0,1", "0")], &[1, 2, 2, 1]);
+    let idle = [("idle=2", "0,0", "1"), ("idle=2", "0,0", "2")];
+    becomes(&idle, &[("alone=2", "0,0", "1"), ("alone=2", "0,0", "2")], &[1, 2]);
+}
+
+#[test]
+fn the_least_idle_event_that_misses_a_place() {
+    let [one, other, third] = [("idle=1", "1,0", "0"), ("idle=3", "1,0", "0"), ("idle=2", "0,0", "1")];
+    assert_eq!(not_everywhere(&[one]), 1);
+    assert_eq!(not_everywhere(&[MOVED, one, one]), 2);
+    assert_eq!(not_everywhere(&[third, other, ("idle=1", "0,1", "0")]), 2);
+    assert_eq!(not_everywhere(&[one, other, ("idle=1", "1,1", "0"), ("idle=3", "2,0", "0")]), 3);
+    assert_eq!(not_everywhere(&[one, ("idle=3", "0,1", "0"), other]), 2);
+}
+
+/// A model of header 2 stays as it is, like events too; a held model that no reading gives is 14.
+#[test]
+fn other_models_converted() {
+    let alone = ("alone=1", "1,0", "0");
+    let (model, _) = read(&idlers(2, &[alone, MOVED, alone]));
+    let converted = calls::convert(&model);
+    assert_eq!((converted.answer, converted.numbers[..4].to_vec()), (Answer::default(), vec![1, 2, 3, 0]));
+    assert!(converted.model == *model);
+    let mut other = model.clone();
+    other.header = 1;
+    for wrong in [*other, HeldModel::empty()] {
+        let Converted { answer, model, numbers } = *calls::convert(&wrong);
+        assert_eq!((answer, numbers), (Answer { number: 14, ..Answer::default() }, [0; 64]));
+        assert!(model == HeldModel::empty());
+    }
+}
+
+#[test]
+fn as_many_events_as_there_are() {
+    let [one, other] = [("idle=1", "1,0", "0"), ("idle=3", "1,0", "0")];
+    let idle: Vec<_> = [one, other].into_iter().cycle().take(64).collect();
+    becomes(&idle, &[("alone=1", "1,0", "0")], &[1; 64]);
+    let moves = [MOVED; 64];
+    let numbers: [u8; 64] = std::array::from_fn(|at| at as u8 + 1);
+    becomes(&moves, &moves, &numbers);
 }

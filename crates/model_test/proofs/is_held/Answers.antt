@@ -8,7 +8,7 @@ use Rattle.model_test.proofs.is_held.Goals.{Else-not-counts_held}
 pub moves_held-requires : goal.moves_held-requires
 moves_held-requires c =
     let m = c.args.m.now in
-    (few-counts m.nets m.places m.moves m.listed (sym c.counts_held.ensures ∙ c.if-not-counts_held.false)).2
+    (few-counts m.header m.nets m.places m.moves m.listed (sym c.counts_held.ensures ∙ c.if-not-counts_held.false)).2
 
 pub returns-then-nets_held : goal.returns-then-nets_held
 unfolding held_model held_types held_nets

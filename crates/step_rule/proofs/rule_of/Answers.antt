@@ -3,6 +3,7 @@ use borrow.Author.Rules.{rules}
 use mathlib.Core.Path.{refl, ap, ◌∙◌}
 use mathlib.Core.List.{[]}
 use Rattle.eos.specs.Firing.{act_side}
+use Rattle.model.specs.Acts.{alone_of}
 use Rattle.model.specs.Held.{row_at}
 use Rattle.model.specs.declared.Event.{Event}
 use Rattle.model.proofs.ModelSized.{told-sized}
@@ -19,6 +20,12 @@ offset_bounds-m-e c = let h = few_events c.args.m.now c.requires.0 c.args.e c.re
 
 pub bounds-m-e : goal.bounds-m-e
 bounds-m-e c = few_events c.args.m.now c.requires.0 c.args.e c.requires.1
+
+pub alone_of-rule-requires : goal.alone_of-rule-requires
+alone_of-rule-requires c =
+    let m = c.args.m.now in
+    let sized = told-sized m c.type_inv.m in
+    act_few m c.requires.0 sized c.args.e c.requires.1 _ (act_read m c.requires.0 sized c.args.e c.requires.1 none _ c.act-act.ensures)
 
 pub outer_side-rule-requires : goal.outer_side-rule-requires
 outer_side-rule-requires c =
@@ -47,6 +54,6 @@ returns-clause-made c =
     let sized = told-sized m c.type_inv.m in
     let act = act_read m c.requires.0 sized e c.requires.1 none _ c.act-act.ensures in
     let counts = counts_read m c.requires.0 sized e c.requires.1 none in
-    rule_made m c.requires.0 sized e c.requires.1 _ refl refl
+    rule_made m c.requires.0 sized e c.requires.1 _ refl (c.alone_of-rule.ensures ∙ ap alone_of act) refl
     (c.outer_side-rule.ensures ∙ ap (act_side (row_at m.pre) 32) act) (c.inner_sides.ensures.0 ∙ ap (net_sums pre_arcs m) counts)
     (c.outer_side-rule-2.ensures ∙ ap (act_side (row_at m.post) 32) act) (c.inner_sides.ensures.1 ∙ ap (net_sums post_arcs m) counts)

@@ -14,3 +14,7 @@ returns-in-Move c = rw c.in-Move.is (to_z-of_z w64 (get_or c.args.gains.now c.in
 pub returns-in-Idle : goal.returns-in-Idle
 unfolding move_gain
 returns-in-Idle c = rw c.in-Idle.is
+
+pub returns-in-Alone : goal.returns-in-Alone
+unfolding move_gain
+returns-in-Alone c = rw c.in-Alone.is

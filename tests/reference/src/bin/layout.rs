@@ -1,7 +1,7 @@
 //! The sizes and offsets of the structs that cross the C boundary, and a model as the reference reads it. The C program
 //! of the same name prints the same lines from the header and the proved engine's library.
 
-use reference::calls::{read_model, Spread, Weighed, Written};
+use reference::calls::{read_model, Converted, Spread, Weighed, Written};
 use reference::ffi::{MarkingRead, ModelRead, RunDone, StepDone};
 use reference::held::{HeldEvent, HeldMarking, HeldModel, HeldObjectNet};
 use std::mem::{offset_of, size_of};
@@ -30,6 +30,7 @@ fn structs() {
     field!("fp_event.index", HeldEvent, index, u8);
     field!("fp_event.sync", HeldEvent, sync, [u8; 256]);
     size!("fp_model", HeldModel);
+    field!("fp_model.header", HeldModel, header, usize);
     field!("fp_model.nets", HeldModel, nets, usize);
     field!("fp_model.places", HeldModel, places, usize);
     field!("fp_model.moves", HeldModel, moves, usize);
@@ -74,6 +75,12 @@ fn answers() {
     size!("fp_spread", Spread);
     field!("fp_spread.column", Spread, column, usize);
     field!("fp_spread.ways", Spread, ways, u64);
+    size!("fp_converted", Converted);
+    field!("fp_converted.number", Converted, answer.number, usize);
+    field!("fp_converted.beside", Converted, answer.beside, usize);
+    field!("fp_converted.column", Converted, answer.column, usize);
+    field!("fp_converted.model", Converted, model, HeldModel);
+    field!("fp_converted.numbers", Converted, numbers, [u8; 64]);
 }
 
 /// Each part of the model by a sum in which every place counts differently.
@@ -86,7 +93,7 @@ fn model(path: &str) {
     let read = read_model(&text);
     let m = &read.model;
     println!("read {} {} {}", read.answer.number, read.answer.beside, read.answer.column);
-    println!("model {} {} {} {}", m.nets, m.places, m.moves, m.listed);
+    println!("model {} {} {} {} {}", m.header, m.nets, m.places, m.moves, m.listed);
     println!("types {} pre {} post {}", mixed(&m.types), mixed(&m.pre), mixed(&m.post));
     for net in &m.objects {
         println!("net {} {} {} {}", net.places, net.transitions, mixed(&net.pre), mixed(&net.post));

@@ -1,9 +1,11 @@
 //! A batch: all calls around one made-up plant.
 
+use crate::calls::Converted;
+use crate::generate::alone::{spoil_alone, with_first_line, HEADERS};
 use crate::generate::damage::{damage, noise};
 use crate::generate::held_damage::{damage_marking, damage_model};
 use crate::generate::limits;
-use crate::generate::line_damage::{damage_line, damaged_everywhere};
+use crate::generate::line_damage::damage_line;
 use crate::generate::plant::{plant, Kind, Plant};
 use crate::generate::rng::Rng;
 use crate::generate::steps::{firing_step, overdo, poor_step, spoil, token_of, StepPlan, Token};
@@ -11,21 +13,22 @@ use crate::generate::texts::{marking_text, model_text, step_text, trace_text, we
 use crate::held::{HeldMarking, HeldModel};
 use crate::listing::FILE;
 use crate::marking::{Marking, Row};
-use crate::model::{Mode, Model, INNER, SLICE};
+use crate::model::{Header, Mode, Model, INNER, SLICE};
 use crate::weights::{check_weights, Weights, WEIGHT};
 
 use super::whole_list::WholeList;
 use super::{Compared, Comparer, Context};
 
-/// A batch's plant with its texts and what is held of it.
-struct Batch<'b, 'e> {
-    comparer: &'b mut Comparer<'e>,
-    rng: Rng,
-    plant: Plant,
+/// A batch's plant with its texts, what is held of it, and what a model of header 1 is converted to.
+pub(super) struct Batch<'b, 'e> {
+    pub(super) comparer: &'b mut Comparer<'e>,
+    pub(super) rng: Rng,
+    pub(super) plant: Plant,
     model_text: Vec<u8>,
     weights_text: Vec<u8>,
-    model: Box<HeldModel>,
-    start: Box<HeldMarking>,
+    pub(super) model: Box<HeldModel>,
+    pub(super) start: Box<HeldMarking>,
+    pub(super) converted: Option<Box<Converted>>,
 }
 
 /// Makes all calls of a seed's batch; ends at the first difference.
@@ -38,7 +41,9 @@ pub fn batch(comparer: &mut Comparer, seed: u64, number: u64) -> Compared {
     let Some((model, start)) = comparer.read_model(&model_text)? else {
         return context.same("a right model is accepted", &false, &true);
     };
-    let mut batch = Batch { comparer, rng, plant, model_text, weights_text, model, start };
+    let converted = comparer.convert(&model).map_err(|difference| difference.of_model(&model_text))?;
+    let converted = converted.filter(|_| plant.model.header == Header::One);
+    let mut batch = Batch { comparer, rng, plant, model_text, weights_text, model, start, converted };
     let compared = batch.calls(number);
     compared.map_err(|difference| difference.of_model(&batch.model_text))
 }
@@ -46,6 +51,7 @@ pub fn batch(comparer: &mut Comparer, seed: u64, number: u64) -> Compared {
 impl Batch<'_, '_> {
     fn calls(&mut self, number: u64) -> Compared {
         self.models()?;
+        self.conversions()?;
         self.markings()?;
         self.held()?;
         self.weights()?;
@@ -75,7 +81,7 @@ impl Batch<'_, '_> {
         text
     }
 
-    fn damaged_model(&mut self) -> Box<HeldModel> {
+    pub(super) fn damaged_model(&mut self) -> Box<HeldModel> {
         let mut model = self.model.clone();
         damage_model(&mut self.rng, &mut model);
         model
@@ -95,11 +101,14 @@ impl Batch<'_, '_> {
         for _ in 0..3 {
             let text = self.changed_model();
             self.comparer.read_model(&text)?;
+            let header = *self.rng.pick(HEADERS);
+            self.comparer.read_model(&with_first_line(&self.model_text, header))?;
         }
         Ok(())
     }
 
-    /// The text of the model with a move that gives none of a net that it takes, or idling that is none.
+    /// The text of the model with a move that gives none of a net that it takes, or with idling or an alone net that is none
+    /// or not of its header.
     fn changed_model(&mut self) -> Vec<u8> {
         let mut model = self.plant.model.clone();
         let place = self.rng.below(model.places());
@@ -111,8 +120,13 @@ impl Batch<'_, '_> {
             places.filter(|(_, &other)| other == net).for_each(|(arc, _)| *arc = 0);
         } else if !model.events.is_empty() {
             let at = self.rng.below(model.events.len());
-            model.events[at].mode = Mode::Idle(place);
-            let own = model.net_of(place);
+            let net = self.rng.below(model.nets.len() + 1);
+            let idles = (model.header == Header::One) == self.rng.percent(70);
+            let (mode, own) = match idles {
+                true => (Mode::Idle(place), model.net_of(place)),
+                false => (Mode::Alone(net), Some(net)),
+            };
+            model.events[at].mode = mode;
             let [keep_own, keep_others] = *self.rng.pick(&[[true, true], [true, false], [false, false]]);
             for (net, counts) in model.events[at].sync.iter_mut().enumerate() {
                 let keep = if Some(net) == own { keep_own } else { keep_others };
@@ -144,12 +158,12 @@ impl Batch<'_, '_> {
 
     fn held(&mut self) -> Compared {
         self.comparer.test_model(&self.model)?;
-        self.comparer.test_marking(&self.model, &self.start)?;
+        self.test_marking(&self.start.clone())?;
         for _ in 0..6 {
             let wrong = self.damaged_model();
             self.comparer.test_model(&wrong)?;
             let wrong = self.damaged_marking(&self.start.clone());
-            self.comparer.test_marking(&self.model, &wrong)?;
+            self.test_marking(&wrong)?;
         }
         let (model, marking) = (self.damaged_model(), self.damaged_marking(&self.start.clone()));
         self.comparer.test_marking(&model, &self.start)?;
@@ -164,22 +178,22 @@ impl Batch<'_, '_> {
 
     fn weights(&mut self) -> Compared {
         let text = self.weights_text.clone();
-        let weighed = self.comparer.check_weights(&self.model, &self.start, &text)?;
+        let weighed = self.check_weights(&text)?;
         let context = Context { call: "check_weights", texts: &[&self.model_text, &text] };
         if self.plant.kind != Kind::Free && !self.plant.weights.all_zero() {
             context.same("balanced weights pass", &weighed.number, &0)?;
         }
         for way in 0..7 {
             let mut text = weights_text(&self.other_weights(way));
-            self.comparer.check_weights(&self.model, &self.start, &text)?;
+            self.check_weights(&text)?;
             if self.rng.percent(20) {
                 text.push(*self.rng.pick(b"\n0x"));
-                self.comparer.check_weights(&self.model, &self.start, &text)?;
+                self.check_weights(&text)?;
             }
         }
         for _ in 0..4 {
             let text = self.damaged(&text);
-            self.comparer.check_weights(&self.model, &self.start, &text)?;
+            self.check_weights(&text)?;
         }
         Ok(())
     }
@@ -214,7 +228,7 @@ impl Batch<'_, '_> {
         for _ in 0..6 {
             for _ in 0..3 {
                 let text = self.some_step(&marking.rows[..marking.len]);
-                self.comparer.step(&self.model, &mut marking, &text)?;
+                self.step(&mut marking, &text)?;
             }
             self.fire(&mut marking)?;
         }
@@ -236,7 +250,7 @@ impl Batch<'_, '_> {
         if self.rng.percent(30) {
             text.extend_from_slice(b"what follows");
         }
-        let stepped = self.comparer.step(&self.model, marking, &text)?;
+        let stepped = self.step(marking, &text)?;
         let context = Context { call: "step", texts: &[&self.model_text, &text] };
         if plan.within_limits(rows.len()) {
             context.same("a step that the rule allows fires", &(stepped.number, stepped.used), &(0, used))?;
@@ -252,6 +266,10 @@ impl Batch<'_, '_> {
         let firing = if poor { None } else { firing_step(rng, model, rows) };
         let plan = firing.or_else(|| poor_step(rng, model, rows));
         let mut plan = plan.unwrap_or_else(|| any_step(rng, model, rows));
+        if let Some(net) = alone_net(model, &plan).filter(|_| rng.percent(40)) {
+            spoil_alone(rng, model, rows, net, &mut plan);
+            return step_text(&plan);
+        }
         match rng.below(10) {
             0..=5 => spoil(rng, model, &mut plan),
             6 => overdo(rng, model, &mut plan),
@@ -422,6 +440,14 @@ fn any_step(rng: &mut Rng, model: &Model, rows: &[Row]) -> StepPlan {
     StepPlan { event, taken: racks(), given: racks() }
 }
 
+/// The net of which a step's event takes a rack that is alone.
+fn alone_net(model: &Model, plan: &StepPlan) -> Option<usize> {
+    match model.events.get(plan.event.checked_sub(1)?)?.mode {
+        Mode::Alone(net) => Some(net),
+        Mode::Move(_) | Mode::Idle(_) => None,
+    }
+}
+
 /// The marking after a step within the limits that the rule allows.
 fn advance(rows: &mut Vec<Row>, plan: &StepPlan) {
     let row = |place: u64, inside: &[u64]| {
@@ -438,75 +464,4 @@ fn advance(rows: &mut Vec<Row>, plan: &StepPlan) {
     }
     rows.extend(plan.given.iter().map(|token| row(token.place, &token.inside)));
     rows.sort();
-}
-
-/// Calls that need no made-up plant: every spread, accepted texts of exact lengths, and damage at every byte.
-pub fn fixed(comparer: &mut Comparer) -> Compared {
-    for tokens in 0..=33 {
-        for racks in 0..=18 {
-            comparer.ways(tokens, racks)?;
-        }
-    }
-    let weights = limits::weights_of_length();
-    for length in [FILE - 1, FILE, FILE + 1] {
-        let model = limits::model_of_length(length);
-        comparer.read_model(&model)?;
-        comparer.listing([&model, &weights, b"run=1\n"], 1 << 17)?;
-    }
-    let plant = limits::round_trip();
-    let Some((model, start)) = comparer.read_model(&plant)? else {
-        return Ok(());
-    };
-    for length in [FILE - 1, FILE, FILE + 1] {
-        let trace = limits::trace_of_length(length);
-        comparer.run(&model, &start, &trace)?;
-        comparer.listing([&plant, b"inv=1\nouter=1\n", &trace], 1 << 17)?;
-    }
-    for length in [SLICE, SLICE + 1] {
-        comparer.run(&model, &start, &limits::trace_of_length(length))?;
-    }
-    long_lines(comparer, &model, &start)?;
-    every_byte(comparer)
-}
-
-/// Lines as long as a slice, unended, ended, and at fault in the last byte.
-fn long_lines(comparer: &mut Comparer, model: &HeldModel, start: &HeldMarking) -> Compared {
-    for behind in [&b""[..], b"\n", b",", b"x\n"] {
-        let line = |key: &str| {
-            let mut line = limits::padded(key.as_bytes(), SLICE - behind.len(), b'1');
-            line.extend_from_slice(behind);
-            line
-        };
-        comparer.step(model, &mut start.clone(), &line("fire="))?;
-        comparer.run(model, start, &line("run=1\nfire="))?;
-        comparer.read_marking(model, &line("start="))?;
-        comparer.check_weights(model, start, &line("inv=1\nouter=-"))?;
-        comparer.read_model(&line("eos=1\nnets="))?;
-    }
-    Ok(())
-}
-
-/// The texts of a small plant, damaged at every byte.
-fn every_byte(comparer: &mut Comparer) -> Compared {
-    let Some((model, start)) = comparer.read_model(limits::EVERY_LINE)? else {
-        return Ok(());
-    };
-    for text in damaged_everywhere(limits::EVERY_LINE) {
-        comparer.read_model(&text)?;
-    }
-    for text in damaged_everywhere(limits::EVERY_WEIGHT) {
-        comparer.check_weights(&model, &start, &text)?;
-    }
-    let first = limits::EVERY_LINE.windows(6).position(|bytes| bytes == b"start=").unwrap_or_default();
-    for text in damaged_everywhere(&limits::EVERY_LINE[first..]) {
-        comparer.read_marking(&model, &text)?;
-    }
-    for text in damaged_everywhere(limits::EVERY_STEP) {
-        comparer.step(&model, &mut start.clone(), &text)?;
-        comparer.run(&model, &start, &[b"run=1\n", &text[..]].concat())?;
-    }
-    for text in damaged_everywhere(b"run=1\n") {
-        comparer.run(&model, &start, &text)?;
-    }
-    Ok(())
 }

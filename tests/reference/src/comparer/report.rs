@@ -3,10 +3,11 @@
 use std::time::Instant;
 
 use crate::broken::{Broken, ALL};
-use crate::cause::RETIRED;
+use crate::cause::{NUMBERS, RETIRED};
 use crate::engine::{Engine, Reference};
 
-use super::batch::{batch, fixed};
+use super::batch::batch;
+use super::fixed::fixed;
 use super::{Causes, Compared, Comparer, Difference, Tally};
 
 /// How much is compared.
@@ -124,13 +125,13 @@ fn print_causes(tally: &Tally, least: u64, score: &mut Score) {
         let times: Vec<String> = causes.iter().map(|times| format!("{times:>7}")).collect();
         println!("{call:<14}{}", times.concat());
     };
-    row("cause", &std::array::from_fn(|cause| cause as u64));
+    row("cause", &NUMBERS.map(|cause| cause as u64));
     for (call, causes) in &tally.calls {
         row(call, causes);
     }
     let causes = tally.causes();
     row("all", &causes);
-    for (cause, &times) in causes.iter().enumerate() {
+    for (cause, times) in NUMBERS.into_iter().zip(causes) {
         let right = if cause == RETIRED { times == 0 } else { times >= least };
         if !right {
             println!("cause {cause} occurred {times} times");

@@ -152,7 +152,7 @@ fn change_list(rng: &mut Rng, text: &mut Vec<u8>) {
 fn change_key(rng: &mut Rng, text: &mut Vec<u8>) {
     #[rustfmt::skip]
     const KEYS: &[&[u8]] = &[
-        b"pre", b"post", b"event", b"idle", b"sync", b"token", b"start", b"inner", b"steps", b"take",
+        b"pre", b"post", b"event", b"idle", b"alone", b"sync", b"token", b"start", b"inner", b"steps", b"take",
         b"give", b"fire", b"", b"Token", b"outer",
     ];
     let line = some_line(rng, text);

@@ -17,7 +17,7 @@ fn odd_byte(rng: &mut Rng) -> u8 {
 
 /// Damages a held model at one point; now and then it stays right.
 pub fn damage_model(rng: &mut Rng, held: &mut HeldModel) {
-    match rng.below(16) {
+    match rng.below(19) {
         0 => held.nets = odd_size(rng, held.nets, NETS),
         1 => held.places = odd_size(rng, held.places, PLACES),
         2 => held.moves = odd_size(rng, held.moves, MOVES),
@@ -32,6 +32,10 @@ pub fn damage_model(rng: &mut Rng, held: &mut HeldModel) {
         8..=10 => damage_object(rng, held),
         11..=13 => damage_event(rng, held),
         14 => *held = HeldModel::empty(),
+        15 | 16 => {
+            held.header = *rng.pick(&[0, 1, 2, 3, 3_usize.wrapping_sub(held.header), 1 << 32, usize::MAX])
+        }
+        17 => damage_kind(rng, held),
         _ => {
             let bytes = held.bytes_mut();
             bytes[rng.below(bytes.len())] = odd_byte(rng);
@@ -76,6 +80,23 @@ fn damage_event(rng: &mut Rng, held: &mut HeldModel) {
         2 => event.sync[rng.below(NETS * TRANSITIONS)] = odd_byte(rng),
         3 => event.sync[net * TRANSITIONS..][..TRANSITIONS].fill(0),
         _ => event.sync[net * TRANSITIONS + rng.below(3)] = odd_byte(rng),
+    }
+}
+
+/// Makes an idle event one of `alone`, or the other way round, or its net or place one that is not there.
+fn damage_kind(rng: &mut Rng, held: &mut HeldModel) {
+    let used = held.listed.min(EVENTS);
+    let idling = |&event: &usize| [2, 3].contains(&held.events[event].kind);
+    let events: Vec<usize> = (0..used).filter(idling).collect();
+    let Some(event) = rng.pick_some(&events) else {
+        return;
+    };
+    let most = if held.events[event].kind == 3 { held.nets } else { held.places };
+    let event = &mut held.events[event];
+    match rng.below(3) {
+        0 => event.kind = 5 - event.kind,
+        1 => event.index = 0,
+        _ => event.index = (most as u8).wrapping_add(1),
     }
 }
 

@@ -6,7 +6,7 @@ use super::damage::lines;
 use super::rng::Rng;
 
 /// What is put in a byte's place or before it.
-const BYTES: &[u8] = b"0123456789,,,==::--\n\n\r eivdtx+. \0\xff";
+const BYTES: &[u8] = b"0123456789,,,==::--\n\n\r eivdtxaln+. \0\xff";
 
 /// Damages one line of a text.
 pub fn damage_line(rng: &mut Rng, text: &mut Vec<u8>) {
@@ -41,7 +41,7 @@ fn some<'t>(rng: &mut Rng, texts: &[&'t [u8]]) -> &'t [u8] {
 }
 
 /// What each byte of a text is replaced by, and what is put before it, in turn.
-const IN_TURN: &[u8] = b"0129,:=-\nei\xff";
+const IN_TURN: &[u8] = b"01239,:=-\neia\xff";
 
 /// Every text that comes of a byte replaced, put in or taken out, or of a cut, at each byte.
 pub fn damaged_everywhere(text: &[u8]) -> impl Iterator<Item = Vec<u8>> + '_ {
@@ -165,7 +165,9 @@ fn overdo(rng: &mut Rng, text: &mut Vec<u8>, line: &Range<usize>) {
 fn beyond(rng: &mut Rng, key: &[u8]) -> Vec<u8> {
     #[rustfmt::skip]
     let near: &[&str] = match key {
+        b"eos" => &["3", "12"],
         b"nets" | b"type" => &["9", "10"],
+        b"alone" => &["0", "9"],
         b"places" | b"steps" | b"moves" | b"event" | b"idle" => &["0", "33"],
         b"pre" | b"post" | b"sync" => &["256", "257"],
         b"events" | b"fire" => &["0", "65"],

@@ -1,10 +1,22 @@
 //! Makes models that given weights balance.
 
-use crate::model::{Mode, Model, ObjectNet, Transition, ARC};
+use crate::model::{Header, Mode, Model, ObjectNet, Transition, ARC, EVENTS};
 use crate::weights::Weights;
 
+use super::alone::remove_idle;
 use super::plant::{Kind, Sizes};
 use super::rng::Rng;
+
+/// At which places of a net its idle events are.
+#[derive(Clone, Copy, PartialEq, Eq)]
+enum Idling {
+    /// Each event at some place.
+    Somewhere,
+    /// Like events at each place.
+    Everywhere,
+    /// So, but for one event.
+    ButOne,
+}
 
 /// Makes the parts of a model so that the weights balance them.
 pub struct Maker<'r> {
@@ -13,6 +25,8 @@ pub struct Maker<'r> {
     sizes: Sizes,
     weights: Weights,
     separate: bool,
+    header: Header,
+    idling: Idling,
 }
 
 impl<'r> Maker<'r> {
@@ -31,14 +45,16 @@ impl<'r> Maker<'r> {
         });
         let inner = inner.collect();
         let separate = rng.percent(60);
-        Maker { rng, kind, sizes, weights: Weights { outer, inner }, separate }
+        let header = *rng.pick(&Header::ALL);
+        let idling = *rng.pick(&[Idling::Somewhere, Idling::Everywhere, Idling::Everywhere, Idling::ButOne]);
+        Maker { rng, kind, sizes, weights: Weights { outer, inner }, separate, header, idling }
     }
 
     /// The model, its weights, and whether moves and transitions are balanced each for itself.
     pub fn make_model(mut self, types: Vec<u8>) -> (Model, Weights, bool) {
         let moves = (0..self.sizes.moves).map(|_| self.make_move(&types)).collect();
         let nets = (0..self.sizes.nets).map(|net| self.make_net(net)).collect();
-        let mut model = Model { types, moves, nets, events: Vec::new() };
+        let mut model = Model { header: self.header, types, moves, nets, events: Vec::new() };
         self.add_events(&mut model, self.sizes.events);
         (model, self.weights, self.separate)
     }
@@ -121,23 +137,45 @@ impl<'r> Maker<'r> {
 
     fn add_events(&mut self, model: &mut Model, number: usize) {
         for _ in 0..number * 4 {
-            if model.events.len() == number {
-                return;
+            if model.events.len() >= number {
+                break;
             }
             if let Some((mode, sync)) = self.some_event(model) {
-                model.events.push(model.event(mode, sync));
+                let modes = self.like_modes(model, mode);
+                if model.events.len() + modes.len() <= EVENTS {
+                    let events = modes.into_iter().map(|mode| model.event(mode, sync.clone()));
+                    model.events.extend(events.collect::<Vec<_>>());
+                }
             }
         }
+        self.rng.shuffle(&mut model.events);
+        if self.idling == Idling::ButOne {
+            remove_idle(self.rng, model);
+        }
+    }
+
+    /// The modes of events that are like one of this mode; now and then one of them twice.
+    fn like_modes(&mut self, model: &Model, mode: Mode) -> Vec<Mode> {
+        let mut modes = match mode {
+            Mode::Idle(place) if self.idling != Idling::Somewhere => {
+                let like = |&other: &usize| model.types[other] == model.types[place];
+                (0..model.places()).filter(like).map(Mode::Idle).collect()
+            }
+            _ => vec![mode],
+        };
+        if !matches!(mode, Mode::Move(_)) && self.rng.percent(15) {
+            modes.push(*self.rng.pick(&modes));
+        }
+        modes
     }
 
     fn some_event(&mut self, model: &Model) -> Option<(Mode, Vec<Vec<u8>>)> {
         let typed: Vec<usize> = (0..model.places()).filter(|&p| model.net_of(p).is_some()).collect();
         if model.moves.is_empty() || (!typed.is_empty() && self.rng.percent(25)) {
-            let place = self.rng.pick_some(&typed)?;
-            let net = model.net_of(place)?;
+            let (net, mode) = self.some_idling(model, &typed)?;
             let sync = self.some_sync(model, &[net], 0)?;
             let engaged = sync[net].iter().any(|&count| count > 0);
-            return engaged.then_some((Mode::Idle(place), sync));
+            return engaged.then_some((mode, sync));
         }
         let index = self.rng.below(model.moves.len());
         let pre = &model.moves[index].pre;
@@ -149,6 +187,17 @@ impl<'r> Maker<'r> {
         }
         let sync = self.some_sync(model, &nets, effect)?;
         Some((Mode::Move(index), sync))
+    }
+
+    /// A net with the mode of an event in which it idles or is alone; now and then a net that perhaps types no place.
+    fn some_idling(&mut self, model: &Model, typed: &[usize]) -> Option<(usize, Mode)> {
+        let any: Vec<usize> = (0..model.nets.len()).collect();
+        if self.header == Header::Two && self.rng.percent(15) {
+            return self.rng.pick_some(&any).map(|net| (net, Mode::Alone(net)));
+        }
+        let place = self.rng.pick_some(typed)?;
+        let net = model.net_of(place)?;
+        Some((net, if self.header == Header::One { Mode::Idle(place) } else { Mode::Alone(net) }))
     }
 
     /// Counts for transitions of these nets whose effect undoes the move's.

@@ -1,12 +1,12 @@
 //! Plants: a model, a start, and weights. Most are balanced by construction, and many of these are covered.
 
 use crate::marking::{Marking, Row};
-use crate::model::{Model, COUNT, EVENTS, INNER, MOVES, NETS, PLACES, TOKENS, TRANSITIONS};
+use crate::model::{Event, Mode, Model, COUNT, EVENTS, INNER, MOVES, NETS, PLACES, TOKENS, TRANSITIONS};
 use crate::weights::{Weights, WEIGHT};
 
 use super::maker::Maker;
 use super::rng::Rng;
-use super::special::{crowded, edge, leaving};
+use super::special::{crowded, edge, idling, leaving};
 
 /// What a plant is made for.
 #[derive(Clone, Copy, Debug, PartialEq, Eq)]
@@ -25,6 +25,8 @@ pub enum Kind {
     Edge,
     /// Moves that take racks of a net and give none.
     Leaving,
+    /// Racks that idle, at all places of their nets or at all but one.
+    Idling,
 }
 
 /// A plant; `separate` where moves and transitions are balanced each for itself.
@@ -52,18 +54,20 @@ pub struct Sizes {
 
 pub fn plant(rng: &mut Rng) -> Plant {
     let kind = match rng.below(100) {
-        0..=48 => Kind::Covered,
-        49..=62 => Kind::Fresh,
-        63..=76 => Kind::Free,
-        77..=84 => Kind::Crowded,
-        85..=88 => Kind::Heavy,
-        89..=93 => Kind::Edge,
-        _ => Kind::Leaving,
+        0..=39 => Kind::Covered,
+        40..=53 => Kind::Fresh,
+        54..=66 => Kind::Free,
+        67..=74 => Kind::Crowded,
+        75..=78 => Kind::Heavy,
+        79..=83 => Kind::Edge,
+        84..=89 => Kind::Leaving,
+        _ => Kind::Idling,
     };
     match kind {
         Kind::Edge => edge(rng),
         Kind::Leaving => leaving(rng),
         Kind::Crowded => crowded(rng),
+        Kind::Idling => idling(rng),
         _ => balanced_or_free(rng, kind),
     }
 }
@@ -157,8 +161,12 @@ fn some_type(rng: &mut Rng, nets: usize) -> u8 {
 
 /// Net-tokens, more often where events take them.
 pub fn start(rng: &mut Rng, model: &Model, kind: Kind, tokens: usize) -> Vec<Row> {
+    let takes = |event: &Event, place: usize| match event.mode {
+        Mode::Alone(net) => model.net_of(place) == Some(net),
+        Mode::Move(_) | Mode::Idle(_) => event.outer_pre[place] > 0,
+    };
     let wanted: Vec<usize> =
-        (0..model.places()).filter(|&p| model.events.iter().any(|e| e.outer_pre[p] > 0)).collect();
+        (0..model.places()).filter(|&place| model.events.iter().any(|event| takes(event, place))).collect();
     let mut rows: Vec<Row> = Vec::with_capacity(tokens);
     for _ in 0..tokens {
         let like = rng.pick_some(&rows).filter(|_| rng.percent(15));

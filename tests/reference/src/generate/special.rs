@@ -1,9 +1,10 @@
-//! Plants made for an edge: nearly full ones, sums that just cover, and racks that leave.
+//! Plants made for an edge: nearly full ones, sums that just cover, racks that leave, and racks that idle.
 
 use crate::marking::Row;
-use crate::model::{Mode, Model, ObjectNet, Transition, COUNT, INNER, TOKENS};
+use crate::model::{Header, Mode, Model, ObjectNet, Transition, COUNT, INNER, TOKENS};
 use crate::weights::Weights;
 
+use super::alone::remove_idle;
 use super::plant::{start, Kind, Plant};
 use super::rng::Rng;
 
@@ -23,7 +24,8 @@ pub fn crowded(rng: &mut Rng) -> Plant {
         arcs.iter().map(|(pre, post)| Transition { pre: pre.to_vec(), post: post.to_vec() }).collect();
     let transitions = vec![Transition { pre: vec![1, 0], post: vec![0, 1] }];
     let nets = vec![ObjectNet { places: 2, transitions }];
-    let mut model = Model { types, moves, nets, events: Vec::new() };
+    let header = *rng.pick(&Header::ALL);
+    let mut model = Model { header, types, moves, nets, events: Vec::new() };
     for index in 0..model.moves.len() {
         let sync = vec![vec![u8::from(index == 1)]];
         model.events.push(model.event(Mode::Move(index), sync));
@@ -56,7 +58,8 @@ pub fn leaving(rng: &mut Rng) -> Plant {
         ([1, 1, 0, 0, 0], [0, 0, 1, 1, 0], [Some(2), Some(2)]),
         ([0, 0, 1, 1, 0], [1, 1, 0, 0, 0], [None, Some(2)]),
     ];
-    let mut model = Model { types, moves: Vec::new(), nets, events: Vec::new() };
+    let header = *rng.pick(&Header::ALL);
+    let mut model = Model { header, types, moves: Vec::new(), nets, events: Vec::new() };
     for (at, (pre, mut post, counted)) in shapes.into_iter().enumerate() {
         for (net, transition) in counted.iter().enumerate() {
             let emptied = transition.filter(|&transition| transition < 2);
@@ -91,6 +94,55 @@ fn scrap(rng: &mut Rng, arcs: &[[u8; 2]; 4]) -> Row {
     row
 }
 
+/// Halls of two nets with as many inner places, a black one, and a net without halls. Racks of each net idle, or are alone,
+/// in some ways; the halls do not weigh alike.
+pub fn idling(rng: &mut Rng) -> Plant {
+    let mut types = vec![1, 1, 2, 2, 0];
+    types.extend((0..rng.below(3)).map(|_| 1));
+    rng.shuffle(&mut types);
+    let stays = |place: usize| {
+        let one: Vec<u8> = (0..types.len()).map(|other| u8::from(other == place)).collect();
+        Transition { pre: one.clone(), post: one }
+    };
+    let moves = (0..2).map(|_| stays(rng.below(types.len()))).collect();
+    let arcs = [([1, 0], [0, 1]), ([0, 2], [2, 0]), ([0, 0], [0, 0])];
+    let transitions = arcs.map(|(pre, post)| Transition { pre: pre.to_vec(), post: post.to_vec() }).to_vec();
+    let nets = vec![ObjectNet { places: 2, transitions }; 3];
+    let mut model = Model { header: *rng.pick(&Header::ALL), types, moves, nets, events: Vec::new() };
+    add_idling(rng, &mut model);
+    let tokens = rng.between(1, 12);
+    let start = start(rng, &model, Kind::Covered, tokens);
+    let outer = (0..model.places()).map(|_| rng.between(1, 5) as i64).collect();
+    let weights = Weights { outer, inner: vec![vec![1; 2]; 3] };
+    Plant { kind: Kind::Idling, model, start, weights, separate: true }
+}
+
+/// Adds like events for some counts, a repeated one, and moves; now and then an idle one is missing.
+fn add_idling(rng: &mut Rng, model: &mut Model) {
+    let no_counts = vec![vec![0; 3]; 3];
+    for _ in 0..rng.between(1, 4) {
+        let net = rng.below(3);
+        let mut sync = no_counts.clone();
+        sync[net] = rng.pick(&[vec![1, 0, 0], vec![0, 1, 0], vec![0, 0, 1], vec![1, 0, 1]]).clone();
+        let halls = (0..model.places()).filter(|&place| model.net_of(place) == Some(net));
+        let modes = match model.header {
+            Header::One => halls.map(Mode::Idle).collect(),
+            Header::Two => vec![Mode::Alone(net)],
+        };
+        model
+            .events
+            .extend(modes.into_iter().map(|mode| model.event(mode, sync.clone())).collect::<Vec<_>>());
+    }
+    if let Some(event) = rng.pick_some_of(model.events.clone()).filter(|_| rng.percent(30)) {
+        model.events.push(event);
+    }
+    model.events.extend([0, 1].map(|index| model.event(Mode::Move(index), no_counts.clone())));
+    rng.shuffle(&mut model.events);
+    if rng.percent(40) {
+        remove_idle(rng, model);
+    }
+}
+
 /// One hall whose sum is at the edge of covering, by its racks or by their insides.
 pub fn edge(rng: &mut Rng) -> Plant {
     let by_racks = rng.percent(50);
@@ -109,8 +161,10 @@ pub fn edge(rng: &mut Rng) -> Plant {
     rng.shuffle(&mut start);
     let nets = vec![ObjectNet { places: 1, transitions: vec![Transition { pre: vec![1], post: vec![1] }] }];
     let moves = vec![Transition { pre: vec![1], post: vec![1] }];
-    let mut model = Model { types: vec![1], moves, nets, events: Vec::new() };
-    model.events = vec![model.event(Mode::Move(0), vec![vec![1]]), model.event(Mode::Idle(0), vec![vec![1]])];
+    let header = *rng.pick(&Header::ALL);
+    let mut model = Model { header, types: vec![1], moves, nets, events: Vec::new() };
+    let idling = if header == Header::One { Mode::Idle(0) } else { Mode::Alone(0) };
+    model.events = [Mode::Move(0), idling].map(|mode| model.event(mode, vec![vec![1]])).to_vec();
     let weights = Weights { outer: vec![outer], inner: vec![vec![inner]] };
     Plant { kind: Kind::Edge, model, start, weights, separate: true }
 }

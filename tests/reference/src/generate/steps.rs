@@ -1,7 +1,7 @@
 //! Steps that fire by construction, and steps spoiled in one point.
 
 use crate::marking::Row;
-use crate::model::{Event, InnerCounts, Model, COUNT, INNER, TOKENS};
+use crate::model::{Event, InnerCounts, Mode, Model, COUNT, INNER, TOKENS};
 
 use super::rng::Rng;
 
@@ -49,14 +49,10 @@ pub fn poor_step(rng: &mut Rng, model: &Model, marking: &[Row]) -> Option<StepPl
 
 fn attempt(rng: &mut Rng, model: &Model, marking: &[Row], index: usize, enough: bool) -> Option<StepPlan> {
     let event = model.events.get(index)?;
-    let racks = choose_racks(rng, marking, event)?;
+    let racks = choose_racks(rng, model, marking, event)?;
     let mut taken: Vec<Token> = racks.iter().map(|row| token_of(model, row)).collect();
-    let mut given: Vec<Token> = Vec::new();
-    for (place, &number) in event.outer_post.iter().enumerate() {
-        for _ in 0..number {
-            given.push(Token { place: place as u64 + 1, inside: vec![0; model.inner_places(place)] });
-        }
-    }
+    let empty = |place: usize| Token { place: place as u64 + 1, inside: vec![0; model.inner_places(place)] };
+    let mut given: Vec<Token> = places_given(event, &racks).into_iter().map(empty).collect();
     for net in 0..model.nets.len() {
         let sums = sums_of(model, &taken, net);
         if enough && below(&sums, &event.inner_pre[net]) {
@@ -74,28 +70,46 @@ fn attempt(rng: &mut Rng, model: &Model, marking: &[Row], index: usize, enough: 
     Some(StepPlan { event: index + 1, taken, given })
 }
 
-/// Racks of the marking that the event's outer pre asks for; the fuller ones in some cases.
-fn choose_racks(rng: &mut Rng, marking: &[Row], event: &Event) -> Option<Vec<Row>> {
-    let mut racks = Vec::new();
+/// Racks of the marking that the event takes in the system net; the fuller ones in some cases.
+fn choose_racks(rng: &mut Rng, model: &Model, marking: &[Row], event: &Event) -> Option<Vec<Row>> {
     let fuller = rng.percent(40);
-    for (place, &number) in event.outer_pre.iter().enumerate() {
-        if number == 0 {
-            continue;
-        }
-        let mut here: Vec<Row> =
-            marking.iter().filter(|row| usize::from(row[0]) == place + 1).copied().collect();
-        if here.len() < number as usize {
-            return None;
-        }
-        rng.shuffle(&mut here);
-        if fuller {
-            here.sort_by_key(|row| {
-                std::cmp::Reverse(row[1..].iter().map(|&count| u64::from(count)).sum::<u64>())
-            });
-        }
-        racks.extend_from_slice(&here[..number as usize]);
+    if let Mode::Alone(net) = event.mode {
+        return choose(rng, marking, |place| model.net_of(place) == Some(net), 1, fuller);
+    }
+    let mut racks = Vec::new();
+    for (place, &number) in event.outer_pre.iter().enumerate().filter(|(_, &number)| number > 0) {
+        racks.extend(choose(rng, marking, |other| other == place, number as usize, fuller)?);
     }
     Some(racks)
+}
+
+/// So many racks of the marking that stand at such places.
+fn choose(
+    rng: &mut Rng,
+    marking: &[Row],
+    stands: impl Fn(usize) -> bool,
+    number: usize,
+    fuller: bool,
+) -> Option<Vec<Row>> {
+    let there = |row: &&Row| stands(usize::from(row[0]) - 1);
+    let mut racks: Vec<Row> = marking.iter().filter(there).copied().collect();
+    rng.shuffle(&mut racks);
+    if fuller {
+        racks.sort_by_key(|row| {
+            std::cmp::Reverse(row[1..].iter().map(|&count| u64::from(count)).sum::<u64>())
+        });
+    }
+    racks.truncate(number);
+    (racks.len() == number).then_some(racks)
+}
+
+/// The places, counted from 0, of the net-tokens that an event gives where these racks are taken.
+fn places_given(event: &Event, racks: &[Row]) -> Vec<usize> {
+    if let Mode::Alone(_) = event.mode {
+        return racks.iter().map(|row| usize::from(row[0]) - 1).collect();
+    }
+    let post = event.outer_post.iter().enumerate();
+    post.flat_map(|(place, &number)| std::iter::repeat_n(place, number as usize)).collect()
 }
 
 pub fn token_of(model: &Model, row: &Row) -> Token {

@@ -25,6 +25,7 @@ fn push_event(out: &mut Vec<u8>, event: &Event) {
     match event.mode {
         Mode::Move(index) => push_line(out, "event", index + 1),
         Mode::Idle(place) => push_line(out, "idle", place + 1),
+        Mode::Alone(net) => push_line(out, "alone", net + 1),
     }
     for counts in &event.sync {
         push_bytes(out, "sync", counts);
@@ -33,7 +34,8 @@ fn push_event(out: &mut Vec<u8>, event: &Event) {
 
 /// A model's text, its start in this order.
 pub fn model_text(model: &Model, start: &[Row]) -> Vec<u8> {
-    let mut out = b"eos=1\n".to_vec();
+    let mut out = Vec::new();
+    push_line(&mut out, "eos", model.header.number());
     push_line(&mut out, "nets", model.nets.len());
     push_line(&mut out, "places", model.places());
     push_bytes(&mut out, "type", &model.types);

@@ -11,7 +11,7 @@ returns-in_err-act c =
     rw (handed_on _ c.from_residual.ensures.1) (act_refused (frame_in a.self.now.model.now) a.r.now _ c.in_err-act.ensures)
 
 pub own_net-requires : goal.own_net-requires
-own_net-requires c = let a = c.args in act_in (frame_in a.self.now.model.now) a.r.now _ c.in_ok-act.ensures c.args.self.now.fitting.places c.args.self.now.fitting.moves
+own_net-requires c = let a = c.args in act_in (frame_in a.self.now.model.now) a.r.now _ c.in_ok-act.ensures c.args.self.now.fitting.places c.args.self.now.fitting.moves c.args.self.now.fitting.nets
 
 pub returns-in_err-sync : goal.returns-in_err-sync
 returns-in_err-sync c =
@@ -21,7 +21,7 @@ returns-in_err-sync c =
 pub new-requires : goal.new-requires
 new-requires c =
     let a = c.args in
-    omega (arith, act_in (frame_in a.self.now.model.now) a.r.now _ c.in_ok-act.ensures c.args.self.now.fitting.places c.args.self.now.fitting.moves)
+    omega (arith, act_in (frame_in a.self.now.model.now) a.r.now _ c.in_ok-act.ensures c.args.self.now.fitting.places c.args.self.now.fitting.moves c.args.self.now.fitting.nets)
 
 pub returns : goal.returns
 returns c =

@@ -15,7 +15,7 @@ use Rattle.model_test.proofs.Frame.event_held.Goals.{Then-act_held}
 
 -- the act is one of the model's
 right : (c : Then-act_held) → let f = c.args.self.now in let e = c.args.e.now in held_act (frame_with f.model.now f.steps) e.kind e.index ≡ true
-right c = let f = c.args.self.now in sym (c.act_held.ensures f.model.now.nets f.steps) ∙ c.if-act_held.true
+right c = let f = c.args.self.now in sym (c.act_held.ensures f.steps) ∙ c.if-act_held.true
 
 pub own_net-requires : goal.own_net-requires
 own_net-requires c =
@@ -23,7 +23,7 @@ own_net-requires c =
     let e = c.args.e.now in
     let f = frame_with s.model.now s.steps in
     let h = right (goal.at.own_net-requires c).Then-act_held in
-    omega (arith, ap index_of c.act.ensures, (act-is f e.kind e.index h).same_index, act_range f e.kind e.index h s.moves s.places)
+    omega (arith, ap index_of c.act.ensures, (act-is f e.kind e.index h).same_index, act_range f e.kind e.index h s.moves s.places s.nets)
 
 -- the unused room of the counts, of which there are 8 rows
 rows : (c : Then-act_held) (b : Bool) → b ≡ (let f = c.args.self.now in let e = c.args.e.now in empty_past (length e.sync) (used_in f.model.now.nets (nth f.steps)) e.sync)
@@ -49,4 +49,4 @@ pub returns-else-act_held : goal.returns-else-act_held
 unfolding held_event
 returns-else-act_held c =
     let f = c.args.self.now in
-    c.if-act_held.false ∙ and_no _ _ (sym (c.act_held.ensures f.model.now.nets f.steps) ∙ c.if-act_held.false)
+    c.if-act_held.false ∙ and_no _ _ (sym (c.act_held.ensures f.steps) ∙ c.if-act_held.false)

@@ -1,0 +1,4 @@
+pub mod LikeLaws
+pub mod RightLaws
+pub mod WholeLaws
+pub mod KeptLaws
