@@ -23,7 +23,7 @@ static text model_text, weights_text, trace_text;
 static fp_model model;
 static fp_marking marking;
 
-static const char *words(size_t number) {
+static const char *words(const char *name, size_t number) {
     switch (number) {
     case FP_TOO_LONG: return "the file has more than 65,536 bytes";
     case FP_SYNTAX: return "key, syntax, list length, or a line that is missing, unended or too many";
@@ -35,7 +35,9 @@ static const char *words(size_t number) {
     case FP_INNER_TAKEN: return "the racks taken hold too little for the event";
     case FP_INNER_GIVEN: return "the racks given do not hold what the event leaves";
     case FP_NOT_IN_MARKING: return "a rack taken is not there";
-    case FP_NO_ROOM: return "there would be more than 256 racks";
+    case FP_NO_ROOM:
+        return strcmp(name, "model") == 0 ? "the start has more than 65,535 racks alike"
+                                          : "there would be more than 256 unlike racks, or more than 65,535 alike";
     case FP_BUFFER: return "the buffer is too small";
     case FP_NOT_HELD: return "the plant or the racks held are not as the engine left them";
     case FP_NOT_REPLACED: return "some place of the net has no event that idles like it";
@@ -48,7 +50,7 @@ static const char *words(size_t number) {
 static bool accepted(const char *name, size_t number, size_t beside, size_t column, size_t before) {
     if (number == FP_ACCEPTED)
         return true;
-    fprintf(stderr, "planner: %s: %s", name, words(number));
+    fprintf(stderr, "planner: %s: %s", name, words(name, number));
     if (number == FP_UNBALANCED || number == FP_NOT_REPLACED)
         fprintf(stderr, ", event %zu\n", beside);
     else if (number == FP_INNER_TAKEN || number == FP_INNER_GIVEN)

@@ -37,13 +37,13 @@
 extern "C" {
 #endif
 
-/* The version of this header, here 5.0.0: 10,000 times its first number, 100 times its second, and its third. The first is raised when what
+/* The version of this header, here 6.0.0: 10,000 times its first number, 100 times its second, and its third. The first is raised when what
  * is here changes, so that a caller has to be compiled anew; the second when something is added; the third for all else. */
-#define FP_VERSION 50000
+#define FP_VERSION 60000
 
 /* ==== What is answered: a number, and what stands beside it. The first cause in the stated order is answered: FP_TOO_LONG, FP_NOT_HELD,
- * then those of the lines in turn, then the others in the order of their numbers. Lines are counted from 1, those of a step from its own
- * `fire` line. 4 is not answered.
+ * then those of the lines in turn, then the others in the order of their numbers; FP_NO_ROOM of a start is a line's, behind its FP_SYNTAX and
+ * FP_RANGE. Lines are counted from 1, those of a step from its own `fire` line. 4 is not answered.
  *
  * column is the byte of the line, counted from 1, at which a text is refused with FP_SYNTAX or FP_RANGE; 0 beside all else. Of FP_SYNTAX it
  * is the first byte where no right line could go on, at an early end the one after the last, and 1 where the line is missing or one too
@@ -58,8 +58,9 @@ extern "C" {
 #define FP_OUTER 8           /* racks taken or given do not fit the event; the `take` or `give` line */
 #define FP_INNER_TAKEN 9     /* the racks taken hold too little for the event; the least such net */
 #define FP_INNER_GIVEN 10    /* the racks given do not hold what the event leaves; the least such net */
-#define FP_NOT_IN_MARKING 11 /* racks taken are not in the marking; the first token line of which there are too few */
-#define FP_NO_ROOM 12        /* more than FP_TOKENS racks after the step; the `give` line */
+#define FP_NOT_IN_MARKING 11 /* racks taken are not in the marking; the first token line of which, with its likes before, there are too few */
+#define FP_NO_ROOM 12        /* in a start more than FP_TIMES alike; the token line at which they are. After a step more than FP_TOKENS unlike,
+                              * or else more than FP_TIMES alike; the `give` line */
 #define FP_BUFFER 13         /* lent buffer too small; the bytes needed */
 #define FP_NOT_HELD 14       /* held model or marking that no accepted reading gives; 0 */
 #define FP_NOT_REPLACED 21   /* idling events that cannot be replaced by one; the least such event */
@@ -70,13 +71,15 @@ extern "C" {
 #define FP_MOVES 32            /* moves of the system net */
 #define FP_TRANSITIONS 32      /* transitions of an object net */
 #define FP_EVENTS 64           /* events of a model */
-#define FP_TOKENS 256          /* net-tokens of a marking; racks taken by a step, and given by it */
+#define FP_TOKENS 256          /* unlike net-tokens of a marking */
+#define FP_TIMES 65535         /* times that one net-token is in a marking; times of a token line */
+#define FP_LINES 256           /* token lines of a start, of a take, and of a give */
 #define FP_ARC 255             /* an arc's number; the count of a transition in an event */
 #define FP_COUNT 65535         /* a net-token's count on an inner place */
 #define FP_WEIGHT 1000         /* a weight, so far from 0 at most, on either side */
 #define FP_TEXT 1048576        /* bytes of a text */
 #define FP_FILE 65536          /* bytes of a text of fp_listing */
-#define FP_MARKING_TEXT 51466  /* bytes of the longest text that fp_write_marking writes */
+#define FP_MARKING_TEXT 53002  /* bytes of the longest text that fp_write_marking writes */
 #define FP_LISTING_TEXT 65536  /* bytes into which every text that fp_listing writes fits */
 #define FP_SPREAD_TOKENS 31    /* tokens of fp_ways */
 #define FP_SPREAD_RACKS 16     /* racks of fp_ways */
@@ -122,12 +125,23 @@ typedef struct fp_model {
     fp_event events[FP_EVENTS];
 } fp_model;
 
-/* A held marking: len net-tokens in canonical order, each a row of FP_ROW numbers, its place's number, from 1, and its counts. Unused room
- * is 0. */
-#define FP_ROW (1 + FP_PLACES)
+/* A net-token: its place's number, from 1, and its count on each inner place. Unused room is 0. */
+typedef struct fp_token {
+    uint16_t place;
+    uint16_t counts[FP_PLACES];
+} fp_token;
+
+/* A net-token, and how many times it is there, from 1 to FP_TIMES. */
+typedef struct fp_entry {
+    fp_token token;
+    uint16_t times;
+} fp_entry;
+
+/* A held marking: len entries, each of another net-token, strictly ascending by place, then by counts from the first on; times is no part of
+ * the order. Unused room is 0. */
 typedef struct fp_marking {
     size_t len;
-    uint16_t rows[FP_TOKENS * FP_ROW];
+    fp_entry entries[FP_TOKENS];
 } fp_marking;
 
 /* The answer of a form in _at that reads. */
@@ -155,8 +169,9 @@ size_t fp_version(void);
 
 /* Reads a model and its start. The text: `eos=1` or `eos=2`; `nets`, `places`, `type`, `moves`; for each move `pre`, `post`; for each net
  * `inner`, `steps`, and for each transition `pre`, `post`; `events`; for each `event`, or with `eos=1` `idle` and with `eos=2` `alone`, and
- * for each net `sync`; `start`, and so many `token` lines. Refused by 1, 2, 3 and 5; the model is then the empty one, which every other call
- * refuses, and the start has no net-token. The form in _at leaves both as they were. */
+ * for each net `sync`; `start`, and so many `token` lines. A token line says its net-token once, or ends in `*` and the times from 2 on; lines
+ * may repeat a net-token. Refused by 1, 2, 3, 5 and 12; the model is then the empty one, which every other call refuses, and the start has no
+ * net-token. The form in _at leaves both as they were. */
 #define FP_STACK_READ_MODEL (528 * 1024)
 typedef struct fp_read_model_answer {
     size_t number;
@@ -178,8 +193,8 @@ static inline fp_read_at fp_read_model_at(const uint8_t *text, size_t len, fp_mo
     return a;
 }
 
-/* Reads a marking of a held model. The text: `start`, and so many `token` lines in any order, as fp_write_marking writes them. Refused by
- * 1, 14, 2, 3; the marking then has no net-token. The form in _at leaves it as it was. */
+/* Reads a marking of a held model. The text: `start`, and so many `token` lines in any order, as those of a model. Refused by 1, 14, 2, 3 and
+ * 12; the marking then has no net-token. The form in _at leaves it as it was. */
 #define FP_STACK_READ_MARKING (208 * 1024)
 typedef struct fp_read_marking_answer {
     size_t number;
@@ -214,8 +229,8 @@ static inline bool fp_test_marking_at(const fp_model *model, const fp_marking *m
     return fp_test_marking(*model, *marking);
 }
 
-/* Writes a held marking of a held model: `start` and its `token` lines in canonical order, at most FP_MARKING_TEXT bytes. Refused by 14, 13,
- * with no byte written; bytes of the buffer past the text are left as they were. */
+/* Writes a held marking of a held model: `start` and a `token` line for each entry in its order, at most FP_MARKING_TEXT bytes; no line repeats
+ * a net-token. Refused by 14, 13, with no byte written; bytes of the buffer past the text are left as they were. */
 #define FP_STACK_WRITE_MARKING (192 * 1024)
 fp_written fp_write_marking(fp_model model, fp_marking marking, uint8_t *out, size_t room);
 
@@ -253,8 +268,8 @@ static inline fp_read_at fp_convert_at(const fp_model *model, fp_model *converte
 /* ==== Runner. */
 
 /* Fires a step on a held marking of a held model. The text begins with the step: `fire`; `take`, and so many `token` lines; `give`, and so
- * many `token` lines; what follows is not read. Gives the bytes that the step used and the marking after it. Refused by 1, 14, 2, 3, 8 to
- * 12, with 0 bytes used and the marking as it was lent. */
+ * many `token` lines; what follows is not read. Gives the bytes that the step used and the marking after it, which is the marking less the
+ * racks taken plus those given. Refused by 1, 14, 2, 3, 8 to 12, with 0 bytes used and the marking as it was lent. */
 #define FP_STACK_STEP (352 * 1024)
 typedef struct fp_stepped {
     size_t number;
@@ -325,8 +340,8 @@ fp_spread fp_ways(size_t tokens, size_t racks);
 /* ==== Keeper. */
 
 /* Checks weights for a held model, and weighs a held marking of it. The text: `inv=1`, `outer`, and for each net `inner`. Gives the weighted
- * sum of the marking as its part above 0 and its part below 0, of which one is 0, and cover, 1 or 0. Refused by 1, 14, 2, 3, 6, 7, with
- * sum 0 and cover 0. */
+ * sum of the marking, each net-token as many times as it is there, as its part above 0 and its part below 0, of which one is 0 and neither is
+ * more than 35,183,315,132,160,000, and cover, 1 or 0. Refused by 1, 14, 2, 3, 6, 7, with sum 0 and cover 0. */
 #define FP_STACK_CHECK_WEIGHTS (352 * 1024)
 typedef struct fp_weighed {
     size_t number;

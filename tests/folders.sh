@@ -46,6 +46,12 @@ make_folders() {
     folder anywhere model weights
     sed -i 's/^eos=1$/eos=2/; s/^idle=2$/alone=1/' "$folders/anywhere/model"
     printf 'run=1\nfire=2\ntake=1\ntoken=1:1,0\ngive=1\ntoken=1:0,1\n' >"$folders/anywhere/trace"
+    folder alike model weights trace
+    sed -i 's/^token=1:0,0$/token=1:0,0*200/' "$folders/alike/model"
+    folder crowded model
+    sed -i 's/^token=1:1,0$/token=1:0,0*65535/' "$folders/crowded/model"
+    folder once model
+    sed -i 's/^token=1:0,0$/token=1:0,0*1/' "$folders/once/model"
     folder elsewhere weights
     cp "$folders/anywhere/model" "$folders/elsewhere/"
     printf 'run=1\nfire=2\ntake=1\ntoken=1:1,0\ngive=1\ntoken=2:0,1\n' >"$folders/elsewhere/trace"

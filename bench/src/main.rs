@@ -48,10 +48,11 @@ fn run(engine: &dyn Engine, plant: &Plant, at: &Read) -> usize {
     ran.fired
 }
 
-fn step(engine: &dyn Engine, plant: &Plant, at: &Read) {
+fn step(engine: &dyn Engine, text: &[u8], at: &Read) -> usize {
     let mut marking = at.start.clone();
-    black_box(engine.step(&at.model, &mut marking, black_box(plant.first_step())));
+    let stepped = black_box(engine.step(&at.model, &mut marking, black_box(text)));
     black_box(&marking);
+    stepped.number
 }
 
 fn convert(engine: &dyn Engine, at: &Read) {
@@ -92,12 +93,24 @@ fn calls(plant: &Plant) -> Vec<Row> {
         }),
     ];
     if plant.steps > 0 {
-        rows.push(row("step", plant.name, 20, |e| step(e, plant, &at)));
+        rows.push(row("step", plant.name, 20, |e| {
+            step(e, plant.first_step(), &at);
+        }));
         rows.push(row("run", plant.name, 1, |e| {
             run(e, plant, &at);
         }));
     }
     rows
+}
+
+/// A step that takes more likes than any arc has; it is turned down.
+fn turned_down() -> Row {
+    let (plant, text) = plants::all_at_once();
+    let at = read(&plant);
+    assert_eq!(step(&Proved, &text, &at), 8, "{}: turned down", plant.name);
+    row("step, refused", plant.name, 20, |e| {
+        step(e, &text, &at);
+    })
 }
 
 /// How the proved engine's time for one step of a run grows.
@@ -128,6 +141,7 @@ fn main() {
             println!("{row}");
         }
     }
+    println!("{}", turned_down());
     println!("{}", row("ways", "each of the 544 spreads", 10, ways));
     growth(&plants::growing());
 }

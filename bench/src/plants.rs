@@ -22,13 +22,14 @@ fn list(values: impl IntoIterator<Item = usize>) -> String {
     values.join(",")
 }
 
-/// A vector of n places with a 1 at place p, from 0.
-fn one(n: usize, p: usize) -> String {
-    list((0..n).map(|i| usize::from(i == p)))
+/// A vector of n places with so many at place p, from 0.
+fn only(n: usize, p: usize, many: usize) -> String {
+    list((0..n).map(|i| many * usize::from(i == p)))
 }
 
-/// How large a plant is. Racks go round its places; each place has as many of them at the start. A plant with full arcs has the
-/// largest number at every arc and count, and is read and weighed only.
+/// How large a plant is. Racks go round its places; each place has as many of them at the start. Where a rack has likes, it is
+/// there so many times, and each place has the same racks; so many of the likes go at once. A plant with full arcs has the largest
+/// number at every arc and count, and is read and weighed only.
 #[derive(Clone, Copy)]
 pub struct Size {
     pub full: bool,
@@ -38,11 +39,23 @@ pub struct Size {
     pub transitions: usize,
     pub events: usize,
     pub racks: usize,
+    pub times: usize,
+    pub at_once: usize,
     pub steps: usize,
+}
+
+/// What a token line ends in.
+fn times(n: usize) -> String {
+    if n == 1 {
+        String::new()
+    } else {
+        format!("*{n}")
+    }
 }
 
 /// The counts of rack i.
 fn inside(size: &Size, i: usize) -> String {
+    let i = if size.times > 1 { i / size.places } else { i };
     list((0..size.inner).map(|k| 60_000 * usize::from(size.inner == 32) + (i * 7 + k) % 5_000))
 }
 
@@ -57,7 +70,8 @@ fn sides(size: &Size, p: usize) -> (String, String) {
         let all = list((0..size.places).map(|_| 255));
         return (all.clone(), all);
     }
-    (one(size.places, p), one(size.places, next(size, p)))
+    let arcs = |p: usize| only(size.places, p, size.at_once);
+    (arcs(p), arcs(next(size, p)))
 }
 
 fn model(size: &Size) -> String {
@@ -97,7 +111,7 @@ fn model(size: &Size) -> String {
     }
     writeln!(s, "start={racks}").unwrap();
     for i in 0..racks {
-        writeln!(s, "token={}:{}", i % places + 1, inside(size, i)).unwrap();
+        writeln!(s, "token={}:{}{}", i % places + 1, inside(size, i), times(size.times)).unwrap();
     }
     s
 }
@@ -110,17 +124,17 @@ fn weights(size: &Size) -> String {
     s
 }
 
-/// Each rack in turn goes on to its next place.
+/// Each rack in turn goes on to its next place, with so many of its likes.
 fn trace(size: &Size) -> String {
     let mut places: Vec<usize> = (0..size.racks).map(|i| i % size.places).collect();
     let mut s = String::from("run=1\n");
     for step in 0..size.steps {
         let i = step % size.racks;
         let (p, q) = (places[i], next(size, places[i]));
-        let counts = inside(size, i);
+        let rack = inside(size, i) + &times(size.at_once);
         write!(
             s,
-            "fire={0}\ntake=1\ntoken={0}:{counts}\ngive=1\ntoken={1}:{counts}\n",
+            "fire={0}\ntake=1\ntoken={0}:{rack}\ngive=1\ntoken={1}:{rack}\n",
             p + 1,
             q + 1
         )
@@ -148,6 +162,8 @@ const SMALL: Size = Size {
     transitions: 1,
     events: 2,
     racks: 16,
+    times: 1,
+    at_once: 1,
     steps: 10_000,
 };
 const TYPICAL: Size = Size {
@@ -158,6 +174,8 @@ const TYPICAL: Size = Size {
     transitions: 24,
     events: 32,
     racks: 40,
+    times: 1,
+    at_once: 1,
     steps: 3_000,
 };
 const MAXIMAL: Size = Size {
@@ -168,13 +186,39 @@ const MAXIMAL: Size = Size {
     transitions: 32,
     events: 64,
     racks: 256,
+    times: 1,
+    at_once: 1,
     steps: 2_000,
 };
+
+/// Racks with likes, of which one goes at a time.
+const COUNTED: Size = Size { times: 60_000, ..SMALL };
+/// The same, and as many of the likes as an arc can have go at once.
+const AT_ONCE: Size = Size {
+    at_once: 255,
+    ..COUNTED
+};
+
+/// The size with as many unlike racks as can be.
+fn most(size: Size) -> Size {
+    Size { racks: 256, ..size }
+}
+
+/// A step on that plant that takes all the likes of a rack, for which there is no arc.
+pub fn all_at_once() -> (Plant, Vec<u8>) {
+    let rack = inside(&AT_ONCE, 0) + &times(AT_ONCE.times);
+    let step = format!("fire=1\ntake=1\ntoken=1:{rack}\ngive=1\ntoken=2:{rack}\n");
+    (plant("16 racks, all of 60,000 alike", AT_ONCE), step.into_bytes())
+}
 
 pub fn measured() -> Vec<Plant> {
     vec![
         plant("small, 16 racks", SMALL),
-        plant("small, 256 racks", Size { racks: 256, ..SMALL }),
+        plant("small, 256 racks", most(SMALL)),
+        plant("16 racks, 1 of 60,000 alike", COUNTED),
+        plant("16 racks, 255 of 60,000 alike", AT_ONCE),
+        plant("256 racks, 1 of 60,000 alike", most(COUNTED)),
+        plant("256 racks, 255 of 60,000 alike", most(AT_ONCE)),
         plant("typical, 40 racks", TYPICAL),
         plant("maximal, 256 racks", MAXIMAL),
         plant(
@@ -192,7 +236,11 @@ pub fn growing() -> Vec<Plant> {
     vec![
         plant("16 racks", SMALL),
         plant("64 racks", Size { racks: 64, ..SMALL }),
-        plant("256 racks", Size { racks: 256, ..SMALL }),
+        plant("256 racks", most(SMALL)),
+        plant("16 racks, 1 of 60,000 alike", COUNTED),
+        plant("16 racks, 255 of 60,000 alike", AT_ONCE),
+        plant("256 racks, 1 of 60,000 alike", most(COUNTED)),
+        plant("256 racks, 255 of 60,000 alike", most(AT_ONCE)),
         plant(
             "8 places, 16 racks",
             Size {

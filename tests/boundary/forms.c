@@ -1,6 +1,6 @@
 /* The forms in _at give what their calls give, on a folder's plant and where the call refuses; a refusal leaves what the pointers say, and has
- * a column where its number has one. Events that idle are replaced, or it is said which cannot be. And the longest text of a marking has as
- * many bytes as the header says, and its listing no more. */
+ * a column where its number has one. Events that idle are replaced, or it is said which cannot be. Likes are held once, up to as many as the
+ * header says. And the longest text of a marking has as many bytes as the header says, and its listing no more. */
 #include "files.h"
 
 #include <string.h>
@@ -139,7 +139,33 @@ static void held(size_t room) {
     holds(fp_test_marking_at(&model, &marking) == fp_test_marking(model, marking), "fp_test_marking_at");
 }
 
-/* The plant with the longest marking: places of two digits, 32 counts, each as large as can be. */
+/* A marking's text, held or refused. */
+static void start(const char *text, size_t number, size_t beside) {
+    markings((const uint8_t *)text, strlen(text));
+    holds(read_marking.number == number && read_marking.beside == beside, "fp_read_marking: likes");
+}
+
+/* Likes in one line and in two, as many as can be and one more; then a step with room for one more like, and without. */
+static void likes(void) {
+    static const char step[] = "fire=1\ntake=1\ntoken=1:0\ngive=1\ntoken=2:0\n";
+    read_events("events=1\nevent=1\nsync=0\n");
+    start("start=2\ntoken=1:0*65535\ntoken=1:0\n", FP_NO_ROOM, 3);
+    start("start=2\ntoken=1:0*65535\ntoken=1:0*65536\n", FP_RANGE, 3);
+    start("start=1\ntoken=1:0*1\n", FP_SYNTAX, 2);
+    for (uint16_t full = 0; full < 2; full++) {
+        start(full ? "start=3\ntoken=2:0*65534\ntoken=1:0*3\ntoken=2:0\n" : "start=3\ntoken=2:0*65533\ntoken=1:0\ntoken=2:0\n",
+              FP_ACCEPTED, 0);
+        marking = read_marking.marking;
+        const fp_entry *e = marking.entries;
+        holds(marking.len == 2 && e[0].token.place == 1 && e[1].token.place == 2 && e[2].token.place == 0, "likes are held once");
+        holds(e[0].times == 1 + 2 * full && e[1].times == FP_TIMES - 1 + full && e[2].times == 0, "the times of likes");
+        fp_stepped_at s = fp_step_at(&model, &marking, (const uint8_t *)step, strlen(step));
+        holds(full ? s.number == FP_NO_ROOM && s.beside == 4 : s.number == FP_ACCEPTED && s.used == strlen(step), "a step of likes");
+        holds(full ? SAME(marking, read_marking.marking) : marking.len == 1 && e[0].times == FP_TIMES, "likes after a step");
+    }
+}
+
+/* The plant with the longest marking: places of two digits, 32 counts of as many digits as can be, each net-token as often as can be. */
 static void longest(void) {
     char *p = (char *)model_text;
     p += sprintf(p, "eos=1\nnets=1\nplaces=32\ntype=1");
@@ -147,10 +173,10 @@ static void longest(void) {
         p += sprintf(p, ",1");
     p += sprintf(p, "\nmoves=0\ninner=32\nsteps=0\nevents=0\nstart=%d\n", FP_TOKENS);
     for (int t = 0; t < FP_TOKENS; t++) {
-        p += sprintf(p, "token=32:%d", FP_COUNT);
+        p += sprintf(p, "token=32:%d", FP_COUNT - t);
         for (int i = 1; i < FP_PLACES; i++)
             p += sprintf(p, ",%d", FP_COUNT);
-        p += sprintf(p, "\n");
+        p += sprintf(p, "*%d\n", FP_TIMES);
     }
     size_t len = (size_t)(p - (char *)model_text);
     fp_read_at a = fp_read_model_at(model_text, len, &model, &marking);
@@ -202,6 +228,7 @@ int main(int argc, char **argv) {
     held(sizeof out);
     markings(out_at, written);
     longest();
+    likes();
     replaced();
     return faults != 0;
 }

@@ -13,7 +13,9 @@ _Static_assert(sizeof(fp_object_net) == PAIR + OF(fp_object_net, pre) + OF(fp_ob
 _Static_assert(sizeof(fp_event) == 2 + OF(fp_event, sync), "fp_event");
 _Static_assert(sizeof(fp_model) == 5 * sizeof(size_t) + OF(fp_model, types) + OF(fp_model, pre) + OF(fp_model, post)
                                        + OF(fp_model, objects) + OF(fp_model, events), "fp_model");
-_Static_assert(sizeof(fp_marking) == sizeof(size_t) + OF(fp_marking, rows), "fp_marking");
+_Static_assert(sizeof(fp_token) == OF(fp_token, place) + OF(fp_token, counts), "fp_token");
+_Static_assert(sizeof(fp_entry) == sizeof(fp_token) + OF(fp_entry, times), "fp_entry");
+_Static_assert(sizeof(fp_marking) == sizeof(size_t) + OF(fp_marking, entries), "fp_marking");
 _Static_assert(sizeof(fp_read_model_answer) == ANSWER + sizeof(fp_model) + sizeof(fp_marking), "fp_read_model_answer");
 _Static_assert(sizeof(fp_read_marking_answer) == ANSWER + sizeof(fp_marking), "fp_read_marking_answer");
 _Static_assert(sizeof(fp_written) == ANSWER + sizeof(size_t), "fp_written");
@@ -44,9 +46,15 @@ static void structs(void) {
     FIELD(fp_model, post);
     FIELD(fp_model, objects);
     FIELD(fp_model, events);
+    SIZE(fp_token);
+    FIELD(fp_token, place);
+    FIELD(fp_token, counts);
+    SIZE(fp_entry);
+    FIELD(fp_entry, token);
+    FIELD(fp_entry, times);
     SIZE(fp_marking);
     FIELD(fp_marking, len);
-    FIELD(fp_marking, rows);
+    FIELD(fp_marking, entries);
 }
 
 static void answers(void) {
@@ -95,6 +103,13 @@ static size_t mixed(const uint8_t *v, size_t n) {
     return sum;
 }
 
+static size_t mixed_counts(const uint16_t *v, size_t n) {
+    size_t sum = 0;
+    for (size_t i = 0; i < n; i++)
+        sum = sum * 31 + v[i];
+    return sum;
+}
+
 static void model(const char *folder) {
     static uint8_t text[FP_FILE];
     static fp_read_model_answer r;
@@ -109,9 +124,10 @@ static void model(const char *folder) {
     for (size_t e = 0; e < 64; e++)
         printf("event %u %u %zu\n", m->events[e].kind, m->events[e].index, mixed(m->events[e].sync, 256));
     printf("start %zu\n", r.start.len);
-    for (size_t i = 0; i < 8448; i++)
-        if (r.start.rows[i])
-            printf("row %zu %u\n", i, r.start.rows[i]);
+    for (size_t i = 0; i < 256; i++) {
+        const fp_entry *e = &r.start.entries[i];
+        printf("entry %u %zu %u\n", e->token.place, mixed_counts(e->token.counts, 32), e->times);
+    }
 }
 
 int main(int argc, char **argv) {

@@ -53,23 +53,32 @@ static void save(const char *folder, const char *name, const uint8_t *bytes, siz
         stop("cannot be written", path);
 }
 
-/* A line as the page writes it, with its LF: \r stands for CR, and a line that ends in × N for N such lines. */
-static void add_line(text *t, const char *line, bool ended) {
-    char plain[4096];
-    size_t n = 0, times = 1;
-    const char *sign = strstr(line, " \xc3\x97 ");
-    const char *end = sign ? sign : line + strlen(line);
-    if (sign)
-        times = strtoul(sign + 4, NULL, 10);
+/* Bytes of the page as a line that is lent has them: \r stands for CR, and # for a number. */
+static size_t plain(const char *line, const char *end, size_t number, char *to) {
+    size_t n = 0;
     for (const char *c = line; c < end; c++) {
         bool cr = c[0] == '\\' && c[1] == 'r';
-        plain[n++] = cr ? '\r' : *c;
+        if (*c == '#')
+            n += (size_t)sprintf(to + n, "%zu", number);
+        else
+            to[n++] = cr ? '\r' : *c;
         c += cr;
     }
-    if (ended)
-        plain[n++] = '\n';
-    while (times--)
-        add(t, plain, n);
+    return n;
+}
+
+/* A line as the page writes it, with its LF; one that ends in × N stands for N such lines, with 0, 1, 2 .. in the place of #. */
+static void add_line(text *t, const char *line, bool ended) {
+    char bytes[16384];
+    const char *sign = strstr(line, " \xc3\x97 ");
+    const char *end = sign ? sign : line + strlen(line);
+    size_t times = sign ? strtoul(sign + 4, NULL, 10) : 1;
+    for (size_t number = 0; number < times; number++) {
+        size_t n = plain(line, end, number, bytes);
+        if (ended)
+            bytes[n++] = '\n';
+        add(t, bytes, n);
+    }
 }
 
 /* The text with its line number `at`, from 1, replaced, or added behind the last. */
@@ -161,8 +170,12 @@ static void set(const char *said) {
         model.pre[i] = (uint8_t)v;
     else if (!strcmp(name, "marking.len"))
         marking.len = v;
-    else if (!strcmp(name, "marking.rows") && i < 8448)
-        marking.rows[i] = (uint16_t)v;
+    else if (!strcmp(name, "marking.place") && i < FP_TOKENS)
+        marking.entries[i].token.place = (uint16_t)v;
+    else if (!strcmp(name, "marking.counts") && i < FP_TOKENS * FP_PLACES)
+        marking.entries[i / FP_PLACES].token.counts[i % FP_PLACES] = (uint16_t)v;
+    else if (!strcmp(name, "marking.times") && i < FP_TOKENS)
+        marking.entries[i].times = (uint16_t)v;
     else
         stop("nothing to set", said);
 }

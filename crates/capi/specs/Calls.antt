@@ -25,9 +25,9 @@ use Rattle.capi.specs.declared.StepDone.{StepDone}
 use Rattle.capi.specs.declared.RunDone.{RunDone}
 use Rattle.capi.specs.declared.Shared.{Shared}
 
--- the version of the header and of the archive, here 5.0.0: 10,000 times its first number, 100 times its second, and its third
+-- the version of the header and of the archive, here 6.0.0: 10,000 times its first number, 100 times its second, and its third
 abbrev pub version : ℕ
-version = 50000
+version = 60000
 
 -- refused, the empty model and no net-token
 abbrev pub model_read : Result ModelReading ReadRefusal → ModelRead

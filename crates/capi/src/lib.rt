@@ -99,7 +99,7 @@ pub struct Shared {
 pub fn fp_version() -> usize
     ensures { result ≡ version }
 {
-    50000
+    60000
 }
 
 pub fn fp_read_model(text: &[u8]) -> ModelRead

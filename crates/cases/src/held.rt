@@ -60,18 +60,39 @@ fn conversions(rt: &impl Print, hand: &Hand) -> io::Result<()> {
 fn markings(rt: &impl Print, hand: &Hand) -> io::Result<()> {
     let mut held = *hand;
     let mut out = [46u8; 40];
-    held.marking.tokens[2].place = 1;
+    held.marking.entries[2].token.place = 1;
     print!(rt; "unused room not 0: ")?;
     written(rt, &held, &mut out)?;
-    held.marking.tokens[2].place = 0;
-    held.marking.tokens[0].counts[0] = 2;
+    held.marking.entries[2].token.place = 0;
+    held.marking.entries[0].token.counts[0] = 2;
     print!(rt; "not in order: ")?;
     written(rt, &held, &mut out)?;
     print!(rt; "a marking out of order: ")?;
     step(rt, &held, b"fire=1\n")?;
-    held.marking.tokens[0].counts[0] = 0;
+    held.marking.entries[0].token.counts[0] = 0;
     held.marking.len = 257;
-    print!(rt; "257 held tokens: ")?;
+    print!(rt; "257 held entries: ")?;
+    written(rt, &held, &mut out)
+}
+
+// How many times an entry's net-token is there, and entries that are like.
+fn likes(rt: &impl Print, hand: &Hand) -> io::Result<()> {
+    let mut held = *hand;
+    let mut out = [46u8; 40];
+    held.marking.entries[2].times = 1;
+    print!(rt; "unused times not 0: ")?;
+    written(rt, &held, &mut out)?;
+    held.marking.entries[2].times = 0;
+    held.marking.entries[0].times = 0;
+    print!(rt; "a net-token that is not there: ")?;
+    written(rt, &held, &mut out)?;
+    held.marking.entries[0].times = 2;
+    held.marking.entries[0].token.counts[0] = 1;
+    print!(rt; "like entries: ")?;
+    written(rt, &held, &mut out)?;
+    held.marking.entries[0].token.counts[0] = 0;
+    held.marking.entries[0].times = 65535;
+    print!(rt; "as many times as can be: ")?;
     written(rt, &held, &mut out)
 }
 
@@ -99,6 +120,7 @@ pub fn run(rt: &impl Print, hand: &Hand) -> io::Result<()> {
     headers(rt, hand)?;
     conversions(rt, hand)?;
     markings(rt, hand)?;
+    likes(rt, hand)?;
     let mut none = Hand {
         model: Model::empty(),
         marking: Marking::empty(),

@@ -3,7 +3,7 @@
 #![tactic(auto)]
 
 // The held model and the held marking.
-pub use marking::{Marking, NetToken};
+pub use marking::{Entry, Marking, NetToken};
 pub use model::{Event, Model, ObjectNet};
 
 // Reader. `model_reading`, `marking_reading`, `held_both`, `marking_writing` (reader/specs/Answers.antt), `held_model` (model/specs/Test.antt).

@@ -10,7 +10,8 @@ use native.Mathlib.Nat.{add-zero, add-suc, suc-add, zero-add}
 use lib.Dec.{leb}
 use lib.ListN.{length, get_or}
 use Rattle.eos.specs.Multiset as M
-use Rattle.eos.specs.Model.{Marking, like}
+use Rattle.eos.specs.Counted.{total}
+use Rattle.eos.specs.Model.{Marking, Lines, like}
 use Rattle.eos.specs.Causes.{first, First, Clear, unless, at, failing, Least, lacking}
 use Rattle.eos.proofs.Basics.{some_not}
 use Rattle.eos.proofs.FailingLaws.{failing_first}
@@ -148,15 +149,15 @@ failing-least d f n e =
 pub least-failing : (d : ℕ) (f : ℕ → Bool) (n : ℕ) → Least d f n → failing d 0 f ≡ some n
 least-failing d f n h = rw zero-add at (failing_first d 0 f n h.within (λ i p. rw zero-add (h.before i p)) (rw zero-add h.fails))
 
--- ---- a net-token that is lacking is one of those taken
-lacking_from : (μ : Marking) (i : ℕ) (seen l : Marking) (n : ℕ) → lacking μ i seen l ≡ some n → n < i + length l
+-- ---- the line at which net-tokens are lacking is one of those taken
+lacking_from : (μ : Marking) (i : ℕ) (seen ls : Lines) (n : ℕ) → lacking μ i seen ls ≡ some n → n < i + length ls
 lacking_from μ i seen [] n e = some_not (sym e)
-lacking_from μ i seen (t ∷ l) n e = go (leb (M.count like t (t ∷ seen)) (M.count like t μ)) e (lacking_from μ (suc i) (t ∷ seen) l n)
+lacking_from μ i seen (l ∷ ls) n e = go (leb (total like l.one (l ∷ seen)) (M.count like l.one μ)) e (lacking_from μ (suc i) (l ∷ seen) ls n)
   where
-    go : (b : Bool) → cond b (lacking μ (suc i) (t ∷ seen) l) (some i) ≡ some n → (lacking μ (suc i) (t ∷ seen) l ≡ some n → n < suc i + length l)
-        → n < i + suc (length l)
+    go : (b : Bool) → cond b (lacking μ (suc i) (l ∷ seen) ls) (some i) ≡ some n → (lacking μ (suc i) (l ∷ seen) ls ≡ some n → n < suc i + length ls)
+        → n < i + suc (length ls)
     go true e r = omega (arith, r e)
     go false e r = let z : i ≡ n = cc in omega (arith, z)
 
-pub lacking-within : (μ taken : Marking) (n : ℕ) → lacking μ 0 [] taken ≡ some n → n < length taken
+pub lacking-within : (μ : Marking) (taken : Lines) (n : ℕ) → lacking μ 0 [] taken ≡ some n → n < length taken
 lacking-within μ taken n e = omega (arith, lacking_from μ 0 [] taken n e)

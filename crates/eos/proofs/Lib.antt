@@ -1,9 +1,11 @@
 pub mod Basics
 pub mod MultisetLaws
 pub mod OrderLaws
+pub mod CountedLaws
 pub mod VectorLaws
 pub mod VectorSums
 pub mod FiringLaws
+pub mod RoomLaws
 pub mod FailingLaws
 pub mod CauseLaws
 pub mod FirstLaws

@@ -1,7 +1,9 @@
 pub mod Multiset
+pub mod Counted
 pub mod Vector
 pub mod Model
 pub mod Firing
+pub mod Room
 pub mod Leaving
 pub mod Causes
 pub mod Weights

@@ -18,9 +18,10 @@ use Rattle.model.specs.Held.{model_of, told}
 use Rattle.model.specs.Test.{held_model}
 use Rattle.model.specs.declared.Model.{Model}
 use Rattle.model.proofs.HeldTests.{held-is, most-places}
-use Rattle.marking.specs.Tokens.{tokens_in, OnPlaces}
+use Rattle.marking.specs.Tokens.{entries_in, OnPlaces}
 use Rattle.marking.specs.Held.{tokens_of, held_marking}
 use Rattle.marking.specs.declared.Marking.{Marking}
+use Rattle.marking.proofs.HoldMarking.{held_few}
 use Rattle.reader.specs.Answers.{held_both, held_in}
 use Rattle.marking.specs.Sizes.{sizes_for}
 use Rattle.keeper.specs.Held.{hold_weights}
@@ -30,8 +31,8 @@ use Rattle.keeper.specs.declared.HeldWeights.{HeldWeights}
 use Rattle.keeper.specs.declared.WeightCheck.{WeightCheck}
 use Rattle.model.proofs.ShapeLaws.{nets-long, events-long}
 use Rattle.keeper.proofs.HeldRows.{Kept}
-use Rattle.keeper.proofs.MarkingLaws.{few-tokens, tokens-held, on_places}
-use Rattle.keeper.proofs.WeighLaws.{weigh-is}
+use Rattle.keeper.proofs.MarkingLaws.{entries_right, on_places}
+use Rattle.keeper.proofs.WeighLaws.{weigh_is}
 use Rattle.keeper.proofs.CoverLaws.{covers-is}
 use Rattle.std.specs.Prelude.{Err, Ok}
 use Rattle.keeper.specs.declared.WeightRefusal.TheVariants.{Unbalanced, Weightless}
@@ -47,11 +48,11 @@ module _ (m : Model) (k : Marking) (held : held_both m k ≡ true) where
   unfolding held_in
   marking_held = (and_true (held_model m) (held_marking room_limit (sizes_for m) k) held).1
 
-  pub tokens-few : k.len ≤ room_limit
-  tokens-few = few-tokens (sizes_for m) k marking_held
+  pub entries_few : k.len ≤ room_limit
+  entries_few = held_few room_limit (sizes_for m) k marking_held
 
-  pub places_in : OnPlaces (tokens_in k)
-  places_in = on_places (sizes_for m) (most-places m (held-is m model-held)) (tokens_in k) (tokens-held (sizes_for m) k marking_held)
+  pub places_in : OnPlaces (entries_in k)
+  places_in = on_places (sizes_for m) (most-places m (held-is m model-held)) (entries_in k) (entries_right (sizes_for m) k marking_held)
 
 -- ---- weights that pass
 
@@ -59,14 +60,14 @@ module _ (m : Model) (w : Weights) (kept : Kept m w) (k : Marking) (held : held_
   abbrev sum : ℤ
   sum = weigh (model_of m) w (tokens_of (sizes_for m) k)
 
-  pub passed_is : (z : ℤ) → z ≡ marking_weight h.rows m.types (tokens_in k) → (s : ℤ) → s ≡ z → (most : ℕ) (cover : Bool)
+  pub passed_is : (z : ℤ) → z ≡ marking_weight h.rows m.types (entries_in k) → (s : ℤ) → s ≡ z → (most : ℕ) (cover : Bool)
       → cover ≡ covered most m.places m.nets m.objects h.rows (nat_abs z)
       → record { sum = s; cover = cover } ≡ passed_weights most w sum
   unfolding tokens_of
   passed_is z p s e most cover c =
       let rows-is : h.rows ≡ (hold_weights w).rows = ap (λ (x : HeldWeights). x.rows) is in
-      let z-is : z ≡ sum = p ∙ ap (λ (t : List (List ℤ)). marking_weight t m.types (tokens_in k)) rows-is
-      ∙ sym (weigh-is m w kept (tokens_in k) (tokens-held (sizes_for m) k held)) in
+      let z-is : z ≡ sum = p ∙ ap (λ (t : List (List ℤ)). marking_weight t m.types (entries_in k)) rows-is
+      ∙ sym (weigh_is m w kept (entries_in k) (entries_right (sizes_for m) k held)) in
       let c-is : cover ≡ covers most count_limit w (nat_abs sum) =
       c ∙ ap₂ (covered most m.places m.nets m.objects) rows-is (ap nat_abs z-is) ∙ sym (covers-is m w kept (nat_abs sum) most) in
       ap₂ {C = WeightCheck} (λ (x : ℤ) (y : Bool). record { sum = x; cover = y }) (e ∙ z-is) c-is

@@ -6,7 +6,6 @@ use mathlib.Core.List.{List, [], ◌∷◌}
 use native.Mathlib.Omega.{arith}
 use lib.Dec.{leb}
 use lib.ListN.{take, drop}
-use borrow.Author.Tests.{leb-true}
 use Rattle.text.proofs.Basics.{and_true}
 use Rattle.text.proofs.PaddedLaws.{at-padded}
 use Rattle.text.proofs.TestLaws.{within-is}
@@ -16,9 +15,10 @@ use Rattle.eos.proofs.Basics.{true_is}
 use Rattle.eos.proofs.VectorLaws.{eq_v_eq}
 use Rattle.model.specs.Limits.{room_limit}
 use Rattle.model.specs.Rules.{nth}
-use Rattle.marking.specs.Tokens.{tokens_in, ascending, like, no_token, OnPlaces}
-use Rattle.marking.specs.Held.{Sizes, held_token, held_tokens, held_marking}
+use Rattle.marking.specs.Tokens.{unused, entries_in, OnPlaces, ascending}
+use Rattle.marking.specs.Held.{Sizes, held_token, held_entry, held_entries, held_marking}
 use Rattle.marking.specs.declared.NetToken.{NetToken}
+use Rattle.marking.specs.declared.Entry.{Entry}
 use Rattle.marking.specs.declared.Marking.{Marking}
 
 -- ---- a held net-token
@@ -39,22 +39,17 @@ module _ (z : Sizes) (t : NetToken) (held : held_token z t ≡ true) where
       ap (λ (l : List ℕ). nth l c) counts_are ∙ ap (λ (n : ℕ). nth (padded (take n t.counts)) c) e ∙ at-padded [] (omega arith) c
 
 -- each has a place
-pub on_places : (z : Sizes) → z.places ≤ 32 → (ts : List NetToken) → every (held_token z) ts ≡ true → OnPlaces ts
+pub on_places : (z : Sizes) → z.places ≤ 32 → (es : List Entry) → every (held_entry z) es ≡ true → OnPlaces es
 on_places z few [] h = tt
-on_places z few (t ∷ ts) h =
-    let a = and_true (held_token z t) _ h in
-    let p = place_in z t a.0 in
-    (p.0, omega (arith, p.1), on_places z few ts a.1)
+on_places z few (e ∷ es) h =
+    let a = and_true (held_entry z e) _ h in
+    let p = place_in z e.token (and_true (held_token z e.token) _ a.0).0 in
+    (p.0, omega (arith, p.1), on_places z few es a.1)
 
--- ---- a held marking, by the test
-module _ (z : Sizes) (k : Marking) (held : held_marking room_limit z k ≡ true) where
-  pub few-tokens : k.len ≤ room_limit
-  unfolding held_tokens
-  few-tokens = leb-true k.len room_limit (and_true (leb k.len room_limit) _ held).0
-
-  pub tokens-held : every (held_token z) (tokens_in k) ≡ true
-  unfolding held_tokens
-  tokens-held =
-      let a = (and_true (leb k.len room_limit) _ held).1 in
-      let b = (and_true (ascending (tokens_in k)) _ a).1 in
-      (and_true (every (like no_token) (drop k.len k.tokens)) _ b).1
+-- each entry of a held marking is held, by the test
+pub entries_right : (z : Sizes) (k : Marking) → held_marking room_limit z k ≡ true → every (held_entry z) (entries_in k) ≡ true
+unfolding held_entries
+entries_right z k held =
+    let a = (and_true (leb k.len room_limit) _ held).1 in
+    let b = (and_true (ascending (entries_in k)) _ a).1 in
+    (and_true (every unused (drop k.len k.entries)) _ b).1

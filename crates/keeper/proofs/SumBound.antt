@@ -1,25 +1,28 @@
--- 01: "Sums lie within 536,862,976,000 either side of 0": 256 net-tokens, each of at most one outer weight and 32 counts of 65,535 times
--- an inner weight, weights of at most 1,000.
+-- Sums lie within 35,183,315,132,160,000 either side of 0 (02, K7): 256 entries, each of at most 65,535 net-tokens, and each of these of at most
+-- one outer weight and 32 counts of 65,535 times an inner weight, weights of at most 1,000.
 use Prim.Native.Nat.{ℕ, zero, suc, ◌+◌, ◌*◌, ◌≤◌, ◌<◌}
 use mathlib.Core.Path.{◌≡◌, refl, ap, ◌∙◌}
 use mathlib.Core.Bool.{Bool, true, false, cond, ◌&&◌}
-use mathlib.Core.List.{List, [], ◌∷◌, map}
+use mathlib.Core.List.{List, [], ◌∷◌, ◌++◌, map}
 use mathlib.Core.Option.{Option, none, some}
 use native.Mathlib.Omega.{arith}
 use native.Mathlib.Nat.{mul-le-mul, zero-add}
 use lib.Dec.{leb, eqb}
 use lib.IntN.{ℤ, pos, negsuc, nat_abs}
-use lib.ListN.{length, get_or, length-map, get_or-map, get_or-eq_default}
+use lib.ListN.{length, get_or, replicate, length-map, get_or-map, get_or-eq_default}
 use borrow.Author.Tests.{leb-true, le-leb, ne_eqb, eqb-true}
 use Rattle.text.specs.Bytes.{Text}
 use Rattle.text.specs.Lines.{Outcome, got, bad, every, modest}
 use Rattle.keeper.specs.Split.{above, below}
 use Rattle.text.proofs.Basics.{by_test, and_true}
 use Rattle.text.proofs.TestLaws.{and_both, every_at-at}
+use Rattle.eos.specs.Counted.{Counted, spelt}
 use Rattle.eos.specs.Model as eos
 use Rattle.eos.specs.Firing.{outer, inner}
 use Rattle.eos.specs.Weights.{Weights, weigh, WeightCause, weight_refusal}
-use Rattle.model.specs.Limits.{longest, cover_limit, count_limit, weight_limit}
+use Rattle.eos.proofs.CountedLaws.{spelt_grouped}
+use Rattle.eos.proofs.FiringLaws.{alike}
+use Rattle.model.specs.Limits.{longest, cover_limit, count_limit, alike_limit, weight_limit}
 use Rattle.model.specs.Held.{SizedModel, model_of}
 use Rattle.model.specs.Rules.{nth}
 use Rattle.model.specs.Test.{held_model}
@@ -99,16 +102,26 @@ nth_light (a ∷ u) (suc i) h = nth_light u i (and_true (Light a) _ h).1
 abbrev Counts : eos.NetToken → Bool
 Counts t = every Few t.inside
 
+abbrev Small : Counted eos.NetToken → Bool
+Small l = Counts l.one && leb l.times alike_limit
+
 module _ (m : eos.Model) (w : Weights) (f : ℤ → ℕ) (light : every Light (map f w.outward) ≡ true) (rows : Rows (map (map f) w.inward)) where
   token_most : (t : eos.NetToken) → Counts t ≡ true → weight_of m w f t ≤ 2097121000
   token_most t few =
       omega (arith, nth_light (map f w.outward) t.place light, own_most (eos.type_of m t.place) t.inside few (map (map f) w.inward) 0 rows)
 
-  marking_most : (μ : eos.Marking) → every Counts μ ≡ true → weight_by m w f μ ≤ length μ * 2097121000
-  marking_most [] h = omega (arith, weight_none m w f)
-  marking_most (t ∷ μ) h =
-      let p = and_true (Counts t) _ h in
-      omega (arith, weight_more m w f t μ, token_most t p.0, marking_most μ p.1)
+  -- so many of one more
+  copies_more : (t : eos.NetToken) (n : ℕ) (μ : eos.Marking) → weight_by m w f (replicate n t ++ μ) ≡ n * weight_of m w f t + weight_by m w f μ
+  copies_more t zero μ = omega arith
+  copies_more t (suc n) μ = omega (arith, weight_more m w f t (replicate n t ++ μ), copies_more t n μ)
+
+  lines_most : (ls : eos.Lines) → every Small ls ≡ true → weight_by m w f (spelt ls) ≤ length ls * 137434824735000
+  lines_most [] h = omega (arith, weight_none m w f)
+  lines_most (l ∷ ls) h =
+      let p = and_true (Small l) _ h in
+      let q = and_true (Counts l.one) _ p.0 in
+      let most : l.times * weight_of m w f l.one ≤ 65535 * 2097121000 = mul-le-mul (leb-true l.times alike_limit q.1) (token_most l.one q.0) in
+      omega (arith, copies_more l.one l.times (spelt ls), most, lines_most ls p.1)
 
 -- ---- a held model, a held marking of it, and weights that were read
 
@@ -127,18 +140,19 @@ below_part : (z : ℤ) → below z ≤ nat_abs z
 below_part (pos n) = omega arith
 below_part (negsuc n) = omega arith
 
-counts_of_lem : (m : Model) (μ : eos.Marking) → every (right_net_token bounds (sizes_for m)) μ ≡ true → every Counts μ ≡ true
-counts_of_lem m [] h = refl
-counts_of_lem m (t ∷ μ) h =
-    let p = and_true (right_net_token bounds (sizes_for m) t) _ h in
-    and_both (Counts t) _ (hold.right_is bounds (sizes_for m) t p.0).counts (counts_of_lem m μ p.1)
+lines_small : (m : Model) (ls : eos.Lines) → every (right_net_token bounds (sizes_for m)) ls ≡ true → every Small ls ≡ true
+lines_small m [] h = refl
+lines_small m (l ∷ ls) h =
+    let p = and_true (right_net_token bounds (sizes_for m) l) _ h in
+    let r = hold.right_is bounds (sizes_for m) l p.0 in
+    and_both (Small l) _ (and_both (Counts l.one) _ r.token.counts r.times) (lines_small m ls p.1)
 
--- 01's number, either side of 0
+-- within that number, either side of 0
 abbrev pub Within : ℤ → Type 0
-Within z = nat_abs z ≤ 536862976000
+Within z = nat_abs z ≤ 35183315132160000
 
 -- a number of which both parts are so small
-parts_within : (z : ℤ) → above z ≤ 536862976000 → below z ≤ 536862976000 → Within z
+parts_within : (z : ℤ) → above z ≤ 35183315132160000 → below z ≤ 35183315132160000 → Within z
 parts_within (pos n) p q = p
 parts_within (negsuc n) p q = q
 
@@ -156,7 +170,7 @@ module _ (m : Model) (k : Marking) (sized : SizedModel m) (small : SizedMarking 
 
     tokens : hold.Held (sizes_for m) μ
     unfolding held_in
-    tokens = (hold.held-tokens (sizes_for m) (held_roomy m model-held) k small (and_true (held_model m) _ held).1).0
+    tokens = (hold.held_tokens (sizes_for m) (held_roomy m model-held) k small (and_true (held_model m) _ held).1).0
 
     outer_right : every (modest weight_limit) w.outward ≡ true
     unfolding right_weights
@@ -185,14 +199,17 @@ module _ (m : Model) (k : Marking) (sized : SizedModel m) (small : SizedMarking 
       rows_right : Rows (map (map f) w.inward)
       rows_right n = rw (get_or-map (map f) w.inward n []) (row_right n)
 
-      part_most : weight_by (model_of m) w f μ ≤ 536862976000
+      part_most : weight_by (model_of m) w f μ ≤ 35183315132160000
       unfolding right_block
       part_most =
-          let p = and_true (leb (length μ) 256) _ tokens.right in
+          let ls = eos.entries μ in
+          let p = and_true (leb (length ls) 256) _ tokens.right in
+          let is : spelt ls ≡ μ = spelt_grouped eos.like alike (eos.canonical μ) ∙ tokens.ordered in
           omega (
             arith,
-            marking_most (model_of m) w f (light_of f part w.outward outer_right) rows_right μ (counts_of_lem m μ p.1),
-            leb-true (length μ) 256 p.0,
+            lines_most (model_of m) w f (light_of f part w.outward outer_right) rows_right ls (lines_small m ls p.1),
+            leb-true (length ls) 256 p.0,
+            ap (weight_by (model_of m) w f) is,
           )
 
     weigh-within : Within (weigh (model_of m) w μ)

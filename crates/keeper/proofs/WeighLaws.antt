@@ -5,23 +5,26 @@ use mathlib.Core.Bool.{true}
 use mathlib.Core.List.{List, [], ◌∷◌, map}
 use native.Mathlib.Omega.{arith}
 use native.Mathlib.Nat.{zero-add}
-use lib.IntN.{ℤ, pos, ◌+ℤ◌}
-use lib.ListN.{get_or}
+use lib.IntN.{ℤ, pos, ◌+ℤ◌, ◌*ℤ◌}
+use lib.ListN.{get_or, replicate}
 use lib.Seq.{get_or-take}
 use borrow.Author.Tests.{leb-true, eq-eqb, ne_eqb}
+use Rattle.std.proofs.lemmas.Int.{ints}
 use Rattle.text.specs.Lines.{every}
 use Rattle.text.proofs.Basics.{and_true}
+use Rattle.eos.specs.Counted.{spelt}
 use Rattle.eos.specs.Model as eos
 use Rattle.eos.specs.Firing.{inside_of}
 use Rattle.eos.specs.Weights.{Weights, dot, dots, value, weigh}
-use Rattle.eos.proofs.WeightLaws.{dot_zero, weight_of, weigh-sum}
+use Rattle.eos.proofs.WeightLaws.{dot_zero, weight_of, weigh-sum, weigh_append}
 use Rattle.model.specs.Rules.{nth}
 use Rattle.model.specs.Held.{no_net, model_of, row_at}
 use Rattle.model.specs.declared.Model.{Model}
 use Rattle.model.proofs.SlotLaws.{listed_at}
 use Rattle.model.proofs.HeldTests.{held-is}
-use Rattle.marking.specs.Held.{token_of, held_token}
+use Rattle.marking.specs.Held.{token_of, line_of, held_token, held_entry}
 use Rattle.marking.specs.declared.NetToken.{NetToken}
+use Rattle.marking.specs.declared.Entry.{Entry}
 use Rattle.marking.specs.Sizes.{size_of_type, sizes_in, sizes_for}
 use Rattle.keeper.specs.Held.{hold_weights}
 use Rattle.weigh.specs.Sums.{total, token_weight, marking_weight}
@@ -30,6 +33,13 @@ use Rattle.keeper.proofs.DotLaws.{dot_none, dot_unit, dots_total, dot_row}
 use Rattle.model.proofs.UsedLaws.{type-below}
 use Rattle.keeper.proofs.HeldRows.{Kept, few-places, inner-long, net-long, net-small, outer-at, inner-at, inner-few}
 use Rattle.keeper.proofs.MarkingLaws.{place_in, counts-none}
+
+-- a number taken no time, and once more
+times_none : (z : ℤ) → pos 0 *ℤ z ≡ pos 0
+times_none z = omega (arith, ints)
+
+times_more : (z : ℤ) (n : ℕ) → pos (suc n) *ℤ z ≡ z +ℤ pos n *ℤ z
+times_more z n = omega (arith, ints)
 
 module _ (m : Model) (w : Weights) (kept : Kept m w) where
   abbrev rows : List (List ℤ)
@@ -99,13 +109,23 @@ module _ (m : Model) (w : Weights) (kept : Kept m w) where
     unfolding value token_weight
     token_is = ap₂ ◌+ℤ◌ (dot_unit w.outward (t.place - 1) ∙ sym (outer-at m w kept (t.place - 1))) (inside-sum token ∙ inside_is type refl)
 
-  -- the weighted sum of held net-tokens is the code's
-  pub weigh-is : (ts : List NetToken) → every (held_token (sizes_for m)) ts ≡ true
-      → weigh (model_of m) w (map (token_of (sizes_for m)) ts) ≡ marking_weight rows m.types ts
+  -- so many of one net-token
+  weigh_copies : (t : eos.NetToken) (n : ℕ) → weigh (model_of m) w (replicate n t) ≡ pos n *ℤ weight_of (model_of m) w t
+  weigh_copies t zero = weigh-sum (model_of m) w [] ∙ sym (times_none (weight_of (model_of m) w t))
+  weigh_copies t (suc n) =
+      weigh-sum (model_of m) w (t ∷ replicate n t)
+      ∙ ap (λ (z : ℤ). weight_of (model_of m) w t +ℤ z) (sym (weigh-sum (model_of m) w (replicate n t)) ∙ weigh_copies t n)
+      ∙ sym (times_more (weight_of (model_of m) w t) n)
+
+  -- the weighted sum of what held entries stand for is the code's
+  pub weigh_is : (es : List Entry) → every (held_entry (sizes_for m)) es ≡ true
+      → weigh (model_of m) w (spelt (map (line_of (sizes_for m)) es)) ≡ marking_weight rows m.types es
   unfolding marking_weight
-  weigh-is [] h = weigh-sum (model_of m) w []
-  weigh-is (t ∷ ts) h =
-      let p = and_true (held_token (sizes_for m) t) _ h in
-      let behind = map (token_of (sizes_for m)) ts in
-      weigh-sum (model_of m) w (token_of (sizes_for m) t ∷ behind)
-      ∙ ap₂ ◌+ℤ◌ (token_is t p.0) (sym (weigh-sum (model_of m) w behind) ∙ weigh-is ts p.1)
+  weigh_is [] h = weigh-sum (model_of m) w []
+  weigh_is (e ∷ es) h =
+      let p = and_true (held_entry (sizes_for m) e) _ h in
+      let held = (and_true (held_token (sizes_for m) e.token) _ p.0).0 in
+      let t = token_of (sizes_for m) e.token in
+      let behind = spelt (map (line_of (sizes_for m)) es) in
+      weigh_append (model_of m) w (replicate e.times t) behind
+      ∙ ap₂ ◌+ℤ◌ (weigh_copies t e.times ∙ ap (λ (z : ℤ). pos e.times *ℤ z) (token_is e.token held)) (weigh_is es p.1)

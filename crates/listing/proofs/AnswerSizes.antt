@@ -13,14 +13,14 @@ use Rattle.text.specs.Lines.{Outcome, got, bad, read_head, cause_number}
 use Rattle.text.specs.declared.Fault.{Fault}
 use Rattle.text.proofs.Basics.{by_test}
 use Rattle.eos.specs.Model as eos
-use Rattle.eos.specs.Firing.{Step}
+use Rattle.eos.specs.Firing.{Written}
 use Rattle.eos.specs.Causes.{Refusal, Cause, taking, giving, short, unequal, missing, crowded, at, failing, causes, refusal}
 use Rattle.eos.proofs.FirstLaws.{first-each, unless-each, at_each, failing-least, lacking-within}
 use Rattle.eos.specs.Weights.{Weights, weigh, WeightCause, weightless, unbalanced, weight_refusal}
 use Rattle.model.specs.Limits.{longest, room_limit, cover_limit}
 use Rattle.model.specs.Held.{model_of}
 use Rattle.model.specs.declared.Model.{Model}
-use Rattle.marking.specs.Held.{Sizes, hold_marking, tokens_of}
+use Rattle.marking.specs.Held.{Sizes, hold_marking, tokens_of, has_room}
 use Rattle.marking.specs.Sizes.{sizes_for}
 use Rattle.marking.specs.declared.Marking.{Marking}
 use Rattle.reader.specs.Reading.{bounds, Loaded, read_model}
@@ -29,7 +29,7 @@ use Rattle.step.proofs.StepFaults.{step_faults}
 use Rattle.text.proofs.LineCounts.{spot-within}
 use Rattle.text.proofs.FaultLaws.{Faults, head_faults}
 use Rattle.step.specs.Reading.{read_step}
-use Rattle.step.specs.Verdict.{has_room, cause_triple}
+use Rattle.step.specs.Verdict.{cause_triple}
 use Rattle.runner.specs.Answers.{Tried, fires, stops, step_judged, read_then, tried, unfired_triple, step_triple}
 use Rattle.runner.proofs.RuledLaws.{read_right}
 use Rattle.runner_trace.specs.Running.{onward, run_from, headed, run_where_held, running, Ran}
@@ -52,16 +52,16 @@ newlines-few (b ∷ s) =
     (λ h. rw (h, newlines) (omega (arith, newlines-few s)))
     (λ h. rw (h, newlines) (omega (arith, newlines-few s)))
 
-spot_small : (s : Text) → length s ≤ file_longest → (e : Fault) → cause_number e.cause < 10 → Small (unread_triple (faulty s e))
+spot_small : (s : Text) → length s ≤ file_longest → (e : Fault) → cause_number e.cause < 100 → Small (unread_triple (faulty s e))
 spot_small s few e h = (omega arith, omega (arith, newlines-few (take e.at s), length-take e.at s), omega (arith, spot-within s e))
 
 -- ---- a model's answer
 
--- a cause of one digit
-abbrev Digit : ℕ → Type 0
-Digit why = why < 10
+-- a cause of two digits at most
+abbrev Digits : ℕ → Type 0
+Digits why = why < 100
 
-loaded-small : (s : Text) → length s ≤ file_longest → (o : Outcome Loaded) → Faults Digit o → Small (read_triple (loaded s o))
+loaded-small : (s : Text) → length s ≤ file_longest → (o : Outcome Loaded) → Faults Digits o → Small (read_triple (loaded s o))
 unfolding loaded
 loaded-small s few (got l x) d = (omega arith, omega arith, omega arith)
 loaded-small s few (bad e) d = spot_small s few e d
@@ -71,7 +71,7 @@ unfolding model_file model_reading
 model-small s =
     by_test (leb (length s) file_longest)
     (λ t. by_test (leb (length s) longest)
-    (λ u. rw (t, model_file, u, model_reading) (loaded-small s (leb-true (length s) file_longest t) (read_model s) (model_faults Digit (lit< tt) s (lit< tt) (lit< tt))))
+    (λ u. rw (t, model_file, u, model_reading) (loaded-small s (leb-true (length s) file_longest t) (read_model s) (model_faults Digits (lit< tt) s (lit< tt) (lit< tt) (lit< tt))))
     (λ u. rw (t, model_file, u, model_reading) (omega arith, omega arith, omega arith)))
     (λ t. rw (t, model_file) (omega arith, omega arith, omega arith))
 
@@ -100,7 +100,7 @@ module _ (m : eos.Model) (nets : length m.nets ≤ 8) (events : length m.events 
   turned-small w z none h = (omega arith, omega arith, omega arith)
   turned-small w z (some c) h = h c refl
 
-  weighed-small : (μ : eos.Marking) (s : Text) → length s ≤ file_longest → (o : Outcome Weights) → Faults Digit o → Small (weight_triple (weighed cover_limit m μ s o))
+  weighed-small : (μ : eos.Marking) (s : Text) → length s ≤ file_longest → (o : Outcome Weights) → Faults Digits o → Small (weight_triple (weighed cover_limit m μ s o))
   unfolding weighed judged_weights
   weighed-small μ s few (got w x) d = turned-small w (weigh m w μ) (weight_refusal m w) (cause_small w)
   weighed-small μ s few (bad e) d = spot_small s few e d
@@ -110,7 +110,7 @@ module _ (m : Model) (nets : length (model_of m).nets ≤ 8) where
     tested_small : (b : Bool) (s : Text) → length s ≤ file_longest → Small (weight_triple (weights_or b m k s))
     unfolding weights_or
     tested_small true s few =
-        weighed-small (model_of m) nets events (tokens_of (sizes_for m) k) s few (read_weight_file (model_of m) s) (weight_file_faults Digit (lit< tt) s (lit< tt) (model_of m))
+        weighed-small (model_of m) nets events (tokens_of (sizes_for m) k) s few (read_weight_file (model_of m) s) (weight_file_faults Digits (lit< tt) s (lit< tt) (model_of m))
     tested_small false s few = (omega arith, omega arith, omega arith)
 
     pub weights-small : (s : Text) → Small (weight_triple (weights_file m k s))
@@ -127,7 +127,7 @@ module _ (m : Model) (nets : length (model_of m).nets ≤ 8) where
   abbrev d : eos.Model
   d = model_of m
 
-  refusal-small : (t : Step) (μ : eos.Marking) → length t.taken ≤ 256
+  refusal-small : (t : Written) (μ : eos.Marking) → length t.taken ≤ 256
       → Holds (λ c. Small (cause_triple (length t.taken) c)) (refusal (has_room room_limit) d t μ)
   unfolding refusal causes
   refusal-small t μ few =
@@ -156,12 +156,12 @@ module _ (m : Model) (nets : length (model_of m).nets ≤ 8) where
   Stops (fires n μ) = Unit {0}
   Stops (stops a) = Small (unfired_triple a)
 
-  judged-small : (t : Step) (μ : eos.Marking) (next : ℕ) (o : Option Cause) → Holds (λ c. Small (cause_triple (length t.taken) c)) o → Stops (step_judged μ t next o)
+  judged-small : (t : Written) (μ : eos.Marking) (next : ℕ) (o : Option Cause) → Holds (λ c. Small (cause_triple (length t.taken) c)) o → Stops (step_judged μ t next o)
   unfolding step_judged
   judged-small t μ next none h = tt
   judged-small t μ next (some c) h = h c refl
 
-  read_small : (z : Sizes) (μ : eos.Marking) (s : Text) → length s ≤ file_longest → (o : Outcome Step) → read_step bounds z (length d.events) s 0 ≡ o → Faults Digit o
+  read_small : (z : Sizes) (μ : eos.Marking) (s : Text) → length s ≤ file_longest → (o : Outcome Written) → read_step bounds z (length d.events) s 0 ≡ o → Faults Digits o
       → Stops (read_then room_limit d μ s o)
   unfolding read_then
   read_small z μ s few (got t next) e h =
@@ -170,7 +170,7 @@ module _ (m : Model) (nets : length (model_of m).nets ≤ 8) where
 
   tried-small : (z : Sizes) (μ : eos.Marking) (s : Text) → length s ≤ file_longest → Stops (tried room_limit d z μ s)
   unfolding tried
-  tried-small z μ s few = read_small z μ s few (read_step bounds z (length d.events) s 0) refl (step_faults Digit (lit< tt) (lit< tt) bounds z (length d.events) s 0)
+  tried-small z μ s few = read_small z μ s few (read_step bounds z (length d.events) s 0) refl (step_faults Digits (lit< tt) (lit< tt) bounds z (length d.events) s 0)
 
   abbrev Ends : ℕ → Ran → Type 0
   Ends most r = Small (step_triple r.stop) × (r.fired ≤ most)
@@ -193,7 +193,7 @@ module _ (m : Model) (nets : length (model_of m).nets ≤ 8) where
       (λ used μ. ends_as (n + 1 + f) (n + suc f) (run_from f m (hold_marking μ) (drop used s) (n + 1) (p + used)) (omega arith)
       (from_small f (hold_marking μ) (drop used s) (n + 1) (p + used) (omega (arith, length-drop used s))))
 
-  headed-small : (k : Marking) (s : Text) → length s ≤ file_longest → (o : Outcome (Unit {0})) → Faults Digit o → Ends file_longest (headed m k s o)
+  headed-small : (k : Marking) (s : Text) → length s ≤ file_longest → (o : Outcome (Unit {0})) → Faults Digits o → Ends file_longest (headed m k s o)
   unfolding headed
   headed-small k s few (got v next) h =
       ends_as (0 + length s) file_longest (run_from (length s) m k (drop next s) 0 next) (omega arith) (from_small (length s) k (drop next s) 0 next (omega (arith, length-drop next s)))
@@ -201,7 +201,7 @@ module _ (m : Model) (nets : length (model_of m).nets ≤ 8) where
 
   run_small : (b : Bool) (k : Marking) (s : Text) → length s ≤ file_longest → Ends file_longest (run_where_held b m k s)
   unfolding run_where_held
-  run_small true k s few = headed-small k s few (read_head (bytes "run=1\n") s 0) (head_faults Digit (lit< tt) (bytes "run=1\n") s 0)
+  run_small true k s few = headed-small k s few (read_head (bytes "run=1\n") s 0) (head_faults Digits (lit< tt) (bytes "run=1\n") s 0)
   run_small false k s few = ((omega arith, omega arith, omega arith), omega arith)
 
   pub trace_small : (k : Marking) (s : Text) → Ends file_longest (trace_file m k s)

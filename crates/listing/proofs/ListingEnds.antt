@@ -9,7 +9,7 @@ use Rattle.std.specs.Prelude.{Result, Ok, Err}
 use Rattle.text.specs.Bytes.{Text, bytes}
 use Rattle.text.specs.Lines.{cause_number}
 use Rattle.text.specs.declared.Cause.{Cause}
-use Rattle.text.specs.declared.Cause.TheVariants.{Syntax, Range, Idling}
+use Rattle.text.specs.declared.Cause.TheVariants.{Syntax, Range, Idling, Crowded}
 use Rattle.eos.specs.Causes.{Refusal}
 use Rattle.model.specs.declared.Model.{Model}
 use Rattle.marking.specs.declared.Marking.{Marking}
@@ -36,6 +36,7 @@ cause_refused : (c : Cause) (line column : ℕ) → accepted (triple (cause_numb
 cause_refused Syntax line column = refl
 cause_refused Range line column = refl
 cause_refused Idling line column = refl
+cause_refused Crowded line column = refl
 
 unread_refused : (e : ReadRefusal) → accepted (unread_triple e) ≡ false
 unread_refused TooLong = refl

@@ -26,7 +26,7 @@ use Rattle.marking.specs.Printed.{net_token_text, block_text, marking_text}
 use Rattle.marking.specs.Sizes.{sizes_for}
 use Rattle.marking.specs.declared.Marking.{Marking}
 use Rattle.marking.proofs.SizeLaws.{held_roomy}
-use Rattle.marking.proofs.WriteLaws.{held-length}
+use Rattle.marking.proofs.WriteLaws.{held_text_length}
 use Rattle.reader.specs.Answers.{read_triple, lay_whole, held_in, pair, unread_triple}
 use Rattle.reader.proofs.WriteAnswers.{whole-fits}
 use Rattle.reader.proofs.GivenLaws.{Given, given-held, given_marking}
@@ -64,15 +64,16 @@ cover_fits true = cover_length 1 (omega arith)
 cover_fits false = cover_length 0 (omega arith)
 
 -- the net-tokens held: the text of the marking, with a key that is a byte shorter
-block_fits : (μ : eos.Marking) → length (marking_text μ) ≤ 51466 → length (block_text (bytes "held=") μ) ≤ 51466
+block_fits : (μ : eos.Marking) → length (marking_text μ) ≤ 53002 → length (block_text (bytes "held=") (eos.entries μ)) ≤ 53002
 unfolding marking_text block_text
 block_fits μ h =
+    let ls = eos.entries μ in
     omega (
       arith,
-      length-append (number_text (bytes "start=") (length μ)) (texts net_token_text μ),
-      length-append (number_text (bytes "held=") (length μ)) (texts net_token_text μ),
-      number_line_length (bytes "start=") (length μ),
-      number_line_length (bytes "held=") (length μ),
+      length-append (number_text (bytes "start=") (length ls)) (texts net_token_text ls),
+      length-append (number_text (bytes "held=") (length ls)) (texts net_token_text ls),
+      number_line_length (bytes "start=") (length ls),
+      number_line_length (bytes "held=") (length ls),
     )
 
 -- ---- a model and a start that an accepted reading gives
@@ -99,20 +100,20 @@ module _ (m : Model) (k : Marking) (given : Given m k) where
       (λ t. rw (t, weights_file) (given_sum_within m k given s))
       (λ t. rw (t, weights_file) (omega arith))
 
-  tokens_fit : (j : Marking) → Given m j → length (block_text (bytes "held=") (tokens_of (sizes_for m) j)) ≤ 51466
+  tokens_fit : (j : Marking) → Given m j → length (block_text (bytes "held=") (eos.entries (tokens_of (sizes_for m) j))) ≤ 53002
   unfolding held_in
   tokens_fit j g =
       block_fits (tokens_of (sizes_for m) j)
-      (held-length (sizes_for m) (held_roomy m held) (omega (arith, most-places m (held-is m held))) j (given_marking m j g) (and_true (held_model m) _ (given-held m j g)).1)
+      (held_text_length (sizes_for m) (held_roomy m held) (omega (arith, most-places m (held-is m held))) j (given_marking m j g) (and_true (held_model m) _ (given-held m j g)).1)
 
-  run_fits : (s : Text) → length (run_text m (trace_file m k s)) ≤ 51544
+  run_fits : (s : Text) → length (run_text m (trace_file m k s)) ≤ 53080
   unfolding run_text
   run_fits s =
       let r = trace_file m k s in
       let e = trace_small m nets-few k s in
       let fired = number_text (bytes "fired=") r.fired in
       let stop = triple_text (bytes "stop=") (step_triple r.stop) in
-      let block = block_text (bytes "held=") (tokens_of (sizes_for m) r.marking) in
+      let block = block_text (bytes "held=") (eos.entries (tokens_of (sizes_for m) r.marking)) in
       omega (
         arith,
         length-append fired (stop ++ block),
@@ -122,17 +123,17 @@ module _ (m : Model) (k : Marking) (given : Given m k) where
         tokens_fit r.marking (trace_given s),
       )
 
-  after-fits : (weights trace : Text) → length (after_model m k weights trace) ≤ 51632
+  after-fits : (weights trace : Text) → length (after_model m k weights trace) ≤ 53168
   unfolding with_weights
   after-fits weights trace = go (weights_file m k weights) (weights-within weights) (weights-small m nets-few events-few k weights)
     where
-      go : (o : Result WeightCheck WeightRefusal) → Within (check_given o).sum → Small (weight_triple o) → length (with_weights m k trace o) ≤ 51632
+      go : (o : Result WeightCheck WeightRefusal) → Within (check_given o).sum → Small (weight_triple o) → length (with_weights m k trace o) ≤ 53168
       go (Err e) w s = omega (arith, triple-length (bytes "weights=") (unpassed_triple e) s.0 s.1 s.2)
       go (Ok c) w s =
           let sum = sum_text c.sum in
           let cover = cover_text c.cover in
           let run = run_text m (trace_file m k trace) in
-          let rest : length (sum ++ (cover ++ run)) ≤ 51578 =
+          let rest : length (sum ++ (cover ++ run)) ≤ 53114 =
           omega (
             arith,
             length-append sum (cover ++ run),
@@ -141,7 +142,7 @@ module _ (m : Model) (k : Marking) (given : Given m k) where
             cover_fits c.cover,
             run_fits trace,
           ) in
-          triple_fits (bytes "weights=") (pair 0 0) (sum ++ (cover ++ run)) 51578 good-small rest
+          triple_fits (bytes "weights=") (pair 0 0) (sum ++ (cover ++ run)) 53114 good-small rest
 
 -- ---- the listing
 
@@ -155,7 +156,7 @@ module _ (model weights trace : Text) where
       go (Ok r) h s =
           omega (
             arith,
-            triple_fits (bytes "model=") (pair 0 0) (after_model r.model r.start weights trace) 51632 good-small
+            triple_fits (bytes "model=") (pair 0 0) (after_model r.model r.start weights trace) 53168 good-small
                 (after-fits r.model r.start (file_given model r h) weights trace),
           )
 

@@ -14,6 +14,7 @@ use Rattle.std.specs.Prelude.{Result, Ok, Err}
 use Rattle.text.proofs.Basics.{by_le}
 use Rattle.text.proofs.SetsLaws.{sets_append, sets_apart}
 use Rattle.text.proofs.LaidLaws.{lay-whole, lay-short}
+use Rattle.eos.specs.Model as eos
 use Rattle.model.specs.declared.Model.{Model}
 use Rattle.marking.specs.Held.{as_sizes, tokens_of}
 use Rattle.marking.specs.Printed.{block_text}
@@ -76,5 +77,5 @@ module _ (head block out : List ℕ) {w : Result ℕ TooSmall} {mid : List ℕ} 
 
 -- the sizes of a model's net-tokens, as the code has them
 pub by_sizes : (m : Model) (k : Marking) (head out : List ℕ) (z : PlaceSizes) → z ≡ place_sizes m
-    → lay_whole (head ++ block_text (bytes "held=") (tokens_of (as_sizes z) k)) out ≡ lay_whole (head ++ block_text (bytes "held=") (tokens_of (sizes_for m) k)) out
-by_sizes m k head out z e = ap (λ (z : PlaceSizes). lay_whole (head ++ block_text (bytes "held=") (tokens_of (as_sizes z) k)) out) e
+    → lay_whole (head ++ block_text (bytes "held=") (eos.entries (tokens_of (as_sizes z) k))) out ≡ lay_whole (head ++ block_text (bytes "held=") (eos.entries (tokens_of (sizes_for m) k))) out
+by_sizes m k head out z e = ap (λ (z : PlaceSizes). lay_whole (head ++ block_text (bytes "held=") (eos.entries (tokens_of (as_sizes z) k))) out) e

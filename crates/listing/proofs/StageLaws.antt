@@ -10,6 +10,7 @@ use Rattle.text_write.specs.Place.{written, Lays}
 use Rattle.text_write.specs.declared.Writer.{Writer}
 use Rattle.text_write.proofs.WriterLaws.{lays_both, lays_behind}
 use Rattle.eos.specs.Causes.{Refusal}
+use Rattle.eos.specs.Model as eos
 use Rattle.model.specs.declared.Model.{Model}
 use Rattle.marking.specs.Held.{tokens_of}
 use Rattle.marking.specs.Printed.{block_text}
@@ -34,7 +35,7 @@ module _ (old : Writer) where
   -- the run's lines before its net-tokens
   pub run-listed : (m : Model) (k : Marking) (trace : Text) (r : Ran) → r ≡ trace_file m k trace → (p : Refusal) → p ≡ step_triple r.stop
       → {mid new : Writer} → Lays (number_text (bytes "fired=") r.fired) old mid → Lays (triple_text (bytes "stop=") p) mid new → new.at ≤ length old.out.now
-      → written new ++ block_text (bytes "held=") (tokens_of (sizes_for m) r.marking) ≡ written old ++ run_text m (trace_file m k trace)
+      → written new ++ block_text (bytes "held=") (eos.entries (tokens_of (sizes_for m) r.marking)) ≡ written old ++ run_text m (trace_file m k trace)
   unfolding run_text
   run-listed m k trace r is p stops a b n =
       let fired = number_text (bytes "fired=") r.fired in

@@ -3,6 +3,7 @@ use Rattle.std.specs.Prelude.{ℕ, ℤ, Bool, true, false, cond, [], ◌∷◌, 
 use Rattle.text.specs.Bytes.{Text, bytes}
 use Rattle.text.specs.Printed.{number_text, list_text, weights_text}
 use Rattle.eos.specs.Causes.{Refusal}
+use Rattle.eos.specs.Model as eos
 use Rattle.model.specs.declared.Model.{Model}
 use Rattle.marking.specs.Held.{tokens_of}
 use Rattle.marking.specs.Printed.{block_text}
@@ -51,7 +52,7 @@ cover_text cover = number_text (bytes "cover=") (cond cover 1 0)
 unfoldable pub run_text : Model → Ran → Text
 run_text m r =
     number_text (bytes "fired=") r.fired
-    ++ (triple_text (bytes "stop=") (step_triple r.stop) ++ block_text (bytes "held=") (tokens_of (sizes_for m) r.marking))
+    ++ (triple_text (bytes "stop=") (step_triple r.stop) ++ block_text (bytes "held=") (eos.entries (tokens_of (sizes_for m) r.marking)))
 
 -- ---- the listing
 

@@ -3,6 +3,7 @@
 
 ghost use Rattle.std.specs.Prelude.{◌≡◌, true, ◌++◌, ◌+◌, ◌≤◌, length};
 ghost use Rattle.text.specs.Bytes.{bytes};
+ghost use Rattle.eos.specs.Model as eos;
 ghost use Rattle.marking.specs.Held.{tokens_of};
 ghost use Rattle.marking.specs.Printed.{block_text};
 ghost use Rattle.marking.specs.Sizes.{sizes_for};
@@ -38,7 +39,7 @@ fn lay_head(head: &[u8], out: &mut [u8]) -> Result<usize, WriteRefusal>
 fn lay_with_held(head: &[u8], m: &Model, k: &Marking, out: &mut [u8]) -> Result<usize, WriteRefusal>
     requires { (held_both m.now k.now ≡ true) × (length head.now ≤ 1024) }
     ensures { record { answer = result; bytes = out.new }
-        ≡ lay_whole (head.now ++ block_text (bytes "held=") (tokens_of (sizes_for m.now) k.now)) out.old }
+        ≡ lay_whole (head.now ++ block_text (bytes "held=") (eos.entries (tokens_of (sizes_for m.now) k.now))) out.old }
 {
     let bytes = write(k, &place_sizes(m), b"held=", out, head.len())?;
     Writer { out, at: 0 }.text(head);

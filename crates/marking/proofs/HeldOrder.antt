@@ -29,6 +29,10 @@ pub data All (z : Sizes) : eos.Marking → Type 0 where
   none : All z []
   more : {t : eos.NetToken} {μ : eos.Marking} → Fitting z t → All z μ → All z (t ∷ μ)
 
+pub all_append : (z : Sizes) (μ ν : eos.Marking) → All z μ → All z ν → All z (μ ++ ν)
+all_append z [] ν none b = b
+all_append z (t ∷ μ) ν (more f a) b = more f (all_append z μ ν a b)
+
 lex_self : (z : List ℕ) → lex_v z z ≡ true
 lex_self [] = refl
 lex_self (a ∷ z) = rw (eq-eqb a a refl) (lex_self z)

@@ -1,4 +1,4 @@
--- Laws of the held test as the code makes it: of one net-token, and of many.
+-- Laws of the held test as the code makes it: of one net-token, and of many entries.
 use Prim.Native.Nat.{ℕ, ◌-◌, ◌≤◌, ◌<◌}
 use mathlib.Core.Path.{◌≡◌, refl, sym, ap, ap₂, ◌∙◌}
 use mathlib.Core.List.{List, [], ◌∷◌, ◌++◌}
@@ -13,9 +13,10 @@ use Rattle.text.specs.Lines.{every}
 use Rattle.text.specs.Answers.{padded}
 use Rattle.text.proofs.PaddedLaws.{padded-is}
 use Rattle.eos.specs.Vector.{eq_v}
-use Rattle.marking.specs.Tokens.{like, no_token, ascending}
-use Rattle.marking.specs.Held.{Sizes, held_token, held_tokens}
+use Rattle.marking.specs.Tokens.{unused, ascending}
+use Rattle.marking.specs.Held.{Sizes, held_token, held_entry, held_entries}
 use Rattle.marking.specs.declared.NetToken.{NetToken}
+use Rattle.marking.specs.declared.Entry.{Entry}
 
 -- ---- one net-token
 
@@ -51,25 +52,25 @@ module _ (z : Sizes) (t : NetToken) where
   unfolding held_token
   held_high h = rw (lt-leb t.place z.places h, and-false)
 
--- ---- n lent net-tokens, by the first part of the test that fails
-module _ (room : ℕ) (z : Sizes) (n : ℕ) (ts : List NetToken) where
-  pub held_many : room < n → false ≡ held_tokens room z n ts
-  unfolding held_tokens
+-- ---- n lent entries, by the first part of the test that fails
+module _ (room : ℕ) (z : Sizes) (n : ℕ) (es : List Entry) where
+  pub held_many : room < n → false ≡ held_entries room z n es
+  unfolding held_entries
   held_many h = rw (lt-leb n room h)
 
   -- the room behind them, as it is lent
-  pub room_whole : every (like no_token) (take (length ts - n) (drop n ts)) ≡ every (like no_token) (drop n ts)
-  room_whole = ap (every (like no_token)) (take_all (length ts - n) (drop n ts) (omega (arith, length-drop n ts)))
+  pub room_whole : every unused (take (length es - n) (drop n es)) ≡ every unused (drop n es)
+  room_whole = ap (every unused) (take_all (length es - n) (drop n es) (omega (arith, length-drop n es)))
 
-  module _ (few : n ≤ room) (a : Bool) (order : a ≡ ascending (take n ts)) where
-    pub held_disordered : a ≡ false → false ≡ held_tokens room z n ts
-    unfolding held_tokens
+  module _ (few : n ≤ room) (a : Bool) (order : a ≡ ascending (take n es)) where
+    pub held_disordered : a ≡ false → false ≡ held_entries room z n es
+    unfolding held_entries
     held_disordered e = rw (le-leb n room few, sym order ∙ e)
 
-    pub held_used : (e : Bool) → a ≡ true → e ≡ every (like no_token) (drop n ts) → e ≡ false → false ≡ held_tokens room z n ts
-    unfolding held_tokens
+    pub held_used : (e : Bool) → a ≡ true → e ≡ every unused (drop n es) → e ≡ false → false ≡ held_entries room z n es
+    unfolding held_entries
     held_used e f g h = rw (le-leb n room few, sym order ∙ f, sym g ∙ h)
 
-    pub held_rest : (e r : Bool) → a ≡ true → e ≡ every (like no_token) (drop n ts) → e ≡ true → r ≡ every (held_token z) (take n ts) → r ≡ held_tokens room z n ts
-    unfolding held_tokens
+    pub held_rest : (e r : Bool) → a ≡ true → e ≡ every unused (drop n es) → e ≡ true → r ≡ every (held_entry z) (take n es) → r ≡ held_entries room z n es
+    unfolding held_entries
     held_rest e r f g h q = rw (le-leb n room few, sym order ∙ f, sym g ∙ h) q

@@ -1,131 +1,152 @@
--- Net-tokens laid in their room are kept, putting in and taking out keep them, and two tests decide what is kept.
-use Prim.Native.Nat.{ℕ, zero, suc, ◌+◌, ◌-◌, ◌≤◌, ◌<◌}
-use mathlib.Core.Path.{◌≡◌, refl, sym, ap, subst, ◌∙◌}
-use mathlib.Core.Bool.{Bool, true, false, cond, ◌&&◌}
-use mathlib.Core.List.{List, [], ◌∷◌, ◌++◌}
+-- Entries laid in their room are kept, they are kept in one way only, and two tests decide what is kept.
+use Prim.Native.Nat.{ℕ, zero, suc, ◌-◌, ◌≤◌, ◌<◌}
+use mathlib.Core.Path.{◌≡◌, refl, sym, ap, ◌∙◌}
+use mathlib.Core.Bool.{true, ◌&&◌}
+use mathlib.Core.List.{List, [], ◌∷◌, ◌++◌, map}
 use native.Mathlib.Omega.{arith}
-use lib.ListN.{length, get_or, take, drop, replicate, length-append, length-drop, length-replicate, take-append-drop}
+use lib.Dec.{T, eqb, leb, eqb→eq, leb→le}
+use lib.ListN.{length, get_or, drop, replicate, length-append, length-drop, length-map, length-replicate, take-append-drop}
 use lib.Seq.{take_at, drop_at, length-take-le}
-use Rattle.eos.specs.Multiset.{bit, every, count, without, insert, Sorted}
+use Rattle.eos.specs.Multiset.{every, count, Same, Sorted}
+use Rattle.eos.specs.Counted.{Counted, spelt, there, up_to, tally, fits, under, Strict}
 use Rattle.eos.proofs.Basics.{true_is, is_true, and_l, and_r, and_i}
-use Rattle.eos.proofs.OrderLaws.{insert-sorted, sorted-without}
-use Rattle.marking.specs.Tokens.{like, before, no_token, laid, holding, tokens_in, OnPlaces, place_for, ascending, Kept, put_in}
+use Rattle.eos.proofs.CountedLaws.{below_under, under_le, tally_strict, tally_spelt, count_tally, one_tally}
+use Rattle.model.specs.Limits.{alike_limit}
+use Rattle.marking.specs.Tokens.{like, before, no_token, no_entry, unused, as_entry, all_counted, tokens, spelt_out, laid, holding, entries_in, tokens_in, held_by, OnPlaces, ascending, Kept}
 use Rattle.marking.specs.declared.NetToken.{NetToken}
+use Rattle.marking.specs.declared.Entry.{Entry}
 use Rattle.marking.specs.declared.Marking.{Marking}
 use Rattle.marking.proofs.TokenOrder.{held_alike, held_order}
-use Rattle.marking.proofs.PlaceFor.{place-within, insert-at}
 
--- ---- held net-tokens
+-- ---- entries as counted net-tokens, and back
 
-pub tokens-held : (ts : List NetToken) → tokens_in (holding ts) ≡ ts
-tokens-held ts = take_at ts (replicate (256 - length ts) no_token) (length ts) refl
+pub counted_entries : (cs : List (Counted NetToken)) → all_counted (map as_entry cs) ≡ cs
+counted_entries [] = refl
+counted_entries (c ∷ cs) = ap (λ (l : List (Counted NetToken)). c ∷ l) (counted_entries cs)
 
-pub laid-long : (ts : List NetToken) → length ts ≤ 256 → length (laid ts) ≡ 256
-laid-long ts h = omega (arith, length-append ts (replicate (256 - length ts) no_token), length-replicate (256 - length ts) no_token)
+pub entries_counted : (es : List Entry) → map as_entry (all_counted es) ≡ es
+entries_counted [] = refl
+entries_counted (e ∷ es) = ap (λ (l : List Entry). e ∷ l) (entries_counted es)
 
-pub kept-held : (ts : List NetToken) → length ts ≤ 256 → Sorted before ts → Kept (holding ts)
-kept-held ts h s =
-    let e = tokens-held ts in
-    record { few = h; long = laid-long ts h; sorted = rw e s; is = rw e }
+-- ---- held entries
 
--- as many net-tokens as their number says
-pub length-held : (k : Marking) → Kept k → length (tokens_in k) ≡ k.len
-length-held k p = length-take-le k.len k.tokens (omega (arith, p.few, p.long))
+pub entries_held : (es : List Entry) → entries_in (holding es) ≡ es
+entries_held es = take_at es (replicate (256 - length es) no_entry) (length es) refl
 
--- kept net-tokens are held so
-pub kept-is : (k : Marking) → Kept k → k ≡ holding (tokens_in k)
-kept-is k p = let n = length-held k p in λ i. record { len = sym n i; tokens = p.is i }
+pub laid_long : (es : List Entry) → length es ≤ 256 → length (laid es) ≡ 256
+laid_long es h = omega (arith, length-append es (replicate (256 - length es) no_entry), length-replicate (256 - length es) no_entry)
 
--- ---- putting in and taking out
+pub kept_held : (es : List Entry) → length es ≤ 256 → Strict before (all_counted es) → T (up_to alike_limit (all_counted es)) → Kept (holding es)
+kept_held es h s u =
+    let e = entries_held es in
+    record { few = h; long = laid_long es h; strict = rw e s; small = rw e u; is = rw e }
 
-pub length-insert : (t : NetToken) (ts : List NetToken) → length (insert before t ts) ≡ suc (length ts)
-length-insert t ts =
-    let p : ℕ = place_for t ts in
-    omega (
-      arith,
-      ap length (insert-at t ts),
-      length-append (take p ts) (t ∷ drop p ts),
-      length-take-le p ts (place-within t ts),
-      length-drop p ts,
-      place-within t ts,
-    )
+-- as many entries as their number says
+pub length_held : (k : Marking) → Kept k → length (entries_in k) ≡ k.len
+length_held k p = length-take-le k.len k.entries (omega (arith, p.few, p.long))
 
-pub length_without : (t : NetToken) (ts : List NetToken) → 1 ≤ count like t ts → suc (length (without like t ts)) ≡ length ts
-length_without t [] h = absurd (omega arith)
-length_without t (x ∷ ts) h = go (like t x) h (length_without t ts)
-  where
-    go : (b : Bool) → 1 ≤ bit b + count like t ts → (1 ≤ count like t ts → suc (length (without like t ts)) ≡ length ts)
-        → suc (length (cond b ts (x ∷ without like t ts))) ≡ suc (length ts)
-    go true k f = refl
-    go false k f = ap suc (f (omega arith))
+-- kept entries are held so
+pub kept_is : (k : Marking) → Kept k → k ≡ holding (entries_in k)
+kept_is k p = let n = length_held k p in λ i. record { len = sym n i; entries = p.is i }
 
-module _ (t : NetToken) (k : Marking) where
-  pub kept-in : Kept k → k.len < 256 → Kept (put_in t k)
-  unfolding put_in
-  kept-in p h =
-      kept-held (insert before t (tokens_in k)) (omega (arith, length-insert t (tokens_in k), length-held k p))
-      (insert-sorted before held_order t (tokens_in k) p.sorted)
+-- net-tokens that are counted to these entries are held by these
+module _ (ts : List NetToken) (es : List Entry) (e : tally before like ts ≡ all_counted es) where
+  pub held_is : holding es ≡ held_by ts
+  unfolding held_by
+  held_is = rw e (ap holding (sym (entries_counted es)))
 
-  pub kept_out : Kept k → 1 ≤ count like t (tokens_in k) → Kept (holding (without like t (tokens_in k)))
-  kept_out p h =
-      kept-held (without like t (tokens_in k)) (omega (arith, length_without t (tokens_in k) h, length-held k p, p.few))
-      (sorted-without before held_order like t (tokens_in k) p.sorted)
+-- a kept marking is held by its net-tokens
+pub kept_by : (k : Marking) → Kept k → k ≡ held_by (tokens_in k)
+kept_by k p = kept_is k p ∙ held_is (tokens_in k) (entries_in k) (tally_spelt before like held_order held_alike (all_counted (entries_in k)) p.strict)
+
+-- net-tokens that there is room for are kept, and are those that are held
+module _ (room : ℕ) (ts : List NetToken) (few : room ≤ 256) (h : fits before like room alike_limit ts ≡ true) where
+  pub kept_tally : ((held_by ts).len ≤ room) × Kept (held_by ts)
+  unfolding held_by fits
+  kept_tally =
+      let cs = tally before like ts in
+      let t : T (leb (length cs) room && up_to alike_limit cs) = true_is h in
+      let n : length (map as_entry cs) ≡ length cs = length-map cs as_entry in
+      let l : length cs ≤ room = leb→le (length cs) room (and_l (leb (length cs) room) (up_to alike_limit cs) t) in
+      let e : all_counted (map as_entry cs) ≡ cs = counted_entries cs in (
+        omega (arith, n, l),
+        kept_held (map as_entry cs) (omega (arith, n, l)) (rw e (tally_strict before like held_order held_alike ts))
+            (rw e (and_r (leb (length cs) room) (up_to alike_limit cs) t)),
+      )
+
+pub tokens_tally : (ts : List NetToken) (x : NetToken) → count like x (tokens_in (held_by ts)) ≡ count like x ts
+unfolding held_by
+tokens_tally ts x =
+    let cs = tally before like ts in
+    ap (λ (es : List Entry). count like x (spelt_out es)) (entries_held (map as_entry cs)) ∙ ap (λ (l : List (Counted NetToken)). count like x (spelt l)) (counted_entries cs)
+    ∙ count_tally before like held_order held_alike x ts
+
+-- two kept markings with the same net-tokens are equal
+pub kept_once : (k j : Marking) → Kept k → Kept j → Same like (tokens_in k) (tokens_in j) → k ≡ j
+kept_once k j p q h =
+    let e : all_counted (entries_in k) ≡ all_counted (entries_in j) = one_tally before like held_order held_alike _ _ p.strict q.strict h in
+    kept_is k p ∙ ap holding (sym (entries_counted (entries_in k)) ∙ ap (map as_entry) e ∙ entries_counted (entries_in j)) ∙ sym (kept_is j q)
 
 -- ---- the test of the order decides it
 
-pub ascending-sorted : (ts : List NetToken) → ascending ts ≡ true → Sorted before ts
-ascending-sorted [] e = tt
-ascending-sorted (t ∷ []) e = (tt, tt)
-ascending-sorted (t ∷ u ∷ ts) e =
-    let b : before t u ≡ true = is_true (before t u) (and_l (before t u) (ascending (u ∷ ts)) (true_is e)) in
-    let d : ascending (u ∷ ts) ≡ true = is_true (ascending (u ∷ ts)) (and_r (before t u) (ascending (u ∷ ts)) (true_is e)) in
-    subst (λ (x : Bool). Sorted before (cond x (t ∷ u ∷ ts) (u ∷ insert before t ts))) b
-    (insert-sorted before held_order t (u ∷ ts) (ascending-sorted (u ∷ ts) d))
+pub ascending_rising : (es : List Entry) → ascending es ≡ true → Sorted (under before) (tokens es)
+ascending_rising [] e = tt
+ascending_rising (e ∷ []) h = (tt, tt)
+ascending_rising (e ∷ f ∷ es) h =
+    let b : T (under before e.token f.token) = and_l (under before e.token f.token) (ascending (f ∷ es)) (true_is h) in
+    let s : Sorted (under before) (tokens (f ∷ es)) =
+    ascending_rising (f ∷ es) (is_true (ascending (f ∷ es)) (and_r (under before e.token f.token) (ascending (f ∷ es)) (true_is h))) in
+    ((b, below_under before like held_order held_alike e.token f.token (tokens es) (under_le before like held_order held_alike e.token f.token b) s.0), s)
 
-pub sorted-ascending : (ts : List NetToken) → Sorted before ts → ascending ts ≡ true
-sorted-ascending [] s = refl
-sorted-ascending (t ∷ []) s = refl
-sorted-ascending (t ∷ x ∷ ts) s =
-    is_true (before t x && ascending (x ∷ ts)) (and_i (before t x) (ascending (x ∷ ts)) s.0.0 (true_is (sorted-ascending (x ∷ ts) s.1)))
+pub rising_ascending : (es : List Entry) → Sorted (under before) (tokens es) → ascending es ≡ true
+rising_ascending [] s = refl
+rising_ascending (e ∷ []) s = refl
+rising_ascending (e ∷ f ∷ es) s =
+    is_true _ (and_i (under before e.token f.token) (ascending (f ∷ es)) s.0.0 (true_is (rising_ascending (f ∷ es) s.1)))
 
 -- ---- the test of the room decides it
 
-empty-are : (l : List NetToken) → every (like no_token) l ≡ true → l ≡ replicate (length l) no_token
-empty-are [] e = refl
-empty-are (t ∷ l) e =
-    let p : no_token ≡ t = held_alike.same no_token t (and_l (like no_token t) (every (like no_token) l) (true_is e)) in
-    let q : l ≡ replicate (length l) no_token = empty-are l (is_true (every (like no_token) l) (and_r (like no_token t) (every (like no_token) l) (true_is e))) in
+unused_is : (e : Entry) → T (unused e) → no_entry ≡ e
+unused_is e t =
+    let p : no_token ≡ e.token = held_alike.same no_token e.token (and_l (like no_token e.token) (eqb e.times 0) t) in
+    let q : e.times ≡ 0 = eqb→eq e.times 0 (and_r (like no_token e.token) (eqb e.times 0) t) in
+    λ i. record { token = p i; times = sym q i }
+
+unused_are : (l : List Entry) → every unused l ≡ true → l ≡ replicate (length l) no_entry
+unused_are [] e = refl
+unused_are (f ∷ l) e =
+    let p : no_entry ≡ f = unused_is f (and_l (unused f) (every unused l) (true_is e)) in
+    let q : l ≡ replicate (length l) no_entry = unused_are l (is_true (every unused l) (and_r (unused f) (every unused l) (true_is e))) in
     λ i. sym p i ∷ q i
 
-every-empty : (n : ℕ) → every (like no_token) (replicate n no_token) ≡ true
-every-empty zero = refl
-every-empty (suc n) = every-empty n
+every_unused : (n : ℕ) → every unused (replicate n no_entry) ≡ true
+every_unused zero = refl
+every_unused (suc n) = every_unused n
+
+-- the room behind entries that are laid
+pub room_unused : (es : List Entry) → every unused (drop (length es) (laid es)) ≡ true
+room_unused es = ap (every unused) (drop_at es (replicate (256 - length es) no_entry) (length es) refl) ∙ every_unused (256 - length es)
 
 module _ (k : Marking) where
-  pub kept_test : k.len ≤ 256 → length k.tokens ≡ 256 → ascending (tokens_in k) ≡ true → every (like no_token) (drop k.len k.tokens) ≡ true → Kept k
-  kept_test h m e z =
-      let n : length (drop k.len k.tokens) ≡ 256 - length (tokens_in k) =
-      omega (arith, length-drop k.len k.tokens, length-take-le k.len k.tokens (omega arith)) in
+  pub kept_test : k.len ≤ 256 → length k.entries ≡ 256 → ascending (entries_in k) ≡ true → T (there (all_counted (entries_in k)))
+      → T (up_to alike_limit (all_counted (entries_in k))) → every unused (drop k.len k.entries) ≡ true → Kept k
+  kept_test h m e t u z =
+      let n : length (drop k.len k.entries) ≡ 256 - length (entries_in k) =
+      omega (arith, length-drop k.len k.entries, length-take-le k.len k.entries (omega arith)) in
       record {
         few = h;
         long = m;
-        sorted = ascending-sorted (tokens_in k) e;
-        is = sym (take-append-drop k.len k.tokens)
-            ∙ ap (λ (d : List NetToken). tokens_in k ++ d) (empty-are (drop k.len k.tokens) z)
-            ∙ ap (λ (i : ℕ). tokens_in k ++ replicate i no_token) n;
+        strict = record { rising = ascending_rising (entries_in k) e; some = t };
+        small = u;
+        is = sym (take-append-drop k.len k.entries)
+            ∙ ap (λ (d : List Entry). entries_in k ++ d) (unused_are (drop k.len k.entries) z)
+            ∙ ap (λ (i : ℕ). entries_in k ++ replicate i no_entry) n;
       }
-
-  pub test-kept : Kept k → (ascending (tokens_in k) ≡ true) × (every (like no_token) (drop k.len k.tokens) ≡ true)
-  test-kept p =
-      let room : List NetToken = replicate (256 - length (tokens_in k)) no_token in
-      let d : drop k.len k.tokens ≡ room =
-      ap (λ (l : List NetToken). drop k.len l) p.is ∙ drop_at (tokens_in k) room k.len (length-held k p) in
-      (sorted-ascending (tokens_in k) p.sorted, ap (every (like no_token)) d ∙ every-empty (256 - length (tokens_in k)))
 
 -- ---- places
 
--- the place of net-token i, whatever is read past the last
-pub place_at : (ts : List NetToken) (i : ℕ) (d : NetToken) → OnPlaces ts → i < length ts → (1 ≤ (get_or ts i d).place) × ((get_or ts i d).place ≤ 32)
+-- the place of entry i, whatever is read past the last
+pub place_at : (es : List Entry) (i : ℕ) (d : Entry) → OnPlaces es → i < length es → (1 ≤ (get_or es i d).token.place) × ((get_or es i d).token.place ≤ 32)
 place_at [] i d p h = absurd (omega arith)
-place_at (t ∷ ts) zero d p h = (p.0, p.1)
-place_at (t ∷ ts) (suc i) d p h = place_at ts i d p.2 (omega arith)
+place_at (e ∷ es) zero d p h = (p.0, p.1)
+place_at (e ∷ es) (suc i) d p h = place_at es i d p.2 (omega arith)

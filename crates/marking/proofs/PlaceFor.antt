@@ -1,4 +1,4 @@
--- A net-token's place in an ascending list: what stands before it and behind it, and what inserting, removing and counting there do.
+-- A net-token's place in an ascending list: what stands before it and behind it, and that none like it stands elsewhere.
 use Prim.Native.Nat.{ℕ, zero, suc, ◌+◌, ◌≤◌, ◌<◌}
 use mathlib.Core.Path.{◌≡◌, refl, ap, sym, ◌∙◌}
 use mathlib.Core.Logic.{⊎_elim}
@@ -10,14 +10,16 @@ use native.Mathlib.Omega.{arith}
 use lib.Dec.{T}
 use lib.ListN.{length, get_or, take, drop, drop_of_length-le}
 use lib.Seq.{drop-cons}
-use Rattle.std.specs.List.{prefix_len, IsAllAdjacentAnswer}
+use Rattle.std.specs.List.{IsAllAdjacentAnswer}
 use Rattle.std.specs.List.Sorted.{IsPartitionPoint, IsPartitionedBy}
 use borrow.Author.Tests.{not-true, not-false}
 use Rattle.text.proofs.Basics.{by_test}
-use Rattle.eos.specs.Multiset.{bit, count, without, insert, Below, Sorted}
+use Rattle.eos.specs.Multiset.{bit, count, insert, Below, Sorted}
+use Rattle.eos.specs.Counted.{under}
 use Rattle.eos.proofs.Basics.{true_is, false_is}
-use Rattle.marking.specs.Tokens.{like, before, no_token, place_for, ascending}
+use Rattle.marking.specs.Tokens.{like, before, no_token, no_entry, tokens, place_for, ascending}
 use Rattle.marking.specs.declared.NetToken.{NetToken}
+use Rattle.marking.specs.declared.Entry.{Entry}
 use Rattle.marking.proofs.TokenOrder.{held_alike, held_order}
 
 is_false : (t : Bool) → (T t → ⊥) → t ≡ false
@@ -84,17 +86,6 @@ count_from r (x ∷ rs) = go (before r x) refl (count_from r rs)
     go true t e = refl
     go false t e = rw (apart r x t) (omega arith)
 
-pub without_at : (r : NetToken) (rs : List NetToken) → place_for r rs < length rs → like r (get_or rs (place_for r rs) no_token) ≡ true
-    → without like r rs ≡ take (place_for r rs) rs ++ drop (suc (place_for r rs)) rs
-without_at r [] h e = absurd (omega arith)
-without_at r (x ∷ rs) h e = go (before r x) refl h e (without_at r rs)
-  where
-    go : (k : Bool) → before r x ≡ k → cond k 0 (suc (place_for r rs)) < suc (length rs) → like r (get_or (x ∷ rs) (cond k 0 (suc (place_for r rs))) no_token) ≡ true
-        → (place_for r rs < length rs → like r (get_or rs (place_for r rs) no_token) ≡ true → without like r rs ≡ take (place_for r rs) rs ++ drop (suc (place_for r rs)) rs)
-        → cond (like r x) rs (x ∷ without like r rs) ≡ take (cond k 0 (suc (place_for r rs))) (x ∷ rs) ++ drop (suc (cond k 0 (suc (place_for r rs)))) (x ∷ rs)
-    go true t l f g = rw f
-    go false t l f g = rw (apart r x t) (ap (λ (m : List NetToken). x ∷ m) (g (omega arith) f))
-
 -- net-tokens from one on that is above r
 above : (r x : NetToken) (rs : List NetToken) → T (before r x) → like r x ≡ false → Below before x rs → count like r rs ≡ 0
 above r x [] l e b = refl
@@ -111,9 +102,6 @@ sorted-drop (x ∷ rs) zero s = s
 sorted-drop (x ∷ rs) (suc i) s = sorted-drop rs i s.1
 
 module _ (r : NetToken) (rs : List NetToken) (i : ℕ) where
-  pub count_on : i < length rs → like r (get_or rs i no_token) ≡ true → count like r (drop i rs) ≡ suc (count like r (drop (i + 1) rs))
-  count_on h e = rw (add-one, drop-cons rs i no_token, e) (omega arith)
-
   pub count_done : length rs ≤ i → count like r (drop i rs) ≡ 0
   count_done h = rw (drop_of_length-le rs {i = i} h)
 
@@ -127,74 +115,65 @@ module _ (r : NetToken) (rs : List NetToken) (i : ℕ) where
 
 -- ---- what the library's searches answer
 
--- net-tokens from one on that r is at most: those that are r are the first of them
-run_from : (r : NetToken) (rs : List NetToken) → ((d : NetToken) → 0 < length rs → T (before r (get_or rs 0 d))) → Sorted before rs
-    → count like r rs ≡ prefix_len (like r) rs
-run_from r [] l s = refl
-run_from r (x ∷ rs) l s = go (like r x) refl (run_from r rs)
-  where
-    next : (ys : List NetToken) → r ≡ x → Below before x ys → (d : NetToken) → 0 < length ys → T (before r (get_or ys 0 d))
-    next [] e t d h = absurd (omega arith)
-    next (y ∷ ys) e t d h = rw e t.0
+-- the net-token of entry i
+pub token_at : (es : List Entry) (i : ℕ) (d : Entry) → get_or (tokens es) i d.token ≡ (get_or es i d).token
+token_at [] i d = refl
+token_at (e ∷ es) zero d = refl
+token_at (e ∷ es) (suc i) d = token_at es i d
 
-    go : (k : Bool) → like r x ≡ k
-        → (((d : NetToken) → 0 < length rs → T (before r (get_or rs 0 d))) → Sorted before rs → count like r rs ≡ prefix_len (like r) rs)
-        → bit k + count like r rs ≡ cond k (1 + prefix_len (like r) rs) 0
-    go true e f = omega (arith, f (next rs (held_alike.same r x (true_is e)) s.0) s.1)
-    go false e f = omega (arith, above r x rs (l x (omega arith)) e s.0)
+pub length_tokens : (es : List Entry) → length (tokens es) ≡ length es
+length_tokens [] = refl
+length_tokens (e ∷ es) = ap suc (length_tokens es)
 
--- those that are r are the first from the place of r on
-pub count_run : (r : NetToken) (rs : List NetToken) → Sorted before rs → count like r rs ≡ prefix_len (like r) (drop (place_for r rs) rs)
-count_run r [] s = refl
-count_run r (x ∷ rs) s = go (before r x) refl (count_run r rs s.1)
-  where
-    go : (k : Bool) → before r x ≡ k → count like r rs ≡ prefix_len (like r) (drop (place_for r rs) rs)
-        → bit (like r x) + count like r rs ≡ prefix_len (like r) (drop (cond k 0 (suc (place_for r rs))) (x ∷ rs))
-    go true e h = run_from r (x ∷ rs) (λ d n. true_is e) s
-    go false e h = rw (apart r x e) (omega (arith, h))
-
--- where net-tokens are parted by being before r, r has its place
-pub parted : (r : NetToken) (rs : List NetToken) → Sorted before rs → IsPartitionedBy (λ x. not (before r x)) rs
-parted r rs s i j d h k e =
-    by_test (before r (get_or rs i d))
-    (λ t. absurd (omega (arith, place_le d r rs i (omega arith) t, place_gt d r rs j s k (not-true _ e))))
+-- where entries are parted by being before r, r has its place
+pub parted : (r : NetToken) (es : List Entry) → Sorted before (tokens es) → IsPartitionedBy (λ e. not (before r e.token)) es
+parted r es s i j d h k e =
+    let n = length_tokens es in
+    by_test (before r (get_or es i d).token)
+    (λ t.
+    let low = place_le d.token r (tokens es) i (omega arith) (ap (before r) (token_at es i d) ∙ t) in
+    let high = place_gt d.token r (tokens es) j s (omega arith) (ap (before r) (token_at es j d) ∙ not-true _ e) in
+    absurd (omega (arith, low, high)))
     (λ f. rw f)
 
-pub place_is : (r : NetToken) (rs : List NetToken) (p : ℕ) → Sorted before rs → p ≤ length rs
-    → IsPartitionPoint (λ x. not (before r x) ≡ true) (λ x. not (before r x) ≡ false) rs p → p ≡ place_for r rs
-place_is r rs p s h q = omega (arith, low, high)
+pub place_is : (r : NetToken) (es : List Entry) (p : ℕ) → Sorted before (tokens es) → p ≤ length es
+    → IsPartitionPoint (λ e. not (before r e.token) ≡ true) (λ e. not (before r e.token) ≡ false) es p → p ≡ place_for r (tokens es)
+place_is r es p s h q = omega (arith, low, high)
   where
-    high : place_for r rs ≤ p
+    n : length (tokens es) ≡ length es
+    n = length_tokens es
+
+    high : place_for r (tokens es) ≤ p
     high =
         ⊎_elim
-        (λ (k : p < length rs). place_le no_token r rs p k (not-false _ (q.1 p no_token (omega arith) k)))
-        (λ (k : length rs ≤ p). omega (arith, place-within r rs)) (cases_lt p (length rs))
+        (λ (k : p < length es). place_le no_token r (tokens es) p (omega (arith, n)) (ap (before r) (token_at es p no_entry) ∙ not-false _ (q.1 p no_entry (omega arith) k)))
+        (λ (k : length es ≤ p). omega (arith, n, place-within r (tokens es))) (cases_lt p (length es))
 
-    front : (p : ℕ) → p ≤ length rs → ((k : ℕ) (d : NetToken) → 0 ≤ k → k < p → not (before r (get_or rs k d)) ≡ true) → p ≤ place_for r rs
+    front : (p : ℕ) → p ≤ length es → ((k : ℕ) (d : Entry) → 0 ≤ k → k < p → not (before r (get_or es k d).token) ≡ true) → p ≤ place_for r (tokens es)
     front zero h f = omega arith
-    front (suc k) h f = omega (arith, place_gt no_token r rs k s (omega arith) (not-true _ (f k no_token (omega arith) (omega arith))))
+    front (suc k) h f =
+        omega (arith, place_gt no_token r (tokens es) k s (omega (arith, n)) (ap (before r) (token_at es k no_entry) ∙ not-true _ (f k no_entry (omega arith) (omega arith))))
 
-    low : p ≤ place_for r rs
+    low : p ≤ place_for r (tokens es)
     low = front p h q.0
 
--- net-tokens that rise step by step
-rising : (rs : List NetToken) → ((k : ℕ) (d : NetToken) → suc k < length rs → before (get_or rs k d) (get_or rs (suc k) d) ≡ true) → true ≡ ascending rs
+-- entries that rise step by step
+rising : (es : List Entry) → ((k : ℕ) (d : Entry) → suc k < length es → under before (get_or es k d).token (get_or es (suc k) d).token ≡ true) → true ≡ ascending es
 rising [] h = refl
-rising (t ∷ []) h = refl
-rising (t ∷ u ∷ rs) h = rw (h 0 t (omega arith)) (rising (u ∷ rs) (λ k d q. h (suc k) d (omega arith)))
+rising (e ∷ []) h = refl
+rising (e ∷ f ∷ es) h = rw (h 0 e (omega arith)) (rising (f ∷ es) (λ k d q. h (suc k) d (omega arith)))
 
-falling : (rs : List NetToken) (k : ℕ) → suc k < length rs → ((d : NetToken) → before (get_or rs k d) (get_or rs (suc k) d) ≡ false) → false ≡ ascending rs
+falling : (es : List Entry) (k : ℕ) → suc k < length es → ((d : Entry) → under before (get_or es k d).token (get_or es (suc k) d).token ≡ false) → false ≡ ascending es
 falling [] k q h = absurd (omega arith)
-falling (t ∷ []) k q h = absurd (omega arith)
-falling (t ∷ u ∷ rs) zero q h = rw (h t)
-falling (t ∷ u ∷ rs) (suc k) q h = go (before t u) (falling (u ∷ rs) k (omega arith) h)
+falling (e ∷ []) k q h = absurd (omega arith)
+falling (e ∷ f ∷ es) zero q h = rw (h e)
+falling (e ∷ f ∷ es) (suc k) q h = go (under before e.token f.token) (falling (f ∷ es) k (omega arith) h)
   where
-    go : (b : Bool) → false ≡ ascending (u ∷ rs) → false ≡ b && ascending (u ∷ rs)
+    go : (b : Bool) → false ≡ ascending (f ∷ es) → false ≡ b && ascending (f ∷ es)
     go true e = e
     go false e = refl
 
 -- the library's test of an order that is theirs
-pub ascending_is : (le : NetToken → NetToken → Bool) → ((s t : NetToken) → le s t ≡ before s t) → (rs : List NetToken) (b : Bool)
-    → IsAllAdjacentAnswer (λ x y b. le x y ≡ b) rs b → b ≡ ascending rs
-ascending_is le e rs true h = rising rs (λ k d q. sym (e _ _) ∙ rw add-one at (h k d (rw add-one q)))
-ascending_is le e rs false h = falling rs h.0 (rw add-one at h.1) (λ d. sym (e _ _) ∙ rw add-one at (h.2 d))
+pub ascending_is : (es : List Entry) (b : Bool) → IsAllAdjacentAnswer (λ e f b. b ≡ under before e.token f.token) es b → b ≡ ascending es
+ascending_is es true h = rising es (λ k d q. sym (rw add-one at (h k d (rw add-one q))))
+ascending_is es false h = falling es h.0 (rw add-one at h.1) (λ d. sym (rw add-one at (h.2 d)))

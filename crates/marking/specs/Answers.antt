@@ -1,14 +1,15 @@
 -- How net-tokens that are read are held.
+use Rattle.eos.specs.Counted.{spelt}
 use Rattle.eos.specs.Model as eos
 use Rattle.text.specs.declared.TokenLine.{TokenLine}
 use Rattle.marking.specs.Held.{hold_marking}
-use Rattle.marking.specs.declared.NetToken.{NetToken}
+use Rattle.marking.specs.declared.Entry.{Entry}
 use Rattle.marking.specs.declared.Marking.{Marking}
 
--- a net-token as its line says it
-abbrev pub hold_line : TokenLine → NetToken
-hold_line line = record { place = line.place; counts = line.counts }
+-- net-tokens as their line says them
+abbrev pub entry_line : TokenLine → Entry
+entry_line line = record { token = record { place = line.place; counts = line.counts }; times = line.times }
 
 -- in canonical order, whatever the order of their lines
-abbrev pub hold_block : eos.Marking → Marking
-hold_block ts = hold_marking (eos.canonical ts)
+abbrev pub hold_block : eos.Lines → Marking
+hold_block ls = hold_marking (eos.canonical (spelt ls))

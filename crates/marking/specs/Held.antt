@@ -1,12 +1,16 @@
--- How a marking is held: its net-tokens in canonical order, each with 32 counts, unused room 0. And which held markings are right.
+-- How a marking is held: each unlike net-token once, in canonical order, with its count and with 32 counts inside, unused room 0. And which
+-- held markings are right.
 use Rattle.std.specs.Prelude.{ℕ, suc, ◌-◌, ◌≤◌, ◌≡◌, Bool, true, ◌&&◌, List, map, eqb, leb, length, take, drop, get_or, replicate}
 use Rattle.text.specs.Lines.{in_range, every}
 use Rattle.text.specs.Answers.{padded}
 use Rattle.eos.specs.Vector.{eq_v}
+use Rattle.eos.specs.Counted.{Counted, counted, spelt, grouped}
 use Rattle.eos.specs.Model as eos
-use Rattle.model.specs.Limits.{count_limit, room_limit}
-use Rattle.marking.specs.Tokens.{row, like, no_token, holding, tokens_in, ascending}
+use Rattle.eos.specs.Room as theory
+use Rattle.model.specs.Limits.{count_limit, alike_limit, room_limit}
+use Rattle.marking.specs.Tokens.{row, no_entry, unused, holding, entries_in, ascending}
 use Rattle.marking.specs.declared.NetToken.{NetToken}
+use Rattle.marking.specs.declared.Entry.{Entry}
 use Rattle.marking.specs.declared.Marking.{Marking}
 use Rattle.marking.specs.declared.PlaceSizes.{PlaceSizes}
 
@@ -34,35 +38,59 @@ Roomy z = (p : ℕ) → z.size p ≤ 32
 abbrev pub hold_token : eos.NetToken → NetToken
 hold_token t = record { place = suc t.place; counts = padded t.inside }
 
+-- so many of one
+abbrev pub hold_line : Counted eos.NetToken → Entry
+hold_line l = record { token = hold_token l.one; times = l.times }
+
+-- a marking in canonical order, neighbours that are like in one entry
 unfoldable pub hold_marking : eos.Marking → Marking
-hold_marking μ = holding (map hold_token μ)
+hold_marking μ = holding (map hold_line (grouped eos.like μ))
 
 -- no net-token
 abbrev pub no_marking : Marking
-no_marking = record { len = 0; tokens = replicate room_limit no_token }
+no_marking = record { len = 0; entries = replicate room_limit no_entry }
 
 -- what a held marking stands for
 abbrev pub token_of : Sizes → NetToken → eos.NetToken
 token_of z t = record { place = t.place - 1; inside = take (z.size t.place) t.counts }
 
+abbrev pub line_of : Sizes → Entry → Counted eos.NetToken
+line_of z e = counted (token_of z e.token) e.times
+
+abbrev pub lines_of : Sizes → Marking → eos.Lines
+lines_of z k = map (line_of z) (entries_in k)
+
 unfoldable pub tokens_of : Sizes → Marking → eos.Marking
-tokens_of z k = map (token_of z) (tokens_in k)
+tokens_of z k = spelt (lines_of z k)
+
+-- what a marking with so many entries has room for
+abbrev pub room_of : ℕ → theory.Room
+room_of room = record { unlike = room; alike = alike_limit; counts = count_limit }
+
+-- the test of 12
+abbrev pub has_room : ℕ → eos.Marking → Bool
+has_room room μ = theory.has_room (room_of room) μ
 
 -- a net-token's place is one of the model's, and what follows the counts of the place is 0
 unfoldable pub held_token : Sizes → NetToken → Bool
 held_token z t = in_range 1 z.places t.place && eq_v t.counts (padded (take (z.size t.place) t.counts))
 
--- 01's cause 14, of n lent net-tokens: no more than there is room for, in canonical order, unused room 0, each right
-unfoldable pub held_tokens : ℕ → Sizes → ℕ → List NetToken → Bool
-held_tokens room z n ts =
-    leb n room && (ascending (take n ts) && (every (like no_token) (drop n ts) && every (held_token z) (take n ts)))
+-- an entry's net-token is right, and its count is from 1 to 65,535
+abbrev pub held_entry : Sizes → Entry → Bool
+held_entry z e = held_token z e.token && in_range 1 alike_limit e.times
+
+-- 01's cause 14, of n lent entries: no more than there is room for, in strictly ascending order, unused room 0, each right
+unfoldable pub held_entries : ℕ → Sizes → ℕ → List Entry → Bool
+held_entries room z n es =
+    leb n room && (ascending (take n es) && (every unused (drop n es) && every (held_entry z) (take n es)))
 
 -- the same of a held marking
 abbrev pub held_marking : ℕ → Sizes → Marking → Bool
-held_marking room z k = held_tokens room z k.len k.tokens
+held_marking room z k = held_entries room z k.len k.entries
 
--- what every held marking is in code: an array of 256 net-tokens, each with 32 counts, of numbers of 16 bits
+-- what every held marking is in code: an array of 256 entries, each with 32 counts, of numbers of 16 bits
 pub record SizedMarking (k : Marking) : Type 0 where
-  pub long : length k.tokens ≡ room_limit
-  pub wide : every (λ t. eqb (length t.counts) 32) k.tokens ≡ true
-  pub small : every (λ t. every (λ v. leb v count_limit) (row t)) k.tokens ≡ true
+  pub long : length k.entries ≡ room_limit
+  pub wide : every (λ e. eqb (length e.token.counts) 32) k.entries ≡ true
+  pub small : every (λ e. every (λ v. leb v count_limit) (row e.token)) k.entries ≡ true
+  pub few : every (λ e. leb e.times alike_limit) k.entries ≡ true

@@ -3,9 +3,9 @@
 
 ghost use Rattle.std.specs.Prelude.{◌≡◌, ◌≤◌, length};
 ghost use Rattle.model.specs.Limits.{room_limit};
-ghost use Rattle.marking.specs.Tokens.{no_token, tokens_in};
+ghost use Rattle.marking.specs.Tokens.{no_token, no_entry, entries_in};
 ghost use Rattle.marking.specs.Held.{no_marking, as_sizes};
-ghost use Rattle.marking.specs.Answers.{hold_line};
+ghost use Rattle.marking.specs.Answers.{entry_line};
 
 use model::Model;
 use text::TokenLine;
@@ -31,23 +31,50 @@ impl NetToken {
     }
 }
 
-// A net-token as its line says it.
-impl From<TokenLine> for NetToken {
-    ghost from_gives = { λ line token. token ≡ hold_line line };
+// An entry: a net-token, and how many of it there are; in unused room both are empty.
+#[repr(C)]
+#[derive(Clone, Copy)]
+pub struct Entry {
+    pub token: NetToken,
+    pub times: u16,
+}
 
-    fn from(line: TokenLine) -> NetToken {
-        let TokenLine { place, counts } = line;
-        NetToken { place, counts }
+impl Entry {
+    // Unused room.
+    pub fn empty() -> Entry
+        ensures { result ≡ no_entry }
+    {
+        Entry {
+            token: NetToken::empty(),
+            times: 0,
+        }
     }
 }
 
-// Net-tokens in canonical order, as many as there is room for; unused room is empty. Their number stands beside the array, as C holds them. C
-// may store any: what is known of a held marking is asked where it is needed, and is no fact of the type.
+// Net-tokens as their line says them.
+impl From<TokenLine> for Entry {
+    ghost from_gives = { λ line entry. entry ≡ entry_line line };
+
+    fn from(line: TokenLine) -> Entry {
+        let TokenLine {
+            place,
+            counts,
+            times,
+        } = line;
+        Entry {
+            token: NetToken { place, counts },
+            times,
+        }
+    }
+}
+
+// Entries in canonical order, each unlike net-token once, as many as there is room for; unused room is empty. Their number stands beside the
+// array, as C holds them. C may store any: what is known of a held marking is asked where it is needed, and is no fact of the type.
 #[repr(C)]
 #[derive(Clone, Copy)]
 pub struct Marking {
     pub len: usize,
-    pub tokens: [NetToken; Marking::ROOM],
+    pub entries: [Entry; Marking::ROOM],
 }
 
 impl Marking {
@@ -59,25 +86,25 @@ impl Marking {
     {
         Marking {
             len: 0,
-            tokens: [NetToken::empty(); Marking::ROOM],
+            entries: [Entry::empty(); Marking::ROOM],
         }
     }
 
-    // How many net-tokens it has room for.
+    // How many entries it has room for.
     pub fn room(&self) -> usize
         ensures value { result ≡ room_limit }
-        ensures tokens { length self.now.tokens ≡ room_limit }
+        ensures entries { length self.now.entries ≡ room_limit }
     {
-        self.tokens.len()
+        self.entries.len()
     }
 
-    // The net-tokens that it holds.
-    pub fn held(&self) -> &[NetToken]
+    // The entries that it holds.
+    pub fn held(&self) -> &[Entry]
         requires { self.now.len ≤ room_limit }
-        ensures tokens { result.now ≡ tokens_in self.now }
-        ensures room { length self.now.tokens ≡ room_limit }
+        ensures entries { result.now ≡ entries_in self.now }
+        ensures room { length self.now.entries ≡ room_limit }
     {
-        &self.tokens[..self.len]
+        &self.entries[..self.len]
     }
 }
 

@@ -6,11 +6,11 @@ ghost use Rattle.text.specs.Lines.{every};
 ghost use Rattle.model.specs.Limits.{room_limit};
 ghost use Rattle.model.specs.Held.{listed, no_net};
 ghost use Rattle.model.specs.Test.{held_model};
-ghost use Rattle.marking.specs.Tokens.{like, no_token, ascending};
-ghost use Rattle.marking.specs.Held.{as_sizes, held_token, held_tokens, held_marking};
+ghost use Rattle.marking.specs.Tokens.{unused, ascending};
+ghost use Rattle.marking.specs.Held.{as_sizes, held_token, held_entry, held_entries, held_marking};
 ghost use Rattle.marking.specs.Sizes.{size_of_type, sizes_in, place_sizes};
 
-use marking::{Marking, NetToken, PlaceSizes};
+use marking::{Entry, Marking, NetToken, PlaceSizes};
 use model::{Model, ObjectNet};
 use std::array;
 
@@ -22,46 +22,53 @@ fn token_held(t: &NetToken, z: &PlaceSizes) -> bool
     1 <= t.place && t.place <= z.places && t.counts.iter().skip(size).all(|count| *count == 0)
 }
 
-// Whether each of the net-tokens is right.
-fn all_held(tokens: &[NetToken], z: &PlaceSizes) -> bool
-    ensures { result ≡ every (held_token (as_sizes z.now)) tokens.now }
+// Whether an entry is right: its net-token is, and there is one at least; no number of its type is too large.
+fn entry_held(e: &Entry, z: &PlaceSizes) -> bool
+    ensures { result ≡ held_entry (as_sizes z.now) e.now }
 {
-    tokens.iter().all(|t| token_held(t, z))
+    token_held(&e.token, z) && 1 <= e.times
 }
 
-// Whether net-tokens are in ascending order.
-fn in_order(tokens: &[NetToken]) -> bool
-    ensures { result ≡ ascending tokens.now }
+// Whether each of the entries is right.
+fn all_held(entries: &[Entry], z: &PlaceSizes) -> bool
+    ensures { result ≡ every (held_entry (as_sizes z.now)) entries.now }
 {
-    tokens.is_sorted()
+    entries.iter().all(|e| entry_held(e, z))
+}
+
+// Whether entries are in strictly ascending order; their counts are no part of it.
+fn in_order(entries: &[Entry]) -> bool
+    ensures { result ≡ ascending entries.now }
+{
+    entries.is_sorted_by(|e, f| e.token < f.token)
 }
 
 // Whether room is unused.
-fn all_empty(room: &[NetToken]) -> bool
-    ensures { result ≡ every (like no_token) room.now }
+fn all_unused(room: &[Entry]) -> bool
+    ensures { result ≡ every unused room.now }
 {
     let empty = NetToken::empty();
-    room.iter().all(|t| empty == *t)
+    room.iter().all(|e| empty == e.token && e.times == 0)
 }
 
-// Whether the first n of lent net-tokens, in room for so many, are held as those of a marking of a model with such places are: no more than
-// there is room for, in canonical order, unused room 0, each right.
-pub fn tokens_held(tokens: &[NetToken], n: usize, room: usize, z: &PlaceSizes) -> bool
-    requires { room ≤ length tokens.now }
-    ensures { result ≡ held_tokens room (as_sizes z.now) n tokens.now }
+// Whether the first n of lent entries, in room for so many, are held as those of a marking of a model with such places are: no more than there is
+// room for, in strictly ascending order, unused room 0, each right.
+pub fn entries_held(entries: &[Entry], n: usize, room: usize, z: &PlaceSizes) -> bool
+    requires { room ≤ length entries.now }
+    ensures { result ≡ held_entries room (as_sizes z.now) n entries.now }
 {
     if room < n {
         return false;
     }
-    let held = &tokens[..n];
-    in_order(held) && all_empty(&tokens[n..]) && all_held(held, z)
+    let held = &entries[..n];
+    in_order(held) && all_unused(&entries[n..]) && all_held(held, z)
 }
 
 // The same of a held marking.
 pub fn is_held(k: &Marking, z: &PlaceSizes) -> bool
     ensures { result ≡ held_marking room_limit (as_sizes z.now) k.now }
 {
-    tokens_held(&k.tokens, k.len, Marking::ROOM, z)
+    entries_held(&k.entries, k.len, Marking::ROOM, z)
 }
 
 // For each type, from that of black tokens on, how many counts a net-token has.

@@ -2,14 +2,16 @@
 #![tactic(auto)]
 
 ghost use Rattle.std.specs.Prelude.{◌≡◌, true, ◌+◌, ◌*◌, ◌≤◌, length};
-ghost use Rattle.text.specs.Printed.{decimal, end_text, texts};
+ghost use Rattle.text.specs.Printed.{decimal, end_text, counts_text, texts};
+ghost use Rattle.text.specs.Bytes.{lf};
 ghost use Rattle.text.specs.Writing.{lay};
 ghost use Rattle.text_write.specs.Place.{Lays};
+ghost use Rattle.eos.specs.Model as eos;
 ghost use Rattle.model.specs.Limits.{room_limit};
 ghost use Rattle.marking.specs.Held.{as_sizes, Roomy, tokens_of, held_marking};
 ghost use Rattle.marking.specs.Printed.{held_text, block_text};
 
-use marking::{Marking, NetToken, PlaceSizes};
+use marking::{Entry, Marking, PlaceSizes};
 use text::TooSmall;
 use text_write::{Writer, width};
 
@@ -20,10 +22,10 @@ fn digits(value: u16) -> usize
     width(u64::from(value))
 }
 
-// How many bytes a list has, to the end of its line.
+// How many bytes a list has, with the byte that ends it.
 fn list_length(values: &[u16]) -> usize
     requires { length values.now ≤ 32 }
-    ensures { (result ≡ length (end_text decimal values.now)) × (result ≤ 192) }
+    ensures { (result ≡ length (end_text decimal lf values.now)) × (result ≤ 192) }
 {
     if values.is_empty() {
         return 1;
@@ -35,51 +37,76 @@ fn list_length(values: &[u16]) -> usize
     bytes
 }
 
-// How many bytes the line of a net-token has.
-fn token_length(t: &NetToken, z: &PlaceSizes) -> usize
-    requires { Roomy (as_sizes z.now) }
-    ensures { (result ≡ length (held_text (as_sizes z.now) t.now)) × (result ≤ 204) }
+// How many bytes the counts of a line have, with `*n` where it stands for more than one net-token, to the end of the line.
+fn counts_length(counts: &[u16], times: u16) -> usize
+    requires { length counts.now ≤ 32 }
+    ensures { (result ≡ length (counts_text counts.now times)) × (result ≤ 198) }
 {
-    let counts = &t.counts[..z.size_at(t.place)];
-    7 + digits(t.place) + list_length(counts)
+    let list = list_length(counts);
+    if times == 1 {
+        return list;
+    }
+    list + digits(times) + 1
 }
 
-// How many bytes the lines of net-tokens have.
-fn tokens_length(tokens: &[NetToken], z: &PlaceSizes) -> usize
-    requires { (length tokens.now ≤ room_limit) × Roomy (as_sizes z.now) }
-    ensures { (result ≡ length (texts (held_text (as_sizes z.now)) tokens.now)) × (result ≤ length tokens.now * 204) }
+// How many bytes the line of an entry has.
+fn line_length(e: &Entry, z: &PlaceSizes) -> usize
+    requires { Roomy (as_sizes z.now) }
+    ensures { (result ≡ length (held_text (as_sizes z.now) e.now)) × (result ≤ 210) }
+{
+    let counts = &e.token.counts[..z.size_at(e.token.place)];
+    7 + digits(e.token.place) + counts_length(counts, e.times)
+}
+
+// How many bytes the lines of entries have.
+fn lines_length(entries: &[Entry], z: &PlaceSizes) -> usize
+    requires { (length entries.now ≤ room_limit) × Roomy (as_sizes z.now) }
+    ensures { (result ≡ length (texts (held_text (as_sizes z.now)) entries.now)) × (result ≤ length entries.now * 210) }
 {
     let mut bytes = 0;
-    for t in tokens {
-        bytes += token_length(t, z);
+    for e in entries {
+        bytes += line_length(e, z);
     }
     bytes
 }
 
-// Lays the line of a net-token.
-fn put_token(w: &mut Writer, t: &NetToken, z: &PlaceSizes)
-    requires { Roomy (as_sizes z.now) × (w.old.at + length (held_text (as_sizes z.now) t.now) ≤ length w.old.out.now) }
-    ensures { Lays (held_text (as_sizes z.now) t.now) w.old w.new }
+// Lays the counts of a line, and `*n` where it stands for more than one net-token.
+fn put_counts(w: &mut Writer, counts: &[u16], times: u16)
+    requires { w.old.at + length (counts_text counts.now times) ≤ length w.old.out.now }
+    ensures { Lays (counts_text counts.now times) w.old w.new }
 {
-    let counts = &t.counts[..z.size_at(t.place)];
-    w.text(b"token=");
-    w.number(u64::from(t.place));
-    w.text(b":");
-    w.list(counts);
+    if times == 1 {
+        return w.list(counts, b'\n');
+    }
+    w.list(counts, b'*');
+    w.number(u64::from(times));
+    w.text(b"\n");
 }
 
-// Lays the lines of net-tokens.
-fn put_tokens(w: &mut Writer, tokens: &[NetToken], z: &PlaceSizes)
-    requires { Roomy (as_sizes z.now) × (w.old.at + length (texts (held_text (as_sizes z.now)) tokens.now) ≤ length w.old.out.now) }
-    ensures { Lays (texts (held_text (as_sizes z.now)) tokens.now) w.old w.new }
+// Lays the line of an entry.
+fn put_line(w: &mut Writer, e: &Entry, z: &PlaceSizes)
+    requires { Roomy (as_sizes z.now) × (w.old.at + length (held_text (as_sizes z.now) e.now) ≤ length w.old.out.now) }
+    ensures { Lays (held_text (as_sizes z.now) e.now) w.old w.new }
 {
-    for t in tokens {
-        put_token(w, t, z);
+    let counts = &e.token.counts[..z.size_at(e.token.place)];
+    w.text(b"token=");
+    w.number(u64::from(e.token.place));
+    w.text(b":");
+    put_counts(w, counts, e.times);
+}
+
+// Lays the lines of entries.
+fn put_lines(w: &mut Writer, entries: &[Entry], z: &PlaceSizes)
+    requires { Roomy (as_sizes z.now) × (w.old.at + length (texts (held_text (as_sizes z.now)) entries.now) ≤ length w.old.out.now) }
+    ensures { Lays (texts (held_text (as_sizes z.now)) entries.now) w.old w.new }
+{
+    for e in entries {
+        put_line(w, e, z);
     }
 }
 
-// The line of a key and the number of net-tokens of a held marking, and a line for each, from `at` on: whole, or no byte. The answer is
-// where the text ends, or would end.
+// The line of a key and the number of entries of a held marking, and a line for each, from `at` on: whole, or no byte. The answer is where the
+// text ends, or would end.
 pub fn write(
     k: &Marking,
     z: &PlaceSizes,
@@ -88,17 +115,17 @@ pub fn write(
     at: usize,
 ) -> Result<usize, TooSmall>
     requires { (held_marking room_limit (as_sizes z.now) k.now ≡ true) × Roomy (as_sizes z.now) × (length key.now ≤ 32) × (at ≤ 1048576) }
-    ensures { record { answer = result; bytes = out.new } ≡ lay (block_text key.now (tokens_of (as_sizes z.now) k.now)) out.old at }
+    ensures { record { answer = result; bytes = out.new } ≡ lay (block_text key.now (eos.entries (tokens_of (as_sizes z.now) k.now))) out.old at }
 {
-    let tokens = k.held();
+    let entries = k.held();
     // At most 256: there is no refusal to hand on.
     let count = k.len as u16;
-    let end = at + key.len() + digits(count) + 1 + tokens_length(tokens, z);
+    let end = at + key.len() + digits(count) + 1 + lines_length(entries, z);
     if out.len() < end {
         return Err(TooSmall { needed: end });
     }
     let mut w = Writer { out, at };
     w.number_line(key, u64::from(count));
-    put_tokens(&mut w, tokens, z);
+    put_lines(&mut w, entries, z);
     Ok(end)
 }

@@ -8,9 +8,13 @@ use Rattle.std.specs.Prelude.{ℕ}
 abbrev pub line_limit : ℕ
 line_limit = 256
 
--- the net-tokens of a held marking
+-- the entries of a held marking, unlike net-tokens
 abbrev pub room_limit : ℕ
 room_limit = 256
+
+-- the like net-tokens of an entry, and those of a token line
+abbrev pub alike_limit : ℕ
+alike_limit = 65535
 
 -- the net-tokens that covering weights leave room for
 abbrev pub cover_limit : ℕ

@@ -161,10 +161,13 @@ impl Model {
 
     pub const ARC: u16 = 255;
 
-    // The token lines of a block, the net-tokens of a held marking, and those that covering weights leave room for.
+    // The token lines of a block, the entries of a held marking, the like net-tokens of an entry or a token line, and all that covering weights
+    // leave room for.
     pub const LINES: u16 = 256;
 
     pub const ROOM: usize = 256;
+
+    pub const ALIKE: u16 = 65535;
 
     pub const COVER: u16 = 256;
 

@@ -10,7 +10,7 @@ use Rattle.text.specs.Lines.{got}
 use Rattle.text.specs.Printed.{texts, number_text, weights_text}
 use Rattle.text.proofs.LineCounts.{lines_append, texts-lines, number-line, weights-line, token_line_lem}
 use Rattle.eos.specs.Model as eos
-use Rattle.eos.specs.Firing.{Step}
+use Rattle.eos.specs.Firing.{Written}
 use Rattle.eos.specs.Causes.{Refusal}
 use Rattle.eos.specs.Weights.{Weights}
 use Rattle.eos.proofs.FirstLaws.{first_exactly}
@@ -43,7 +43,7 @@ use Rattle.promises.proofs.RunNumbers.{run_stopped, run-number}
 -- ---- a step
 
 -- the lines of a step that was read
-step_lines : (lim : Limits) (z : Sizes) (events : ℕ) (s : Text) (t : Step) (next : ℕ) → read_step lim z events s 0 ≡ got t next → StepLines s t
+step_lines : (lim : Limits) (z : Sizes) (events : ℕ) (s : Text) (t : Written) (next : ℕ) → read_step lim z events s 0 ≡ got t next → StepLines s t
 unfolding step_text block_text net_token_text newlines
 step_lines lim z events s t next e =
     let fire = number_text (bytes "fire=") (suc t.event) in
@@ -70,7 +70,7 @@ step_lines lim z events s t next e =
 -- the step was read, and beside the number stands a line of it or a net
 abbrev pub Beside : Model → Text → Refusal → Type 0
 Beside m s r =
-    (t : Step) × (next : ℕ) × (read_step bounds (sizes_for m) m.listed s 0 ≡ got t next) × StepBeside m.nets (length t.taken) r × StepLines s t
+    (t : Written) × (next : ℕ) × (read_step bounds (sizes_for m) m.listed s 0 ≡ got t next) × StepBeside m.nets (length t.taken) r × StepLines s t
 
 beside_of : (m : Model) (k : Marking) (s : Text) (held : Bool) (r : Refusal)
     → Numbered step_numbers longest s held (read_step bounds (sizes_for m) m.listed s 0) (step_tests (model_of m) (racks m k)) r

@@ -11,7 +11,7 @@ use borrow.Author.Tests.{le-leb, lt-leb}
 use Rattle.text.specs.Bytes.{Text}
 use Rattle.text.specs.Lines.{Outcome, got, bad}
 use Rattle.text.specs.declared.Fault.{Fault}
-use Rattle.eos.specs.Firing.{Step}
+use Rattle.eos.specs.Firing.{Written}
 use Rattle.eos.specs.Causes.{Refusal, Cause, first, refusal}
 use Rattle.eos.specs.Weights.{Weights, WeightCause, weight_refusal, weigh}
 use Rattle.eos.proofs.Basics.{some_not}
@@ -25,7 +25,8 @@ use Rattle.marking.specs.Sizes.{sizes_for}
 use Rattle.reader.specs.Reading.{bounds, read_model, read_marking}
 use Rattle.reader.specs.Answers.{pair, read_triple, loaded, model_reading, restored, marking_or, marking_reading, held_both}
 use Rattle.step.specs.Reading.{read_step}
-use Rattle.step.specs.Verdict.{has_room, cause_triple}
+use Rattle.marking.specs.Held.{has_room}
+use Rattle.step.specs.Verdict.{cause_triple}
 use Rattle.step.proofs.StepFaults.{step_faults}
 use Rattle.runner.specs.Answers.{step_triple, step_judged, read_then, stepped, held_step, stepping, Stepped}
 use Rattle.runner.proofs.StepAnswers.{held_reads, step-long, step-unheld, step-held}
@@ -42,16 +43,26 @@ use Rattle.std.specs.Prelude.{Ok}
 
 -- ---- lists of numbers
 
-two_three : (n : ℕ) → Among (2 ∷ 3 ∷ []) n → (2 ≤ n) × (n ≤ 5)
+two_three : (n : ℕ) → Among (2 ∷ 3 ∷ []) n → (2 ≤ n) × (n ≤ 3)
 two_three n (inl e) = (omega arith, omega arith)
 two_three n (inr (inl e)) = (omega arith, omega arith)
 two_three n (inr (inr e)) = absurd e
 
-two_five : (n : ℕ) → Among (2 ∷ 3 ∷ 5 ∷ []) n → (2 ≤ n) × (n ≤ 5)
-two_five n (inl e) = (omega arith, omega arith)
-two_five n (inr (inl e)) = (omega arith, omega arith)
-two_five n (inr (inr (inl e))) = (omega arith, omega arith)
-two_five n (inr (inr (inr e))) = absurd e
+of_model : (n : ℕ) → Among model_numbers.lines n → (2 ≤ n) × (n ≤ 12)
+of_model n (inl e) = (omega arith, omega arith)
+of_model n (inr (inl e)) = (omega arith, omega arith)
+of_model n (inr (inr (inl e))) = (omega arith, omega arith)
+of_model n (inr (inr (inr (inl e)))) = (omega arith, omega arith)
+of_model n (inr (inr (inr (inr e)))) = absurd e
+
+of_marking : (n : ℕ) → Among marking_numbers.lines n → (2 ≤ n) × (n ≤ 12)
+of_marking n (inl e) = (omega arith, omega arith)
+of_marking n (inr (inl e)) = (omega arith, omega arith)
+of_marking n (inr (inr (inl e))) = (omega arith, omega arith)
+of_marking n (inr (inr (inr e))) = absurd e
+
+low_lines : (n : ℕ) → Among (2 ∷ 3 ∷ []) n → (2 ≤ n) × (n ≤ 12)
+low_lines n h = let p = two_three n h in (p.0, omega (arith, p.1))
 
 six-seven : (n : ℕ) → Among (6 ∷ 7 ∷ []) n → (6 ≤ n) × (n ≤ 12)
 six-seven n (inl e) = (omega arith, omega arith)
@@ -87,11 +98,12 @@ module _ (s : Text) where
   pub model_caused : (most : ℕ) (r : Refusal) → Caused model_numbers most s true (read_model s) untested r
   model_caused most r = record {
     unheld = λ h. absurd (true≢false h);
-    lines = model_faults (Among model_numbers.lines) (inl refl) s (inr (inl refl)) (inr (inr (inl refl)));
+    lines = model_faults (Among model_numbers.lines) (inl refl) s (inr (inl refl)) (inr (inr (inl refl))) (inr (inr (inr (inl refl))));
     tests_are = λ a c e. untested_none a c e;
     no_column = λ a c e. untested_none a c e;
-    low = two_five;
+    low = of_model;
     high = λ n h. absurd h;
+    apart = λ n l h. h;
   }
 
   pub model-number : Numbered model_numbers longest s true (read_model s) untested (read_triple (model_reading s))
@@ -113,11 +125,12 @@ module _ (m : Model) (s : Text) where
   pub marking_number : Numbered marking_numbers longest s (held_model m) (read_marking (sizes_for m) s) untested (read_triple (marking_reading m s))
   marking_number = numbered marking_numbers longest s (held_model m) (read_marking (sizes_for m) s) untested _ marking_goes (record {
     unheld = λ _. inl refl;
-    lines = marking_faults (Among marking_numbers.lines) (inl refl) s (inr (inl refl)) (sizes_for m);
+    lines = marking_faults (Among marking_numbers.lines) (inl refl) s (inr (inl refl)) (inr (inr (inl refl))) (sizes_for m);
     tests_are = λ a c e. untested_none a c e;
     no_column = λ a c e. untested_none a c e;
-    low = two_three;
+    low = of_marking;
     high = λ n h. absurd h;
+    apart = λ n l h. h;
   })
 
 -- ---- what is judged: the triple of the first cause, or 0,0,0
@@ -129,29 +142,29 @@ or_good (some c) = c
 -- ---- a step
 
 module _ (m : Model) (k : Marking) (s : Text) where
-  abbrev lines : Outcome Step
+  abbrev lines : Outcome Written
   lines = read_step bounds (sizes_for m) m.listed s 0
 
-  abbrev tests : Step → List (Option Refusal)
+  abbrev tests : Written → List (Option Refusal)
   tests = step_tests (model_of m) (racks m k)
 
-  step-judged : (t : Step) (next : ℕ) (o : Option Cause)
+  step-judged : (t : Written) (next : ℕ) (o : Option Cause)
       → step_triple (stepped k (step_judged (racks m k) t next o)).answer ≡ or_good (renamed (cause_triple (length t.taken)) o)
   unfolding step_judged stepped
   step-judged t next none = refl
   step-judged t next (some c) = refl
 
   -- a step whose lines are read is answered by its tests
-  step-got : (t : Step) (next : ℕ) → lines ≡ got t next → step_triple (held_step room_limit m k s).answer ≡ or_good (first (tests t))
+  step-got : (t : Written) (next : ℕ) → lines ≡ got t next → step_triple (held_step room_limit m k s).answer ≡ or_good (first (tests t))
   unfolding read_then
   step-got t next e =
-      ap (λ (r : Stepped). step_triple r.answer) (held_reads m k s room_limit ∙ ap (λ (o : Outcome Step). stepped k (read_then room_limit (model_of m) (racks m k) s o)) e)
+      ap (λ (r : Stepped). step_triple r.answer) (held_reads m k s room_limit ∙ ap (λ (o : Outcome Written). stepped k (read_then room_limit (model_of m) (racks m k) s o)) e)
       ∙ step-judged t next (refusal (has_room room_limit) (model_of m) t (racks m k))
       ∙ ap or_good (sym (step-first (model_of m) (racks m k) t))
 
   step-bad : (e : Fault) → lines ≡ bad e → step_triple (held_step room_limit m k s).answer ≡ faulted s e
   unfolding read_then stepped
-  step-bad e b = ap (λ (r : Stepped). step_triple r.answer) (held_reads m k s room_limit ∙ ap (λ (o : Outcome Step). stepped k (read_then room_limit (model_of m) (racks m k) s o)) b)
+  step-bad e b = ap (λ (r : Stepped). step_triple r.answer) (held_reads m k s room_limit ∙ ap (λ (o : Outcome Written). stepped k (read_then room_limit (model_of m) (racks m k) s o)) b)
 
   step_caused : (held : Bool) (r : Refusal) → Caused step_numbers longest s held lines tests r
   step_caused held r = record {
@@ -159,8 +172,9 @@ module _ (m : Model) (k : Marking) (s : Text) where
     lines = step_faults (Among step_numbers.lines) (inl refl) (inr (inl refl)) bounds (sizes_for m) m.listed s 0;
     tests_are = λ t c e. (step_right (model_of m) (racks m k) t c e).0;
     no_column = λ t c e. (step_right (model_of m) (racks m k) t c e).2;
-    low = two_three;
+    low = low_lines;
     high = eight-twelve;
+    apart = λ n l h. omega (arith, two_three n l, eight-twelve n h);
   }
 
   held_goes : length s ≤ longest → Goes step_numbers longest s true lines tests (step_triple (held_step room_limit m k s).answer)
@@ -177,7 +191,7 @@ module _ (m : Model) (k : Marking) (s : Text) where
   held_number few = numbered step_numbers longest s true lines tests _ (held_goes few) (step_caused true _)
 
   -- number 0 is a step that fired
-  fired-got : (t : Step) (next : ℕ) → lines ≡ got t next → first (tests t) ≡ none → (held_step room_limit m k s).answer ≡ Ok next
+  fired-got : (t : Written) (next : ℕ) → lines ≡ got t next → first (tests t) ≡ none → (held_step room_limit m k s).answer ≡ Ok next
   unfolding read_then step_judged stepped
   fired-got t next b e =
       let q = renamed_none (cause_triple (length t.taken)) (refusal (has_room room_limit) (model_of m) t (racks m k)) (sym (step-first (model_of m) (racks m k) t) ∙ e) in
@@ -238,8 +252,9 @@ module _ (m : Model) (k : Marking) (s : Text) where
     lines = weight_file_faults (Among weight_numbers.lines) (inl refl) s (inr (inl refl)) (model_of m);
     tests_are = λ a c e. (weight_right last (model_of m) a c e).0;
     no_column = λ a c e. (weight_right last (model_of m) a c e).2;
-    low = two_three;
+    low = low_lines;
     high = six-seven;
+    apart = λ n l h. omega (arith, two_three n l, six-seven n h);
   }
 
   pub weight_number : Numbered weight_numbers longest s (held_both m k) (read_weight_file (model_of m) s) (weight_tests last (model_of m)) (weight_triple (weight_checking m k s))

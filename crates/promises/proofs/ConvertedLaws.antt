@@ -13,8 +13,8 @@ use Rattle.text.specs.Lines.{got}
 use Rattle.text.proofs.Basics.{and_true}
 use Rattle.text.proofs.TestLaws.{and_both}
 use Rattle.eos.specs.Model as eos
-use Rattle.eos.specs.Firing.{Step, fires, after}
-use Rattle.eos.specs.Converting.{converted, new_index, renamed, IdlesTyped}
+use Rattle.eos.specs.Firing.{Written, step_of, fires, after}
+use Rattle.eos.specs.Converting.{converted, new_index, IdlesTyped}
 use Rattle.eos.specs.Weights.{Weights, weigh}
 use Rattle.eos.proofs.FiringLaws.{fires_all}
 use Rattle.eos.proofs.ConvertingLaws.{index_known}
@@ -59,9 +59,9 @@ use Rattle.std.specs.Prelude.{Ok, Err, Result}
 
 -- ---- calls in turn, where each that fires in the one model has one that does so in the other
 
-module _ (m n : Model) (each : (k : Marking) (s : Text) (used : ℕ) → (stepping m k s).answer ≡ Ok used → (t : Step) × Fires n k t (stepping m k s).marking) where
+module _ (m n : Model) (each : (k : Marking) (s : Text) (used : ℕ) → (stepping m k s).answer ≡ Ok used → (t : Written) × Fires n k t (stepping m k s).marking) where
   one_leads : (k : Marking) (s : Text) (a : Result ℕ StepRefusal) → (stepping m k s).answer ≡ a → says_fired a ≡ true
-      → (t : Step) × Fires n k t (stepping m k s).marking
+      → (t : Written) × Fires n k t (stepping m k s).marking
   one_leads k s (Ok used) e f = each k s used e
   one_leads k s (Err x) e f = absurd (false≢true f)
 
@@ -150,7 +150,7 @@ module _ (m : Model) (sized : SizedModel m) (held : held_model m ≡ true) (all 
   number_is i h = omega (arith, numbers_at m held i h)
 
   forth : (k : Marking) (s : Text) (n : ℕ) → (stepping m k s).answer ≡ Ok n
-      → (t : Step) × (read_step bounds (sizes_for m) m.listed s 0 ≡ got t n) × Fires new k (new_step c t) (stepping m k s).marking
+      → (t : Written) × (read_step bounds (sizes_for m) m.listed s 0 ≡ got t n) × Fires new k (new_step c t) (stepping m k s).marking
   unfolding right_step
   forth k s n a =
       let (both, few) = was_lent m k s n a in
@@ -162,15 +162,16 @@ module _ (m : Model) (sized : SizedModel m) (held : held_model m ≡ true) (all 
       let parts = and_true (ltb t.event m.listed) _ right in
       let known = ltb-true t.event m.listed parts.0 in
       let index = index_known d t.event (omega (arith, known, events-long m)) in
-      let fire = fires_converted d typed t (omega (arith, known, events-long m)) μ (fires_all d t μ b.enabled b.within) in
-      let told : new_step c t ≡ renamed d t = ap (λ (i : ℕ). record { event = i; taken = t.taken; given = t.given }) (number_is t.event known) in
-      let fired : Fires new k (renamed d t) (hold_marking (eos.canonical (after t μ))) = rw (← tokens_same k) (lines_fire new k (held_same k ∙ both) (renamed d t)
+      let fire = fires_converted d typed (step_of t) (omega (arith, known, events-long m)) μ (fires_all d (step_of t) μ b.enabled b.within) in
+      let u : Written = record { event = new_index d t.event; taken = t.taken; given = t.given } in
+      let told : new_step c t ≡ u = ap (λ (i : ℕ). record { event = i; taken = t.taken; given = t.given }) (number_is t.event known) in
+      let fired : Fires new k u (hold_marking (eos.canonical (after (step_of t) μ))) = rw (← tokens_same k) (lines_fire new k (held_same k ∙ both) u
       (rw sizes_are (and_both (ltb (new_index d t.event) new.listed) _ (lt-ltb _ _ (omega (arith, index, listed_is))) parts.1))
       (rw (model_is, tokens_same k) fire) (rw (tokens_same k) b.room)) in
       (t, b.read, rw (told, x.after_it b) fired)
 
   back : (k : Marking) (s : Text) (n : ℕ) → (stepping new k s).answer ≡ Ok n
-      → (t : Step) × (read_step bounds (sizes_for new) new.listed s 0 ≡ got (new_step c t) n) × Fires m k t (stepping new k s).marking
+      → (t : Written) × (read_step bounds (sizes_for new) new.listed s 0 ≡ got (new_step c t) n) × Fires m k t (stepping new k s).marking
   unfolding right_step
   back k s n a =
       let (both, few) = was_lent new k s n a in
@@ -180,14 +181,14 @@ module _ (m : Model) (sized : SizedModel m) (held : held_model m ≡ true) (all 
       let μ = tokens_of (sizes_for m) k in
       let right = ((step_exactly bounds (sizes_for new) new.listed s).back 0 u n b.read).fine-is in
       let parts = and_true (ltb u.event new.listed) _ right in
-      let fire : T (fires (converted d) u μ) = rw (model_is, tokens_same k) at (fires_all (model_of new) u (tokens_of (sizes_for new) k) b.enabled b.within) in
-      let (i, known, index, old) = fires_original d typed ((unreplaced_none d).1 all) u (omega (arith, ltb-true u.event new.listed parts.0, listed_is)) μ fire in
-      let t : Step = record { event = i; taken = u.taken; given = u.given } in
+      let fire : T (fires (converted d) (step_of u) μ) = rw (model_is, tokens_same k) at (fires_all (model_of new) (step_of u) (tokens_of (sizes_for new) k) b.enabled b.within) in
+      let (i, known, index, old) = fires_original d typed ((unreplaced_none d).1 all) (step_of u) (omega (arith, ltb-true u.event new.listed parts.0, listed_is)) μ fire in
+      let t : Written = record { event = i; taken = u.taken; given = u.given } in
       let told : u ≡ new_step c t = ap (λ (j : ℕ). record { event = j; taken = u.taken; given = u.given }) (sym index ∙ sym (number_is i (omega (arith, known, events-long m)))) in
       let fired = lines_fire m k (sym (held_same k) ∙ both) t
       (and_both (ltb i m.listed) _ (lt-ltb _ _ (omega (arith, known, events-long m))) (rw sizes_are at parts.1)) old (rw (tokens_same k) at b.room) in
-      let marking = x.after_it b ∙ ap (λ (ν : eos.Marking). hold_marking (eos.canonical (after t ν))) (tokens_same k) in
-      (t, b.read ∙ ap (λ (v : Step). got v n) told, subst (Fires m k t) (sym marking) fired)
+      let marking = x.after_it b ∙ ap (λ (ν : eos.Marking). hold_marking (eos.canonical (after (step_of t) ν))) (tokens_same k) in
+      (t, b.read ∙ ap (λ (v : Written). got v n) told, subst (Fires m k t) (sym marking) fired)
 
   reached : (k j : Marking) → Reached m k j ↔ Reached new k j
   reached k j = (

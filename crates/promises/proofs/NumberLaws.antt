@@ -1,6 +1,6 @@
 -- The number of any call on a text: where the call goes by 01's order, and its causes are those listed, it is numbered as `Numbered` says.
 use Prim.Native.Nat.{ℕ, ◌+◌, ◌≤◌, ◌<◌}
-use mathlib.Core.Path.{◌≡◌, refl, ap, sym, ◌∙◌}
+use mathlib.Core.Path.{◌≡◌, refl, ap, sym, subst, ◌∙◌}
 use mathlib.Core.Logic.{◌↔◌, inl, inr}
 use mathlib.Core.Bool.{Bool, false}
 use mathlib.Core.List.{List, [], ◌∷◌, ◌++◌}
@@ -10,7 +10,7 @@ use lib.ListN.{length}
 use Rattle.text.specs.Bytes.{Text, newlines, column_at}
 use Rattle.text.specs.Lines.{Outcome, got, bad, cause_number, column_for}
 use Rattle.text.specs.declared.Cause.{Cause}
-use Rattle.text.specs.declared.Cause.TheVariants.{Syntax, Range, Idling}
+use Rattle.text.specs.declared.Cause.TheVariants.{Syntax, Range, Idling, Crowded}
 use Rattle.text.specs.declared.Fault.{Fault}
 use Rattle.text.proofs.Basics.{by_test, by_le}
 use Rattle.text.proofs.FaultLaws.{Faults}
@@ -55,6 +55,7 @@ column_some s e = go e.cause
     go Syntax h = column-within s e.at e.byte
     go Range h = column-within s e.at e.byte
     go Idling h = let k = two_or_three 5 h in absurd (omega (arith, k.1))
+    go Crowded h = let k = two_or_three 12 h in absurd (omega (arith, k.1))
 
 pub column_none : (s : Text) (e : Fault) → (Among (2 ∷ 3 ∷ []) (cause_number e.cause) → ⊥) → (faulted s e).column ≡ 0
 column_none s e = go e.cause
@@ -63,6 +64,7 @@ column_none s e = go e.cause
     go Syntax h = absurd (h (inl refl))
     go Range h = absurd (h (inr (inl refl)))
     go Idling h = refl
+    go Crowded h = refl
 
 module _ {A : Type 0} (ns : Numbers) (most : ℕ) (s : Text) (held : Bool) (reading : Outcome A) (tests : A → List (Option Refusal)) (r : Refusal) where
   abbrev Open : Type 0
@@ -76,14 +78,15 @@ module _ {A : Type 0} (ns : Numbers) (most : ℕ) (s : Text) (held : Bool) (read
     pub turned : Open → (a : A) (next : ℕ) → reading ≡ got a next → (c : Refusal) → first (tests a) ≡ some c → r ≡ c
     pub passed : Open → (a : A) (next : ℕ) → reading ≡ got a next → first (tests a) ≡ none → r ≡ pair 0 0
 
-  -- the causes are those listed: 2 to 5 of lines, 6 to 12 of tests
+  -- the causes are those listed: 2 to 12 of lines, 6 to 12 of tests, and none of both
   pub record Caused : Type 0 where
     pub unheld : held ≡ false → Among ns.unheld 14
     pub lines : Faults (Among ns.lines) reading
     pub tests_are : (a : A) (c : Refusal) → first (tests a) ≡ some c → Among ns.tests c.number
     pub no_column : (a : A) (c : Refusal) → first (tests a) ≡ some c → c.column ≡ 0
-    pub low : (n : ℕ) → Among ns.lines n → (2 ≤ n) × (n ≤ 5)
+    pub low : (n : ℕ) → Among ns.lines n → (2 ≤ n) × (n ≤ 12)
     pub high : (n : ℕ) → Among ns.tests n → (6 ≤ n) × (n ≤ 12)
+    pub apart : (n : ℕ) → Among ns.lines n → Among ns.tests n → ⊥
 
   module _ (g : Goes) (k : Caused) where
     -- every call ends in one of five ways
@@ -161,7 +164,7 @@ module _ {A : Type 0} (ns : Numbers) (most : ℕ) (s : Text) (held : Bool) (read
           (λ o q. absurd (omega (arith, num q, num z, k.low c.number h)))
           (λ o u q. absurd (omega (arith, num q, num z, k.low c.number h)))
           (λ w e b q i. (w, e, b, sym z ∙ q))
-          (λ w a n b d f q i. absurd (omega (arith, num q, num z, k.low c.number h, k.high d.number i)))
+          (λ w a n b d f q i. absurd (k.apart c.number h (subst (Among ns.tests) (sym (num q) ∙ num z) i)))
           (λ w a n b d q. absurd (omega (arith, num q, num z, k.low c.number h))),
       λ (w, e, b, z). g.faulty w e b ∙ sym z,
     )
@@ -173,7 +176,7 @@ module _ {A : Type 0} (ns : Numbers) (most : ℕ) (s : Text) (held : Bool) (read
           by_way
           (λ o q. absurd (omega (arith, num q, num z, k.high c.number h)))
           (λ o u q. absurd (omega (arith, num q, num z, k.high c.number h)))
-          (λ w e b q i. absurd (omega (arith, num q, num z, k.high c.number h, k.low (cause_number e.cause) i)))
+          (λ w e b q i. absurd (k.apart c.number (subst (Among ns.lines) (sym (num q) ∙ num z) i) h))
           (λ w a n b d f q i. (w, a, n, b, (first_exactly (tests a) c).0 (f ∙ ap some (sym q ∙ z))))
           (λ w a n b d q. absurd (omega (arith, num q, num z, k.high c.number h))),
       λ (w, a, n, b, f). g.turned w a n b c ((first_exactly (tests a) c).1 f),
@@ -200,7 +203,7 @@ module _ {A : Type 0} (ns : Numbers) (most : ℕ) (s : Text) (held : Bool) (read
         (λ o q. absurd (omega (arith, num q, k.low r.number h)))
         (λ o u q. absurd (omega (arith, num q, k.low r.number h)))
         (λ w e b q i. rw (side q) (line-within s e.at))
-        (λ w a n b c d q i. absurd (omega (arith, num q, k.low r.number h, k.high c.number i)))
+        (λ w a n b c d q i. absurd (k.apart r.number h (subst (Among ns.tests) (sym (num q)) i)))
         (λ w a n b d q. absurd (omega (arith, num q, k.low r.number h)))
 
     a_column : Among (2 ∷ 3 ∷ []) r.number → (1 ≤ r.column) × (r.column ≤ length s + 1)

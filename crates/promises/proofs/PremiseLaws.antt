@@ -11,27 +11,29 @@ use Rattle.text.specs.Bytes.{Text}
 use Rattle.text.proofs.Basics.{by_test, and_true}
 use Rattle.text.specs.Lines.{got}
 use Rattle.eos.specs.Multiset as M
+use Rattle.eos.specs.Counted.{spelt}
 use Rattle.eos.specs.Model as eos
 use Rattle.eos.specs.Weights.{Weights, Shaped, weigh, Passing, covers}
 use Rattle.eos.proofs.Basics.{true_is}
 use Rattle.eos.proofs.WeightLaws.{weigh-canonical}
 use Rattle.eos.proofs.BoundLaws.{cover_out, cover_in, weigh-positive}
-use Rattle.model.specs.Limits.{longest, line_limit, cover_limit, count_limit}
+use Rattle.model.specs.Limits.{longest, line_limit, room_limit, cover_limit, count_limit}
 use Rattle.model.specs.Rules.{right_plant}
 use Rattle.model.specs.Held.{hold_plant, model_of}
 use Rattle.model.specs.declared.Model.{Model}
 use Rattle.model.proofs.HoldModel.{model_of_hold}
 use Rattle.model.proofs.HoldHeld as holding
 use Rattle.marking.specs.Held.{Sizes, sizes_of, hold_marking, tokens_of}
-use Rattle.marking.specs.Reading.{right_block}
+use Rattle.marking.specs.Reading.{right_block, right_start}
 use Rattle.marking.specs.declared.Marking.{Marking}
-use Rattle.marking.proofs.HoldMarking as hold
+use Rattle.marking.proofs.RightTokens.{start_held}
 use Rattle.reader.specs.Reading.{bounds, Loaded, right_loaded}
 use Rattle.marking.specs.Sizes.{sizes_for}
 use Rattle.reader.specs.Answers.{held_both}
 use Rattle.marking.proofs.SizeLaws.{held_roomy, sizes_same}
-use Rattle.reader.proofs.HeldExactly.{canonical-held, right_parts}
+use Rattle.reader.proofs.HeldExactly.{right_parts}
 use Rattle.step.proofs.SoundLaws.{proper_read}
+use Rattle.promises.proofs.BringLaws.{tokens_again}
 use Rattle.keeper.specs.Reading.{read_weight_file}
 use Rattle.keeper.specs.Answers.{weight_checking, check_given}
 use Rattle.keeper.specs.declared.WeightCheck.{WeightCheck}
@@ -101,30 +103,29 @@ module _ (l : Loaded) (right : right_loaded l ≡ true) where
   m = hold_plant l.plant
 
   abbrev k : Marking
-  k = hold_marking (eos.canonical l.start)
+  k = hold_marking (eos.canonical (spelt l.start))
 
   pub model_right : right_plant l.plant ≡ true
   model_right = (right_parts l right).0
 
-  tokens_right : right_block bounds (sizes_of l.plant.model) l.start ≡ true
-  tokens_right = (right_parts l right).1
+  start_right : right_start room_limit bounds (sizes_of l.plant.model) l.start ≡ true
+  start_right = (right_parts l right).1
 
-  pub start-made : T (M.every (eos.proper l.plant.model) l.start)
+  pub start-made : T (M.every (eos.proper l.plant.model) (spelt l.start))
   unfolding right_block
-  start-made = proper_read bounds l.plant.model l.start (and_true (leb (length l.start) line_limit) _ tokens_right).1
+  start-made =
+      let lines = and_true (right_block bounds (sizes_of l.plant.model) l.start) _ start_right in
+      proper_read bounds l.plant.model l.start (and_true (leb (length l.start) line_limit) _ lines.0).1
 
-  start-tokens : tokens_of (sizes_for m) k ≡ eos.canonical l.start
-  unfolding right_block
+  start-tokens : tokens_of (sizes_for m) k ≡ eos.canonical (spelt l.start)
   start-tokens =
       let z : Sizes = sizes_for m in
-      let h = canonical-held z l.start (rw (sizes_same _ l.plant.model model_right) tokens_right) in
       let roomy = held_roomy m (holding.hold_held l.plant model_right) in
-      hold.tokens_hold z (eos.canonical l.start)
-      (hold.all_right bounds z roomy (eos.canonical l.start) (and_true (leb (length (eos.canonical l.start)) line_limit) _ h.right).1)
+      tokens_again z roomy (eos.canonical (spelt l.start)) (start_held z l.start (rw (sizes_same _ l.plant.model model_right) start_right))
 
   -- weights that passed for them balance, and cover with the sum of the start
   pub start_balances : (file : Text) (sum : ℤ) → weight_checking m k file ≡ Ok (record { sum = sum; cover = true })
-      → Balances l.plant.model l.start file sum
+      → Balances l.plant.model (spelt l.start) file sum
   start_balances file sum passed =
       let b = balances_as (model_of m) l.plant.model _ _ file sum (model_of_hold l.plant model_right) start-tokens (passed_balances m k file sum passed) in
       record {
@@ -133,6 +134,6 @@ module _ (l : Loaded) (right : right_loaded l ≡ true) where
         shaped = b.shaped;
         passing = b.passing;
         covering = b.covering;
-        sum_is = sym (weigh-canonical l.plant.model b.weights l.start) ∙ b.sum_is;
+        sum_is = sym (weigh-canonical l.plant.model b.weights (spelt l.start)) ∙ b.sum_is;
         whole = b.whole;
       }

@@ -122,7 +122,7 @@ module _ (m : Model) (k : Marking) (s : Text) where
     run_step h = let t = stops_at.turned h in ap step_triple t.1 ∙ sym (ap step_triple t.2)
 
     -- on a marking as every one in code is, that is the step call
-    pub run_call : length k.tokens ≡ room_limit → (running m k s).at < length s → r ≡ step_triple (stepping m (running m k s).marking left).answer
+    pub run_call : length k.entries ≡ room_limit → (running m k s).at < length s → r ≡ step_triple (stepping m (running m k s).marking left).answer
     run_call long h =
         let kept = run_keeps m k s (record { held = w.is_held; long = long }) in
         run_step h ∙ ap (λ (x : Stepped). step_triple x.answer) (step-held m (running m k s).marking left few-left kept.held)

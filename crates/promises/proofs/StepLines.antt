@@ -15,13 +15,13 @@ use Rattle.text.proofs.Basics.{by_test, and_true}
 use Rattle.text.proofs.Standing.{stands_all}
 use Rattle.text.proofs.TextLengths.{number-length}
 use Rattle.eos.specs.Model as eos
-use Rattle.eos.specs.Firing.{Step, fires, after}
+use Rattle.eos.specs.Firing.{Written, step_of, fires, after}
 use Rattle.eos.proofs.FiringLaws.{fires_yes}
 use Rattle.model.specs.Limits.{longest, room_limit}
 use Rattle.model.specs.Held.{model_of}
 use Rattle.model.specs.declared.Model.{Model}
 use Rattle.model.proofs.HeldTests.{held-is, most-places, most-events}
-use Rattle.marking.specs.Held.{Sizes, hold_marking, tokens_of}
+use Rattle.marking.specs.Held.{Sizes, hold_marking, tokens_of, has_room}
 use Rattle.marking.specs.Reading.{right_block}
 use Rattle.marking.specs.Printed.{block_text}
 use Rattle.marking.specs.Sizes.{sizes_for}
@@ -42,7 +42,7 @@ use Rattle.promises.specs.Converted.{Fires}
 use Rattle.std.specs.Prelude.{Ok}
 
 -- the lines of a right step are no longer than a text may be
-step-length : (z : Sizes) → Roomy z → z.places ≤ 99 → (events : ℕ) → events ≤ 64 → (t : Step) → right_step bounds z events t ≡ true → length (step_text t) ≤ longest
+step-length : (z : Sizes) → Roomy z → z.places ≤ 99 → (events : ℕ) → events ≤ 64 → (t : Written) → right_step bounds z events t ≡ true → length (step_text t) ≤ longest
 unfolding right_step step_text
 step-length z roomy places events few t h =
     let p = and_true (ltb t.event events) _ h in
@@ -75,13 +75,13 @@ module _ (m : Model) (k : Marking) where
       (λ h. unfired≢fired (ap (λ (r : Stepped). r.answer) (step-long m k s (leb-false (length s) longest h)) ∙ a))
 
   -- the lines of a step that fires, with room for what is after it, are fired
-  pub lines_fire : held_both m k ≡ true → (t : Step) → right_step bounds (sizes_for m) m.listed t ≡ true → T (fires (model_of m) t μ) → length (after t μ) ≤ room_limit
-      → Fires m k t (hold_marking (eos.canonical (after t μ)))
+  pub lines_fire : held_both m k ≡ true → (t : Written) → right_step bounds (sizes_for m) m.listed t ≡ true → T (fires (model_of m) (step_of t) μ)
+      → T (has_room room_limit (after (step_of t) μ)) → Fires m k t (hold_marking (eos.canonical (after (step_of t) μ)))
   lines_fire held t right fire room =
       let h = both_model m k held in
       let z = sizes_for m in
       let short = step-length z (held_roomy m h) (omega (arith, most-places m (held-is m h))) m.listed (most-events m (held-is m h)) t right in
-      let y = fires_yes (model_of m) t μ fire in
+      let y = fires_yes (model_of m) (step_of t) μ fire in
       let b : Brings m k (step_text t) (length (step_text t)) = record {
         step = t;
         read = (step_exactly bounds z m.listed (step_text t)).forth 0 t (stands_all (step_text t) (step_text t) refl) right ∙ ap (got t) (zero-add (length (step_text t)));

@@ -6,22 +6,25 @@ use mathlib.Core.Bool.{Bool, not}
 use mathlib.Core.List.{[], ◌∷◌, map}
 use mathlib.Core.Option.{some}
 use native.Mathlib.Omega.{arith}
-use lib.Dec.{leb}
 use lib.ListN.{length}
 use Rattle.eos.specs.Model as eos
-use Rattle.eos.specs.Firing.{Step, outer_taken, outer_given, inner_taken, inner_given, after}
+use Rattle.eos.specs.Firing.{Step, Written, step_of, outer_taken, outer_given, inner_taken, inner_given, after}
 use Rattle.eos.specs.Causes.{Refusal, Cause, taking, giving, short, unequal, missing, crowded, first, unless, at, failing, lacking, causes, refusal}
 use Rattle.eos.specs.Weights.{Weights, effect, is_zero, all_zero, weightless, unbalanced, weight_refusal}
 use Rattle.eos.proofs.FirstLaws.{renamed, first_renamed, unless_renamed, at_renamed, first-each, unless-each, at_each, failing-least, lacking-within}
 use Rattle.model.specs.Limits.{room_limit}
 use Rattle.reader.specs.Answers.{pair}
-use Rattle.step.specs.Verdict.{has_room, cause_triple}
+use Rattle.marking.specs.Held.{has_room}
+use Rattle.step.specs.Verdict.{cause_triple}
 use Rattle.keeper.specs.Answers.{weight_cause_triple}
 use Rattle.promises.specs.Numbers.{Among, step_numbers, weight_numbers, step_tests, StepBeside, weight_tests, WeightBeside}
 
 -- ---- a step
 
-module _ (d : eos.Model) (μ : eos.Marking) (t : Step) where
+module _ (d : eos.Model) (μ : eos.Marking) (w : Written) where
+  abbrev t : Step
+  t = step_of w
+
   abbrev e : eos.Event
   e = eos.event d t.event
 
@@ -29,28 +32,28 @@ module _ (d : eos.Model) (μ : eos.Marking) (t : Step) where
   nets = length d.nets
 
   abbrev numbers : Cause → Refusal
-  numbers = cause_triple (length t.taken)
+  numbers = cause_triple (length w.taken)
 
-  tests_are : step_tests d μ t ≡ map (renamed numbers) (causes (has_room room_limit) d t μ)
+  tests_are : step_tests d μ w ≡ map (renamed numbers) (causes (has_room room_limit) d w μ)
   unfolding step_tests causes
   tests_are =
       ap₂ ◌∷◌ (unless_renamed numbers (outer_taken d e t.taken) taking)
       (ap₂ ◌∷◌ (unless_renamed numbers (outer_given d e t.taken t.given) giving)
       (ap₂ ◌∷◌ (at_renamed numbers short (failing nets 0 (inner_taken d e t.taken)))
       (ap₂ ◌∷◌ (at_renamed numbers unequal (failing nets 0 (inner_given d e t.taken t.given)))
-      (ap₂ ◌∷◌ (at_renamed numbers missing (lacking μ 0 [] t.taken))
-      (ap₂ ◌∷◌ (unless_renamed numbers (leb (length (after t μ)) room_limit) crowded) refl)))))
+      (ap₂ ◌∷◌ (at_renamed numbers missing (lacking μ 0 [] w.taken))
+      (ap₂ ◌∷◌ (unless_renamed numbers (has_room room_limit (after t μ)) crowded) refl)))))
 
   -- the first of them is the theory's, with its number
-  pub step-first : first (step_tests d μ t) ≡ renamed numbers (refusal (has_room room_limit) d t μ)
+  pub step-first : first (step_tests d μ w) ≡ renamed numbers (refusal (has_room room_limit) d w μ)
   unfolding refusal
-  step-first = ap first tests_are ∙ first_renamed numbers (causes (has_room room_limit) d t μ)
+  step-first = ap first tests_are ∙ first_renamed numbers (causes (has_room room_limit) d w μ)
 
   -- its number, what stands beside it, and no column
   abbrev Right : Refusal → Type 0
-  Right c = Among step_numbers.tests c.number × StepBeside nets (length t.taken) c × (c.column ≡ 0)
+  Right c = Among step_numbers.tests c.number × StepBeside nets (length w.taken) c × (c.column ≡ 0)
 
-  on_places : (b : ℕ) → (b ≡ 2) ⊎ (b ≡ 3 + length t.taken) → Right (pair 8 b)
+  on_places : (b : ℕ) → (b ≡ 2) ⊎ (b ≡ 3 + length w.taken) → Right (pair 8 b)
   on_places b h = (
     inl refl,
     record {
@@ -89,7 +92,7 @@ module _ (d : eos.Model) (μ : eos.Marking) (t : Step) where
     refl,
   )
 
-  on_missing : (i : ℕ) → i < length t.taken → Right (pair 11 (3 + i))
+  on_missing : (i : ℕ) → i < length w.taken → Right (pair 11 (3 + i))
   on_missing i h = (
     inr (inr (inr (inl refl))),
     record {
@@ -102,7 +105,7 @@ module _ (d : eos.Model) (μ : eos.Marking) (t : Step) where
     refl,
   )
 
-  on_room : Right (pair 12 (3 + length t.taken))
+  on_room : Right (pair 12 (3 + length w.taken))
   on_room = (
     inr (inr (inr (inr (inl refl)))),
     record {
@@ -115,11 +118,11 @@ module _ (d : eos.Model) (μ : eos.Marking) (t : Step) where
     refl,
   )
 
-  pub step_right : (c : Refusal) → first (step_tests d μ t) ≡ some c → Right c
+  pub step_right : (c : Refusal) → first (step_tests d μ w) ≡ some c → Right c
   unfolding step_tests
   step_right =
-      let give = 3 + length t.taken in
-      first-each Right (step_tests d μ t) (
+      let give = 3 + length w.taken in
+      first-each Right (step_tests d μ w) (
         unless-each Right (outer_taken d e t.taken) (pair 8 2) (on_places 2 (inl refl)),
         (
           unless-each Right (outer_given d e t.taken t.given) (pair 8 give) (on_places give (inr refl)),
@@ -130,9 +133,9 @@ module _ (d : eos.Model) (μ : eos.Marking) (t : Step) where
               at_each Right (λ n. pair 10 (suc n)) (failing nets 0 (inner_given d e t.taken t.given))
                   (λ n q. on_unequal n (failing-least nets (inner_given d e t.taken t.given) n q).within),
               (
-                at_each Right (λ i. pair 11 (3 + i)) (lacking μ 0 [] t.taken) (λ i q. on_missing i (lacking-within μ t.taken i q)),
+                at_each Right (λ i. pair 11 (3 + i)) (lacking μ 0 [] w.taken) (λ i q. on_missing i (lacking-within μ w.taken i q)),
                 (
-                  unless-each Right (leb (length (after t μ)) room_limit) (pair 12 give) on_room,
+                  unless-each Right (has_room room_limit (after t μ)) (pair 12 give) on_room,
                   tt,
                 ),
               ),

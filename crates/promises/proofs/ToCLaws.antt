@@ -13,20 +13,21 @@ use Rattle.text.specs.Bytes.{Text, bytes}
 use Rattle.text.specs.Lines.{got}
 use Rattle.keeper.specs.Split.{above, below}
 use Rattle.text.proofs.Unique.{was_printed}
+use Rattle.eos.specs.Counted.{spelt}
 use Rattle.eos.specs.Model as eos
-use Rattle.eos.specs.Firing.{after}
+use Rattle.eos.specs.Firing.{step_of, after}
 use Rattle.eos.specs.Leaving.{Loses, LeaveEmpty}
 use Rattle.eos.specs.Weights.{Weights, weigh, Passing}
-use Rattle.model.specs.Limits.{longest, cover_limit}
+use Rattle.model.specs.Limits.{longest, room_limit, cover_limit}
 use Rattle.model.specs.Held.{hold_plant, model_of}
 use Rattle.model.specs.Test.{held_model}
 use Rattle.model.specs.declared.Model.{Model}
 use Rattle.marking.specs.Held.{hold_marking}
-use Rattle.marking.specs.Reading.{read_block, right_block}
-use Rattle.marking.specs.Printed.{marking_text}
+use Rattle.marking.specs.Reading.{read_start, right_start}
+use Rattle.marking.specs.Printed.{block_text, marking_text}
 use Rattle.marking.specs.Sizes.{sizes_for}
 use Rattle.marking.specs.declared.Marking.{Marking}
-use Rattle.marking.proofs.BlockExactly.{block_exactly}
+use Rattle.marking.proofs.BlockExactly.{start_exactly}
 use Rattle.reader.specs.Reading.{Loaded, bounds, read_model, read_marking, right_loaded}
 use Rattle.reader.specs.Printed.{model_text}
 use Rattle.reader.specs.Answers.{triple, read_triple, loaded, model_reading, marking_reading, held_both, lay_whole, marking_writing, model_given}
@@ -114,7 +115,7 @@ accepted_to_c o r m k a e =
 
 -- the reading answers 0 exactly where the text is the printed text of a right model and of its start, and gives these as they are held
 pub model_to_c : (s : Text) (m : Model) (k : Marking) → (model_read (model_reading s) ≡ record { number = 0; beside = 0; column = 0; model = m; start = k })
-    ↔ ((l : Loaded) × (s ≡ model_text l) × (right_loaded l ≡ true) × (length s ≤ longest) × (m ≡ hold_plant l.plant) × (k ≡ hold_marking (eos.canonical l.start)))
+    ↔ ((l : Loaded) × (s ≡ model_text l) × (right_loaded l ≡ true) × (length s ≤ longest) × (m ≡ hold_plant l.plant) × (k ≡ hold_marking (eos.canonical (spelt l.start))))
 model_to_c s m k = (
   λ e. let a = accepted_zero s (ap (λ (r : ModelRead). r.number) e) in (accepted_is_printed s m k).0 (accepted_to_c (model_reading s) a.0 m k a.1 e),
   λ h. ap model_read ((accepted_is_printed s m k).1 h),
@@ -122,18 +123,17 @@ model_to_c s m k = (
 
 -- ---- reading a marking
 
--- the reading answers 0 exactly where the model is held and the text is the printed text of right net-tokens
+-- the reading answers 0 exactly where the model is held and the text is the printed text of right lines, with room for their net-tokens
 pub marking_to_c : (m : Model) (s : Text) → ((marking_read (marking_reading m s)).number ≡ 0)
-    ↔ (Lent longest s (held_model m) × (μ : eos.Marking) × (s ≡ marking_text μ) × (right_block bounds (sizes_for m) μ ≡ true))
-unfolding marking_text
+    ↔ (Lent longest s (held_model m) × (ls : eos.Lines) × (s ≡ block_text (bytes "start=") ls) × (right_start room_limit bounds (sizes_for m) ls ≡ true))
 marking_to_c m s =
     let z = sizes_for m in (
       λ e.
-          let (w, μ, next, b, c) = (marking_number m s).good.0 e in
-          let p = ended (read_block (bytes "start=") bounds z s 0) s μ next b in
-          let q = was_printed (read_block (bytes "start=") bounds z) (λ μ. marking_text μ) (right_block bounds z) (λ s. block_exactly bounds z s (bytes "start=")) s μ next p.0 p.1 in
-          (w, μ, q.0, q.1),
-      λ (w, μ, e, r). (marking_number m s).good.1 (w, μ, length s, (reads_what_marking_says z s μ).1 (e, r), λ i. refl),
+          let (w, ls, next, b, c) = (marking_number m s).good.0 e in
+          let p = ended (read_start room_limit bounds z s 0) s ls next b in
+          let q = was_printed (read_start room_limit bounds z) (block_text (bytes "start=")) (right_start room_limit bounds z) (λ s. start_exactly bounds z s room_limit) s ls next p.0 p.1 in
+          (w, ls, q.0, q.1),
+      λ (w, ls, e, r). (marking_number m s).good.1 (w, ls, length s, (reads_what_marking_says z s ls).1 (e, r), λ i. refl),
     )
 
 -- ---- a step
@@ -157,7 +157,7 @@ step_to_c m k s = (
 
 -- and then it says the bytes used and returns the marking after the step
 pub fired_to_c : (m : Model) (k : Marking) (s : Text) (next : ℕ) → Lent longest s (held_both m k) → (b : Brings m k s next)
-    → step_done (stepping m k s) ≡ record { number = 0; beside = 0; column = 0; used = next; marking = hold_marking (eos.canonical (after b.step (racks m k))) }
+    → step_done (stepping m k s) ≡ record { number = 0; beside = 0; column = 0; used = next; marking = hold_marking (eos.canonical (after (step_of b.step) (racks m k))) }
 fired_to_c m k s next w b =
     let x = fires_exactly m k s next w.is_held w.short in
     let p = x.always b in
@@ -167,10 +167,10 @@ fired_to_c m k s next w b =
 -- the racks of a net of which the step gives none have left empty but for what its own event takes
 pub leaving_to_c : (m : Model) (k : Marking) (s : Text) → (step_done (stepping m k s)).number ≡ 0 → (next : ℕ) × (b : Brings m k s next)
     × ((n : ℕ) → let e = eos.event (model_of m) b.step.event in
-    n < length (model_of m).nets → Loses (model_of m) e n → LeaveEmpty (model_of m) e b.step.taken b.step.given n)
+    n < length (model_of m).nets → Loses (model_of m) e n → LeaveEmpty (model_of m) e (step_of b.step).taken (step_of b.step).given n)
 leaving_to_c m k s z =
     let (w, next, b) = (step_to_c m k s).0 z in
-    (next, b, λ n known loses. leaves_empty (model_of m) (eos.event (model_of m) b.step.event) b.step.taken b.step.given n known loses b.enabled)
+    (next, b, λ n known loses. leaves_empty (model_of m) (eos.event (model_of m) b.step.event) (step_of b.step).taken (step_of b.step).given n known loses b.enabled)
 
 -- ---- weights
 

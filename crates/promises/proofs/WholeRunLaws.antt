@@ -8,17 +8,18 @@ use lib.IntN.{ℤ, pos, nat_abs}
 use lib.ListN.{length, get_or, get_or-map}
 use Rattle.text.specs.Bytes.{Text}
 use Rattle.text.specs.Lines.{got}
+use Rattle.eos.specs.Counted.{spelt}
 use Rattle.eos.specs.Model as eos
 use Rattle.eos.specs.Firing.{outer, inner}
 use Rattle.eos.specs.Weights.{weigh}
 use Rattle.eos.specs.Run.{has_fired, calls_held, calls_refused, Faithful}
 use Rattle.eos.proofs.Basics.{true_is}
 use Rattle.eos.proofs.RunLaws.{demand_3}
-use Rattle.model.specs.Limits.{room_limit, cover_limit, count_limit}
+use Rattle.model.specs.Limits.{room_limit, cover_limit}
 use Rattle.model.specs.Held.{hold_plant, model_of}
 use Rattle.model.specs.declared.Model.{Model}
 use Rattle.model.proofs.HoldModel.{model_of_hold}
-use Rattle.marking.specs.Held.{hold_marking}
+use Rattle.marking.specs.Held.{hold_marking, room_of}
 use Rattle.marking.specs.declared.Marking.{Marking}
 use Rattle.reader.specs.Reading.{Loaded, read_model, right_loaded}
 use Rattle.reader.proofs.ReadsWhatItSays.{reads_what_it_says}
@@ -68,7 +69,7 @@ number_at l fs e i h =
 
 -- ---- the run from a right model and its start
 
-module _ (l : Loaded) (right : right_loaded l ≡ true) (file : Text) (sum : ℤ) (b : Balances l.plant.model l.start file sum) (texts : List Text) where
+module _ (l : Loaded) (right : right_loaded l ≡ true) (file : Text) (sum : ℤ) (b : Balances l.plant.model (spelt l.start) file sum) (texts : List Text) where
   abbrev d : eos.Model
   d = l.plant.model
 
@@ -76,12 +77,12 @@ module _ (l : Loaded) (right : right_loaded l ≡ true) (file : Text) (sum : ℤ
   m = hold_plant l.plant
 
   abbrev k : Marking
-  k = hold_marking (eos.canonical l.start)
+  k = hold_marking (eos.canonical (spelt l.start))
 
-  faithful : Faithful room_limit count_limit d b.weights (nat_abs sum) (brings d) hold_marking (call m) l.start texts
+  faithful : Faithful cover_limit (room_of room_limit) d b.weights (nat_abs sum) (brings d) hold_marking (call m) (spelt l.start) texts
   faithful =
-      demand_3 room_limit count_limit d b.weights (nat_abs sum) (brings d) hold_marking (call m) b.shaped b.passing.balanced (true_is b.covering)
-      (brings-known d) (agrees _ d (model_right l right)) l.start (start-made l right) (b.sum_is ∙ b.whole) texts
+      demand_3 cover_limit (room_of room_limit) d b.weights (nat_abs sum) (brings d) hold_marking (call m) b.shaped b.passing.balanced (true_is b.covering)
+      (omega arith) (omega arith) (brings-known d) (agrees _ d (model_right l right)) (spelt l.start) (start-made l right) (b.sum_is ∙ b.whole) texts
 
   held-run : left_by m k texts ≡ hold_marking (eos.canonical (own_run l texts))
   held-run = left-held m texts k ∙ faithful.held
@@ -143,6 +144,6 @@ pub whole_run : (text file : Text) (m : Model) (k : Marking) (sum : ℤ) → Cov
 whole_run text file m k sum c texts =
     let (l, printed, right, short, model_is, start_is) = (accepted_is_printed text m k).0 c.accepted in
     let n = hold_plant l.plant in
-    let j = hold_marking (eos.canonical l.start) in
+    let j = hold_marking (eos.canonical (spelt l.start)) in
     let b = start_balances l right file sum (passed_as file m n k j sum model_is start_is c.passed) in
     run_as text file m n k j sum texts model_is start_is (run l right file sum b texts text ((reads_what_it_says text l).1 (printed, right)))

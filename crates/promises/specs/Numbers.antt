@@ -1,14 +1,15 @@
 -- Demand 1 (00) at what the caller sees: a call answers with one number of 01's table ("Why a thing is turned down"), for the first cause in
 -- the stated order, and beside it stands what the table says, and the column of a fault in a line (02, K5). 0 is no cause: accepted, written,
 -- passed, fired, at the trace's end.
-use Rattle.std.specs.Prelude.{ℕ, suc, ◌+◌, ◌≤◌, ◌<◌, ◌≡◌, ◌↔◌, ◌⊎◌, Bool, true, false, not, List, [], ◌∷◌, ◌++◌, leb, length, drop}
+use Rattle.std.specs.Prelude.{ℕ, suc, ◌+◌, ◌≤◌, ◌<◌, ◌≡◌, ◌↔◌, ◌⊎◌, Bool, true, false, not, List, [], ◌∷◌, ◌++◌, length, drop}
 use Rattle.std.proofs.Math.Option.{Option}
 use Rattle.text.specs.Bytes.{Text, bytes, newlines, line_at, column_at}
 use Rattle.text.specs.Lines.{Outcome, got, bad, read_head, cause_number, column_for}
 use Rattle.text.specs.Printed.{texts, number_text}
 use Rattle.text.specs.declared.Fault.{Fault}
+use Rattle.eos.specs.Counted.{Counted}
 use Rattle.eos.specs.Model as eos
-use Rattle.eos.specs.Firing.{Step, outer_taken, outer_given, inner_taken, inner_given, after}
+use Rattle.eos.specs.Firing.{Written, step_of, outer_taken, outer_given, inner_taken, inner_given, after}
 use Rattle.eos.specs.Causes.{Refusal, First, Clear, Least, unless, at, failing, lacking}
 use Rattle.eos.specs.Converting.{replaceable, Lacks}
 use Rattle.eos.specs.Weights.{Weights, effect, is_zero, all_zero}
@@ -16,6 +17,7 @@ use Rattle.model.specs.Limits.{longest, room_limit}
 use Rattle.model.specs.Held.{model_of}
 use Rattle.model.specs.Test.{held_model}
 use Rattle.model.specs.declared.Model.{Model}
+use Rattle.marking.specs.Held.{has_room}
 use Rattle.marking.specs.Printed.{net_token_text}
 use Rattle.marking.specs.Sizes.{sizes_for}
 use Rattle.marking.specs.declared.Marking.{Marking}
@@ -42,12 +44,12 @@ pub record Numbers : Type 0 where
 abbrev pub all_of : Numbers → List ℕ
 all_of ns = 0 ∷ 1 ∷ (ns.unheld ++ (ns.lines ++ ns.tests))
 
--- 01's table, call by call
+-- 01's table, call by call; a start may be refused with 12 too (02, K7)
 abbrev pub model_numbers : Numbers
-model_numbers = record { unheld = []; lines = 2 ∷ 3 ∷ 5 ∷ []; tests = [] }
+model_numbers = record { unheld = []; lines = 2 ∷ 3 ∷ 5 ∷ 12 ∷ []; tests = [] }
 
 abbrev pub marking_numbers : Numbers
-marking_numbers = record { unheld = 14 ∷ []; lines = 2 ∷ 3 ∷ []; tests = [] }
+marking_numbers = record { unheld = 14 ∷ []; lines = 2 ∷ 3 ∷ 12 ∷ []; tests = [] }
 
 abbrev pub weight_numbers : Numbers
 weight_numbers = record { unheld = 14 ∷ []; lines = 2 ∷ 3 ∷ []; tests = 6 ∷ 7 ∷ [] }
@@ -90,20 +92,21 @@ untested a = []
 -- ---- the tests of a step
 
 -- 01's table from 8 to 12: nets are numbered from 1; a step's `take` is its line 2, its token lines follow, then `give`
-unfoldable pub step_tests : eos.Model → eos.Marking → Step → List (Option Refusal)
-step_tests d μ t =
+unfoldable pub step_tests : eos.Model → eos.Marking → Written → List (Option Refusal)
+step_tests d μ w =
+    let t = step_of w in
     let e = eos.event d t.event in
     let nets = length d.nets in
-    let give = 3 + length t.taken in
+    let give = 3 + length w.taken in
     unless (outer_taken d e t.taken) (pair 8 2)
     ∷ unless (outer_given d e t.taken t.given) (pair 8 give)
     ∷ at (λ n. pair 9 (suc n)) (failing nets 0 (inner_taken d e t.taken))
     ∷ at (λ n. pair 10 (suc n)) (failing nets 0 (inner_given d e t.taken t.given))
-    ∷ at (λ i. pair 11 (3 + i)) (lacking μ 0 [] t.taken)
-    ∷ unless (leb (length (after t μ)) room_limit) (pair 12 give)
+    ∷ at (λ i. pair 11 (3 + i)) (lacking μ 0 [] w.taken)
+    ∷ unless (has_room room_limit (after t μ)) (pair 12 give)
     ∷ []
 
--- what stands beside them, in a step of a model of so many nets that takes so many net-tokens
+-- what stands beside them, in a step of a model of so many nets that takes so many lines of net-tokens
 pub record StepBeside (nets taken : ℕ) (r : Refusal) : Type 0 where
   -- the `take` line or the `give` line
   pub eight : r.number ≡ 8 → (r.beside ≡ 2) ⊎ (r.beside ≡ 3 + taken)
@@ -116,14 +119,14 @@ pub record StepBeside (nets taken : ℕ) (r : Refusal) : Type 0 where
   pub twelve : r.number ≡ 12 → r.beside ≡ 3 + taken
 
 -- which lines these are: the text is these lines and what follows, and each of them is one line
-pub record StepLines (s : Text) (t : Step) : Type 0 where
+pub record StepLines (s : Text) (t : Written) : Type 0 where
   pub rest : Text
   pub begins : s
       ≡ number_text (bytes "fire=") (suc t.event)
       ++ (number_text (bytes "take=") (length t.taken) ++ (texts net_token_text t.taken ++ (number_text (bytes "give=") (length t.given) ++ rest)))
   pub fire-line : newlines (number_text (bytes "fire=") (suc t.event)) ≡ 1
   pub take-line : newlines (number_text (bytes "take=") (length t.taken)) ≡ 1
-  pub token-line : (x : eos.NetToken) → newlines (net_token_text x) ≡ 1
+  pub token-line : (l : Counted eos.NetToken) → newlines (net_token_text l) ≡ 1
 
 -- ---- the tests of weights
 

@@ -9,5 +9,5 @@ pub record ReadsBack (m : Model) (k : Marking) (out : List ℕ) : Type 0 where
   -- where the writer answers n bytes, the first n of the lent bytes after it are accepted, and give the same marking
   pub back : (n : ℕ) → (marking_writing m k out).answer ≡ Ok n
       → marking_reading m (take n (marking_writing m k out).bytes) ≡ Ok k
-  -- and 51,466 lent bytes are enough
-  pub fits : 51466 ≤ length out → (n : ℕ) × ((marking_writing m k out).answer ≡ Ok n)
+  -- and 53,002 lent bytes are enough
+  pub fits : 53002 ≤ length out → (n : ℕ) × ((marking_writing m k out).answer ≡ Ok n)

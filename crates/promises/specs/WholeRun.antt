@@ -4,8 +4,9 @@ use Rattle.std.specs.Prelude.{◌≡◌, Bool, true, false, ◌≢◌, List, [],
 use Rattle.std.proofs.Math.Option.{Option, none, some}
 use Rattle.text.specs.Bytes.{Text}
 use Rattle.text.specs.Lines.{Outcome, got, bad}
+use Rattle.eos.specs.Counted.{spelt}
 use Rattle.eos.specs.Model as eos
-use Rattle.eos.specs.Firing.{Step, outer, inner}
+use Rattle.eos.specs.Firing.{Step, Written, step_of, outer, inner}
 use Rattle.eos.specs.Weights.{Weights, weigh}
 use Rattle.eos.specs.Run.{rule_run, rule_fired}
 use Rattle.model.specs.Limits.{longest, cover_limit}
@@ -28,9 +29,9 @@ use Rattle.runner.specs.declared.StepRefusal.TheVariants.{Unread}
 
 -- ---- the rule's own run
 
--- the step that was read, if any
-unfoldable pub step_in : Outcome Step → Option Step
-step_in (got t next) = some t
+-- the step that was read, if any, its lines written out
+unfoldable pub step_in : Outcome Written → Option Step
+step_in (got w next) = some (step_of w)
 step_in (bad e) = none
 
 -- 01: "A text brings a step if it has at most 1,048,576 bytes and begins with the lines of a step, right in key, syntax and list length,
@@ -41,10 +42,10 @@ brings m s = elim (leb (length s) longest) [ true ↦ step_in (read_step free (s
 -- 01: "The rule's own run is fed the model, its `start` and the texts lent to the step calls, in turn, and nothing else": its marking
 -- after them, and which of them brought it a step that fired
 abbrev pub own_run : Loaded → List Text → eos.Marking
-own_run l texts = rule_run l.plant.model (brings l.plant.model) texts l.start
+own_run l texts = rule_run l.plant.model (brings l.plant.model) texts (spelt l.start)
 
 abbrev pub own_fired : Loaded → List Text → List Bool
-own_fired l texts = rule_fired l.plant.model (brings l.plant.model) texts l.start
+own_fired l texts = rule_fired l.plant.model (brings l.plant.model) texts (spelt l.start)
 
 -- ---- the step calls
 

@@ -5,23 +5,25 @@ use mathlib.Core.Bool.{Bool, true, false}
 use native.Mathlib.Omega.{arith}
 use lib.Dec.{leb}
 use lib.ListN.{length}
-use Rattle.text.specs.Bytes.{Text, bytes}
+use Rattle.text.specs.Bytes.{Text}
 use Rattle.text.specs.Lines.{Outcome, got, bad}
 use Rattle.text.proofs.Basics.{by_test}
 use Rattle.text.proofs.TestLaws.{and_both}
+use Rattle.eos.specs.Counted.{spelt}
 use Rattle.eos.specs.Model as eos
-use Rattle.model.specs.Limits.{longest}
+use Rattle.model.specs.Limits.{room_limit, longest}
 use Rattle.model.specs.Held.{SizedModel}
 use Rattle.model.specs.Test.{held_model}
 use Rattle.model.specs.declared.Model.{Model}
 use Rattle.model.proofs.HoldModel as model
 use Rattle.model.proofs.HeldTests.{held-is, most-places}
 use Rattle.marking.specs.Held.{Sizes, SizedMarking, hold_marking}
-use Rattle.marking.specs.Reading.{read_block, right_block}
+use Rattle.marking.specs.Reading.{read_start, right_start}
 use Rattle.marking.specs.Sizes.{sizes_for}
 use Rattle.marking.specs.declared.Marking.{Marking}
-use Rattle.marking.proofs.BlockExactly.{block_exactly}
+use Rattle.marking.proofs.BlockExactly.{start_exactly}
 use Rattle.marking.proofs.HoldMarking as hold
+use Rattle.marking.proofs.RightTokens.{start_held}
 use Rattle.marking.proofs.SizeLaws.{held_roomy, sizes_same}
 use Rattle.marking.proofs.SizedLaws as marking
 use Rattle.reader.specs.Reading.{bounds, read_marking}
@@ -29,7 +31,7 @@ use Rattle.reader.specs.Answers.{restored, marking_or, marking_reading, marking_
 use Rattle.std.specs.Prelude.{Ok}
 use Rattle.reader.proofs.EndLaws.{ended}
 use Rattle.reader.proofs.ReadingLaws.{both_model}
-use Rattle.reader.proofs.HeldExactly.{Accepts, refused≢accepted, accepted_is_printed, right_parts, canonical-held, accepted-held, held_exactly}
+use Rattle.reader.proofs.HeldExactly.{Accepts, refused≢accepted, accepted_is_printed, right_parts, accepted-held, held_exactly}
 
 -- some accepted reading gives this held model and this held marking of it
 abbrev pub Given : Model → Marking → Type 0
@@ -66,19 +68,19 @@ given_marking m k (s, e) =
     let held = both_model m k (accepted-held s m k e) in
     let z : Sizes = sizes_for m in
     let same : z ≡ _ = ap sizes_for p.4 ∙ sizes_same _ d.model r.0 in
-    let right : right_block bounds z p.0.start ≡ true = rw same r.1 in
-    subst SizedMarking (sym p.5) (tokens-sized m held (eos.canonical p.0.start) (canonical-held z p.0.start right))
+    let right : right_start room_limit bounds z p.0.start ≡ true = rw same r.1 in
+    subst SizedMarking (sym p.5) (tokens-sized m held (eos.canonical (spelt p.0.start)) (start_held z p.0.start right))
 
 -- ---- a marking that is read for a held model
 
 module _ (m : Model) (sized : SizedModel m) (s : Text) where
-  restored-given : held_model m ≡ true → (o : Outcome eos.Marking) → read_marking (sizes_for m) s ≡ o → (k : Marking) → restored s o ≡ Ok k → Given m k
+  restored-given : held_model m ≡ true → (o : Outcome eos.Lines) → read_marking (sizes_for m) s ≡ o → (k : Marking) → restored s o ≡ Ok k → Given m k
   unfolding restored
-  restored-given held (got μ x) e k a =
+  restored-given held (got ls x) e k a =
       let z = sizes_for m in
-      let p = ended (read_block (bytes "start=") bounds z s 0) s μ x e in
-      let right = ((block_exactly bounds z s (bytes "start=")).back 0 μ x p.0).fine-is in
-      subst (Given m) (ap marking_given a) (tokens-given m held (eos.canonical μ) (canonical-held z μ right) sized)
+      let p = ended (read_start room_limit bounds z s 0) s ls x e in
+      let right = ((start_exactly bounds z s room_limit).back 0 ls x p.0).fine-is in
+      subst (Given m) (ap marking_given a) (tokens-given m held (eos.canonical (spelt ls)) (start_held z ls right) sized)
   restored-given held (bad d) e k a = refused≢accepted a
 
   tested_given : (b : Bool) → held_model m ≡ b → (k : Marking) → marking_or b m s ≡ Ok k → Given m k

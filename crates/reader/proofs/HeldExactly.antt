@@ -1,23 +1,24 @@
 -- What an accepted reading gives, at the held structs: it is the printed text that was read, the tests pass exactly for what some
--- accepted reading gives, and a written marking reads back.
-use Prim.Native.Nat.{ℕ, ◌+◌, ◌≤◌}
+-- accepted reading gives, a marking is held in one way, and a written marking reads back.
+use Prim.Native.Nat.{ℕ, ◌≤◌}
 use mathlib.Core.Path.{◌≡◌, refl, ap, ap₂, sym, ◌∙◌, subst}
 use mathlib.Core.Logic.{◌↔◌}
-use mathlib.Core.List.{[], ◌∷◌}
-use mathlib.Core.Bool.{Bool, true, ◌&&◌, and_assoc, and_comm}
+use mathlib.Core.List.{[]}
+use mathlib.Core.Bool.{true}
 use native.Mathlib.Omega.{arith}
 use lib.Dec.{leb}
 use lib.ListN.{length, length-append}
 use borrow.Author.Tests.{le-leb, leb-true}
 use Rattle.text.specs.Bytes.{Text}
 use Rattle.text.proofs.Basics.{by_test, and_true}
-use Rattle.text.specs.Lines.{Outcome, got, bad, every}
+use Rattle.text.specs.Lines.{Outcome, got, bad}
 use Rattle.text.proofs.TestLaws.{and_both}
 use Rattle.text.proofs.Unique.{was_printed}
+use Rattle.eos.specs.Multiset as M
+use Rattle.eos.specs.Counted.{spelt}
 use Rattle.eos.specs.Model as eos
-use Rattle.eos.proofs.MultisetLaws.{Monoid, sum_of, ℕ+}
-use Rattle.eos.proofs.OrderLaws.{sort_again, sum-sort}
-use Rattle.eos.proofs.FiringLaws.{token_order}
+use Rattle.eos.proofs.OrderLaws.{sort_same}
+use Rattle.eos.proofs.FiringLaws.{alike, token_order}
 use Rattle.model.specs.Limits.{room_limit, longest}
 use Rattle.model.specs.Rules.{Plant, right_plant}
 use Rattle.model.specs.Held.{hold_plant}
@@ -30,13 +31,15 @@ use Rattle.model.proofs.RuleLaws.{right_is, few-places}
 use Rattle.model.proofs.HeldTests.{held-is, most-places}
 use Rattle.model_text.specs.Printed.{plant_text}
 use Rattle.model_text.proofs.ModelLength.{plant-length}
-use Rattle.marking.specs.Held.{Sizes, sizes_of, Roomy, hold_marking, tokens_of, held_marking}
+use Rattle.marking.specs.Held.{Sizes, sizes_of, Roomy, hold_marking, tokens_of, has_room, held_marking}
 use Rattle.marking.specs.Held as marking
-use Rattle.marking.specs.Reading.{right_net_token, right_block}
+use Rattle.marking.specs.Reading.{right_block, right_start}
 use Rattle.marking.specs.Printed.{marking_text}
 use Rattle.marking.specs.declared.Marking.{Marking}
 use Rattle.marking.proofs.HoldMarking as hold
-use Rattle.marking.proofs.WriteLaws.{marking_length}
+use Rattle.marking.proofs.HoldMarking.{room_right}
+use Rattle.marking.proofs.RightTokens.{start_held}
+use Rattle.marking.proofs.WriteLaws.{spelt_entries, marking_length}
 use Rattle.reader.specs.Reading.{bounds, Loaded, read_lines, read_model, read_marking, right_loaded, read_model_at}
 use Rattle.reader.specs.Printed.{model_text}
 use Rattle.marking.specs.Sizes.{sizes_for}
@@ -57,12 +60,12 @@ accepted m k = Ok (record { model = m; start = k })
 abbrev pub Accepts : Text → Model → Marking → Type 0
 Accepts s m k = model_reading s ≡ accepted m k
 
--- a text of at most 1,048,576 bytes is the printed text of a right model and right net-tokens of it, in any order; this is how the two
--- are held, the net-tokens in canonical order
+-- a text of at most 1,048,576 bytes is the printed text of a right model and right lines of its net-tokens, which may be split up and stand in any
+-- order; this is how the two are held, the net-tokens in canonical order
 abbrev pub Printed : Text → Model → Marking → Type 0
 Printed s m k =
     (l : Loaded) × (s ≡ model_text l) × (right_loaded l ≡ true) × (length s ≤ 1048576) × (m ≡ hold_plant l.plant)
-    × (k ≡ hold_marking (eos.canonical l.start))
+    × (k ≡ hold_marking (eos.canonical (spelt l.start)))
 
 -- what is refused is not accepted
 pub refused≢accepted : {A G : Type 0} {e : ReadRefusal} {a : A} → ◌≡◌ {A = Result A ReadRefusal} (Err e) (Ok a) → G
@@ -99,37 +102,9 @@ module _ (s : Text) (m : Model) (k : Marking) where
   pub accepted_is_printed : Accepts s m k ↔ Printed s m k
   accepted_is_printed = (accepted_printed, printed_accepted)
 
--- ---- right net-tokens in canonical order are right
-
-all : Monoid Bool ◌&&◌ true
-all = record { assoc = and_assoc; comm = and_comm; unit = λ b. refl }
-
-module _ (f : eos.NetToken → Bool) where
-  every-sum : (μ : eos.Marking) → every f μ ≡ sum_of ◌&&◌ true f μ
-  every-sum [] = refl
-  every-sum (t ∷ μ) = ap (λ (b : Bool). f t && b) (every-sum μ)
-
-  every-canonical : (μ : eos.Marking) → every f (eos.canonical μ) ≡ every f μ
-  every-canonical μ = every-sum (eos.canonical μ) ∙ sum-sort eos.before token_order ◌&&◌ true all f μ ∙ sym (every-sum μ)
-
-length-sum : (μ : eos.Marking) → length μ ≡ sum_of ◌+◌ 0 (λ t. 1) μ
-length-sum [] = refl
-length-sum (t ∷ μ) = omega (arith, length-sum μ)
-
-pub length-canonical : (μ : eos.Marking) → length (eos.canonical μ) ≡ length μ
-length-canonical μ = length-sum (eos.canonical μ) ∙ sum-sort eos.before token_order ◌+◌ 0 ℕ+ (λ t. 1) μ ∙ sym (length-sum μ)
-
--- right net-tokens, put in canonical order, can be held
-pub canonical-held : (z : Sizes) (μ : eos.Marking) → right_block bounds z μ ≡ true → hold.Held z (eos.canonical μ)
-unfolding right_block
-canonical-held z μ h = record {
-  right = rw (length-canonical μ, every-canonical (right_net_token bounds z) μ) h;
-  ordered = sort_again eos.before token_order μ;
-}
-
 -- ---- the tests pass exactly for what some accepted reading gives
 
-pub right_parts : (l : Loaded) → right_loaded l ≡ true → (right_plant l.plant ≡ true) × (right_block bounds (sizes_of l.plant.model) l.start ≡ true)
+pub right_parts : (l : Loaded) → right_loaded l ≡ true → (right_plant l.plant ≡ true) × (right_start room_limit bounds (sizes_of l.plant.model) l.start ≡ true)
 unfolding right_loaded
 right_parts l h = and_true (right_plant l.plant) _ h
 
@@ -137,19 +112,23 @@ module _ (d : Plant) (right : right_plant d ≡ true) where
   roomy : Roomy (sizes_of d.model)
   roomy = subst Roomy (sizes_same _ d.model right) (held_roomy (hold_plant d) (hold_held d right))
 
-  -- a right model and right net-tokens in canonical order are accepted where they are printed
-  said_accepted : (μ : eos.Marking) → hold.Held (sizes_of d.model) μ → Accepts (model_text (record { plant = d; start = μ })) (hold_plant d) (hold_marking μ)
-  unfolding model_text right_loaded
+  -- a right model and a marking in canonical order are accepted where the model and the marking's entries are printed
+  said_accepted : (μ : eos.Marking) → hold.Held (sizes_of d.model) μ
+      → Accepts (model_text (record { plant = d; start = eos.entries μ })) (hold_plant d) (hold_marking μ)
+  unfolding model_text right_loaded marking_text
   said_accepted μ h =
-      let l : Loaded = record { plant = d; start = μ } in
-      let n = marking_length (sizes_of d.model) roomy (omega (arith, few-places d (right_is d right))) μ h.right in
+      let z = sizes_of d.model in
+      let l : Loaded = record { plant = d; start = eos.entries μ } in
+      let n = marking_length z roomy (omega (arith, few-places d (right_is d right))) μ h.right in
+      let same = spelt_entries μ h.ordered in
+      let fit : has_room room_limit (spelt (eos.entries μ)) ≡ true = ap (has_room room_limit) same ∙ room_right z μ h in
       printed_accepted (model_text l) (hold_plant d) (hold_marking μ) (
         l,
         refl,
-        and_both (right_plant d) _ right h.right,
+        and_both (right_plant d) _ right (and_both (right_block bounds z (eos.entries μ)) _ h.right fit),
         omega (arith, length-append (plant_text d) (marking_text μ), plant-length d right),
         refl,
-        ap hold_marking (sym h.ordered),
+        ap hold_marking (sym (ap eos.canonical same ∙ h.ordered)),
       )
 
 -- what an accepted reading gives passes the tests
@@ -162,7 +141,7 @@ accepted-held s m k e =
     let z : sizes_for m ≡ sizes_of d.model = ap sizes_for p.4 ∙ sizes_same _ d.model r.0 in
     and_both (held_model m) _ (rw p.4 (hold_held d r.0))
     (ap₂ (held_marking room_limit) z p.5
-    ∙ hold.hold_held (sizes_of d.model) (roomy d r.0) (eos.canonical p.0.start) (canonical-held (sizes_of d.model) p.0.start r.1))
+    ∙ hold.hold_held (sizes_of d.model) (roomy d r.0) (eos.canonical (spelt p.0.start)) (start_held (sizes_of d.model) p.0.start r.1))
 
 module _ (m : Model) (sized : model.SizedModel m) where
   -- the test of a model passes exactly for what some accepted reading gives
@@ -192,25 +171,43 @@ module _ (m : Model) (sized : model.SizedModel m) where
         let d = e.0 in
         let z : sizes_for m ≡ sizes_of d.model = ap sizes_for e.2 ∙ sizes_same _ d.model e.1 in
         let t : held_marking room_limit (sizes_of d.model) k ≡ true = rw z at a.1 in
-        let b = hold.held-tokens (sizes_of d.model) (roomy d e.1) k small t in
+        let b = hold.held_tokens (sizes_of d.model) (roomy d e.1) k small t in
         let μ = tokens_of (sizes_of d.model) k in
-        (model_text (record { plant = d; start = μ }), accepts_as _ m (hold_plant d) k (hold_marking μ) e.2 b.1 (said_accepted d e.1 μ b.0)),
+        (model_text (record { plant = d; start = eos.entries μ }), accepts_as _ m (hold_plant d) k (hold_marking μ) e.2 b.1 (said_accepted d e.1 μ b.0)),
     λ (s, e). accepted-held s m k e,
   )
+
+-- ---- a marking is held in one way
+
+-- two held markings of a held model that stand for the same net-tokens, each as often, are the same
+pub held_once : (m : Model) (j k : Marking) → marking.SizedMarking j → marking.SizedMarking k → held_both m j ≡ true → held_both m k ≡ true
+    → M.Same eos.like (tokens_of (sizes_for m) j) (tokens_of (sizes_for m) k) → j ≡ k
+unfolding held_in
+held_once m j k sized sized' h h' same =
+    let z = sizes_for m in
+    let a = and_true (held_model m) _ h in
+    let a' = and_true (held_model m) _ h' in
+    let roomy = held_roomy m a.0 in
+    let b = hold.held_tokens z roomy j sized a.1 in
+    let b' = hold.held_tokens z roomy k sized' a'.1 in
+    let e = sym b.0.ordered ∙ sort_same eos.before token_order eos.like alike (tokens_of z j) (tokens_of z k) same ∙ b'.0.ordered in
+    b.1 ∙ ap hold_marking e ∙ sym b'.1
 
 -- ---- written reads back
 
 -- the text of a held marking of a held model is accepted, and the marking is given back
 pub written_reads_back : (m : Model) (k : Marking) → marking.SizedMarking k → held_both m k ≡ true
     → marking_reading m (marking_text (tokens_of (sizes_for m) k)) ≡ Ok k
-unfolding held_in marking_reading marking_or restored
+unfolding held_in marking_reading marking_or restored marking_text
 written_reads_back m k small h =
     let a = and_true (held_model m) _ h in
     let z = sizes_for m in
-    let b = hold.held-tokens z (held_roomy m a.0) k small a.1 in
+    let b = hold.held_tokens z (held_roomy m a.0) k small a.1 in
     let μ = tokens_of z k in
     let s = marking_text μ in
     let n = marking_length z (held_roomy m a.0) (omega (arith, most-places m (held-is m a.0))) μ b.0.right in
-    let r = (reads_what_marking_says z s μ).1 (refl, b.0.right) in
-    let q : restored s (read_marking z s) ≡ Ok k = ap (restored s) r ∙ ap Ok (ap hold_marking b.0.ordered ∙ sym b.1) in
+    let same = spelt_entries μ b.0.ordered in
+    let fit : has_room room_limit (spelt (eos.entries μ)) ≡ true = ap (has_room room_limit) same ∙ room_right z μ b.0 in
+    let r = (reads_what_marking_says z s (eos.entries μ)).1 (refl, and_both (right_block bounds z (eos.entries μ)) _ b.0.right fit) in
+    let q : restored s (read_marking z s) ≡ Ok k = ap (restored s) r ∙ ap Ok (ap hold_marking (ap eos.canonical same ∙ b.0.ordered) ∙ sym b.1) in
     rw (le-leb (length s) longest (omega arith), marking_reading, a.0) q

@@ -6,7 +6,7 @@ use lib.Dec.{leb}
 use lib.ListN.{length}
 use Rattle.std.specs.Prelude.{Result}
 use Rattle.std.specs.declared.result.Result.TheVariants.{Ok, Err}
-use Rattle.text.specs.Bytes.{Text, bytes}
+use Rattle.text.specs.Bytes.{Text}
 use Rattle.text.proofs.Basics.{by_test}
 use Rattle.text.specs.Lines.{Outcome, got, bad, then, need}
 use Rattle.text.specs.Answers.{kept, accepted}
@@ -15,6 +15,7 @@ use Rattle.text_reader.specs.Place.{Reads, lent, closed}
 use Rattle.text_reader.specs.declared.Reader.{Reader}
 use Rattle.text_reader.proofs.ReadsLaws.{read_of, refused_of}
 use Rattle.eos.specs.Model as eos
+use Rattle.model.specs.Limits.{room_limit}
 use Rattle.model.specs.Rules.{Plant, right_plant}
 use Rattle.model.specs.Held.{hold_plant}
 use Rattle.model.specs.Test.{held_model}
@@ -24,7 +25,7 @@ use Rattle.model_text.specs.Reading.{read_plant}
 use Rattle.model_text.proofs.PlantExactly.{plant_exactly}
 use Rattle.marking.specs.Held.{Sizes, sizes_of, as_sizes}
 use Rattle.marking.specs.Sizes.{place_sizes}
-use Rattle.marking.specs.Reading.{read_block}
+use Rattle.marking.specs.Reading.{read_start}
 use Rattle.marking.specs.Answers.{hold_block}
 use Rattle.marking.specs.declared.Marking.{Marking}
 use Rattle.marking.proofs.SizeLaws.{sizes_same}
@@ -34,7 +35,7 @@ use Rattle.reader.proofs.EndLaws.{refused_to_end, read_to_end}
 
 -- ---- net-tokens to the end of the text
 
-module _ (o : Outcome eos.Marking) (old new : Reader) where
+module _ (o : Outcome eos.Lines) (old new : Reader) where
   -- a line of them is refused
   pub tokens_refused : (e : Fault) → Reads (kept hold_block o) old new (Err e) → Err e ≡ accepted (kept hold_block (then o (read_end old.src.now)))
   tokens_refused = refused_to_end hold_block o old new
@@ -47,11 +48,11 @@ module _ (o : Outcome eos.Marking) (old new : Reader) where
 -- ---- a model with its start
 
 -- a model with the start that is read
-abbrev with : Plant → eos.Marking → ℕ → Outcome Loaded
+abbrev with : Plant → eos.Lines → ℕ → Outcome Loaded
 with d μ y = got (record { plant = d; start = μ }) y
 
 -- the end is tested before or after the two are joined
-join_end : (d : Plant) (s : Text) (o : Outcome eos.Marking)
+join_end : (d : Plant) (s : Text) (o : Outcome eos.Lines)
     → then (then o (with d)) (read_end s) ≡ then (then o (read_end s)) (with d)
 unfolding then read_end need
 join_end d s (got μ y) = by_test (leb (length s) y) (λ h. rw h) (λ h. rw h)
@@ -62,7 +63,7 @@ abbrev pub beside : Model → Result Marking Fault → Result (Model × Marking)
 beside m (Ok k) = Ok (m, k)
 beside m (Err e) = Err e
 
-beside_with : (d : Plant) (o : Outcome eos.Marking) → beside (hold_plant d) (accepted (kept hold_block o)) ≡ accepted (kept hold_loaded (then o (with d)))
+beside_with : (d : Plant) (o : Outcome eos.Lines) → beside (hold_plant d) (accepted (kept hold_block o)) ≡ accepted (kept hold_loaded (then o (with d)))
 unfolding accepted kept then
 beside_with d (got μ y) = refl
 beside_with d (bad e) = refl
@@ -70,7 +71,7 @@ beside_with d (bad e) = refl
 -- the model was read, and its start stands behind it
 behind_plant : (s : Text) (at : ℕ) (d : Plant) (next : ℕ) → read_plant s at ≡ got d next → read_model_at s at ≡ then (read_marking_at (sizes_of d.model) s next) (with d)
 unfolding read_model_at read_lines then
-behind_plant s at d next e = rw e (join_end d s (read_block (bytes "start=") bounds (sizes_of d.model) s next))
+behind_plant s at d next e = rw e (join_end d s (read_start room_limit bounds (sizes_of d.model) s next))
 
 module _ (old mid : Reader) where
   abbrev plant : Outcome Plant

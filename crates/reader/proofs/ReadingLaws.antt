@@ -130,7 +130,7 @@ module _ (m : Model) (s : Text) where
       unfolding marking_reading marking_or accepted kept restored
       marking_refused e h = rw (le-leb (length s) longest few, marking_reading, held) (go (read_marking (sizes_for m) s) (rw is at h))
         where
-          go : (o : Outcome eos.Marking) → Err e ≡ accepted (kept hold_block o) → Err (faulty s e) ≡ restored s o
+          go : (o : Outcome eos.Lines) → Err e ≡ accepted (kept hold_block o) → Err (faulty s e) ≡ restored s o
           go (got l x) k = let z : ◌≡◌ {A = ℕ} 0 1 = cc in absurd (omega arith)
           go (bad d) k = let z : e ≡ d = cc in rw z
 
@@ -138,7 +138,7 @@ module _ (m : Model) (s : Text) where
       unfolding marking_reading marking_or accepted kept restored
       marking_accepted k h = rw (le-leb (length s) longest few, marking_reading, held) (go (read_marking (sizes_for m) s) (rw is at h))
         where
-          go : (o : Outcome eos.Marking) → Ok k ≡ accepted (kept hold_block o) → Ok k ≡ restored s o
+          go : (o : Outcome eos.Lines) → Ok k ≡ accepted (kept hold_block o) → Ok k ≡ restored s o
           go (got μ x) h = let z : k ≡ hold_block μ = cc in rw z
           go (bad d) h = let z : ◌≡◌ {A = ℕ} 0 1 = cc in absurd (omega arith)
 

@@ -1,4 +1,4 @@
--- What was written reads back, at the call: the bytes that the writer says it wrote. And a buffer of 51,466 bytes is enough.
+-- What was written reads back, at the call: the bytes that the writer says it wrote. And a buffer of 53,002 bytes is enough.
 use Prim.Native.Nat.{ℕ, ◌≤◌}
 use mathlib.Core.Path.{◌≡◌, refl, ap, sym, ◌∙◌}
 use mathlib.Core.Bool.{true}
@@ -17,7 +17,7 @@ use Rattle.marking.specs.Printed.{marking_text}
 use Rattle.marking.specs.Sizes.{sizes_for}
 use Rattle.marking.specs.declared.Marking.{Marking}
 use Rattle.marking.proofs.SizeLaws.{held_roomy}
-use Rattle.marking.proofs.WriteLaws.{held-length}
+use Rattle.marking.proofs.WriteLaws.{held_text_length}
 use Rattle.reader.specs.Answers.{Answered, marking_reading, held_both, lay_whole, marking_writing, held_in}
 use Rattle.reader.proofs.WriteAnswers.{whole-fits, whole-short}
 use Rattle.reader.proofs.HeldExactly.{written_reads_back}
@@ -61,10 +61,10 @@ module _ (m : Model) (k : Marking) (out : List ℕ) where
         ap (λ (a : Answered). take n a.bytes) w ∙ laid_stands text out n (ap (λ (a : Answered). a.answer) (sym w) ∙ e) in
         ap (marking_reading m) s ∙ written_reads_back m k sized h
 
-    -- a held marking is written into any buffer of 51,466 bytes
-    pub writing_fits : held_both m k ≡ true → 51466 ≤ length out → (n : ℕ) × ((marking_writing m k out).answer ≡ Ok n)
+    -- a held marking is written into any buffer of 53,002 bytes
+    pub writing_fits : held_both m k ≡ true → 53002 ≤ length out → (n : ℕ) × ((marking_writing m k out).answer ≡ Ok n)
     unfolding held_in
     writing_fits h long =
         let a = and_true (held_model m) _ h in
-        let n = held-length (sizes_for m) (held_roomy m a.0) (omega (arith, most-places m (held-is m a.0))) k sized a.1 in
+        let n = held_text_length (sizes_for m) (held_roomy m a.0) (omega (arith, most-places m (held-is m a.0))) k sized a.1 in
         (length text, ap (λ (a : Answered). a.answer) (held_writes h ∙ sym (whole-fits text out (omega arith))))

@@ -15,7 +15,7 @@ use Rattle.text.specs.declared.Spot.{Spot}
 use Rattle.text.proofs.Basics.{by_test}
 use Rattle.text.proofs.Refusals.{Refuses, ThenFaults, need-bad, made_refuses, then_refuses}
 use Rattle.eos.specs.Model as eos
-use Rattle.model.specs.Limits.{longest}
+use Rattle.model.specs.Limits.{longest, room_limit}
 use Rattle.model.specs.Test.{held_model}
 use Rattle.model.specs.declared.Model.{Model}
 use Rattle.model.specs.Rules.{right_plant}
@@ -24,10 +24,10 @@ use Rattle.model_text.proofs.PlantExactly.{plant_exactly}
 use Rattle.model_text.proofs.PlantRefused.{PlantFaults, plant_refuses}
 use Rattle.marking.specs.Held.{Sizes, sizes_of}
 use Rattle.marking.specs.Sizes.{sizes_for}
-use Rattle.marking.specs.Reading.{right_block}
+use Rattle.marking.specs.Reading.{right_start}
 use Rattle.marking.specs.Printed.{block_text}
-use Rattle.marking.proofs.BlockExactly.{block_exactly}
-use Rattle.marking.proofs.BlockRefused.{BlockFaults, block_refuses}
+use Rattle.marking.proofs.BlockExactly.{start_exactly}
+use Rattle.marking.proofs.BlockRefused.{StartFaults, start_refuses}
 use Rattle.reader.specs.Reading.{bounds, Loaded, read_end, read_lines, read_model_at, read_marking_at, right_loaded}
 use Rattle.reader.specs.Answers.{loaded, model_reading, restored, marking_or, marking_reading}
 use Rattle.reader.specs.declared.ReadRefusal.{ReadRefusal}
@@ -54,7 +54,7 @@ module _ (s : Text) where
 
   -- of the lines of a model and of its start, and of the end
   abbrev pub LoadedFaults : ℕ → Fault → Type 0
-  LoadedFaults = ThenFaults s plant_text (PlantFaults s) right_plant λ p. BlockFaults s bounds (sizes_of p.model) (bytes "start=")
+  LoadedFaults = ThenFaults s plant_text (PlantFaults s) right_plant λ p. StartFaults s bounds (sizes_of p.model) room_limit
 
   abbrev pub ModelFaults : ℕ → Fault → Type 0
   ModelFaults = ThenFaults s model_text LoadedFaults right_loaded λ l. EndFaults
@@ -63,7 +63,7 @@ module _ (s : Text) where
   unfolding read_lines
   lines_refuses =
       then_refuses (plant_exactly s) (plant_refuses s) (λ p.
-      made_refuses (block_refuses bounds (sizes_of p.model) s (bytes "start=")) (λ μ. record { plant = p; start = μ }))
+      made_refuses (start_refuses bounds (sizes_of p.model) s room_limit) (λ ls. record { plant = p; start = ls }))
 
   -- the text of a model
   pub model_refuses : Refuses (read_model_at s) ModelFaults
@@ -72,11 +72,11 @@ module _ (s : Text) where
 
   -- of the lines of a marking, and of the end
   abbrev pub MarkingFaults : Sizes → ℕ → Fault → Type 0
-  MarkingFaults z = ThenFaults s (block_text (bytes "start=")) (BlockFaults s bounds z (bytes "start=")) (right_block bounds z) λ μ. EndFaults
+  MarkingFaults z = ThenFaults s (block_text (bytes "start=")) (StartFaults s bounds z room_limit) (right_start room_limit bounds z) λ ls. EndFaults
 
   -- the text of a marking
   pub marking_refuses : (z : Sizes) → Refuses (read_marking_at z s) (MarkingFaults z)
-  marking_refuses z = then_refuses (block_exactly bounds z s (bytes "start=")) (block_refuses bounds z s (bytes "start=")) end_refuses
+  marking_refuses z = then_refuses (start_exactly bounds z s room_limit) (start_refuses bounds z s room_limit) end_refuses
 
 -- ---- at the calls
 
@@ -113,9 +113,9 @@ model_answers s p = (
   λ h. let e = h.1 in rw (le-leb (length s) longest h.0, model_reading, (model_refuses s).forth 0 e.0 e.1, e.2),
 )
 
-restored_names : (s : Text) (o : Outcome eos.Marking) (p : Spot) → restored s o ≡ Err (Faulty p) → (e : Fault) × (o ≡ bad e) × (p ≡ spot_of s e)
+restored_names : (s : Text) (o : Outcome eos.Lines) (p : Spot) → restored s o ≡ Err (Faulty p) → (e : Fault) × (o ≡ bad e) × (p ≡ spot_of s e)
 unfolding restored
-restored_names s (got μ x) p h = accepted≢faulty h
+restored_names s (got ls x) p h = accepted≢faulty h
 restored_names s (bad e) p h = (e, refl, faulty-is h)
 
 -- and a marking's, for a held model, its lines read for that model

@@ -5,6 +5,7 @@ use Rattle.text.specs.Lines.{Outcome, got, bad, spot_of, cause_number}
 use Rattle.text.specs.Writing.{lay}
 use Rattle.text.specs.declared.Fault.{Fault}
 use Rattle.text.specs.declared.TooSmall as small
+use Rattle.eos.specs.Counted.{spelt}
 use Rattle.eos.specs.Model as eos
 use Rattle.eos.specs.Causes.{Refusal}
 use Rattle.model.specs.Limits.{room_limit, longest}
@@ -67,7 +68,7 @@ unfoldable pub short : ℕ → Text → Result (Unit {0}) ReadRefusal
 short most s = elim (leb (length s) most) [ true ↦ Ok tt | false ↦ Err TooLong ]
 
 unfoldable pub loaded : Text → Outcome Loaded → Result ModelReading ReadRefusal
-loaded s (got l x) = Ok (record { model = hold_plant l.plant; start = hold_marking (eos.canonical l.start) })
+loaded s (got l x) = Ok (record { model = hold_plant l.plant; start = hold_marking (eos.canonical (spelt l.start)) })
 loaded s (bad e) = Err (faulty s e)
 
 -- reading a model: 1, then its lines
@@ -79,8 +80,8 @@ abbrev pub model_given : Result ModelReading ReadRefusal → ModelReading
 model_given (Ok r) = r
 model_given (Err e) = record { model = no_model; start = no_marking }
 
-unfoldable pub restored : Text → Outcome eos.Marking → Result Marking ReadRefusal
-restored s (got μ x) = Ok (hold_marking (eos.canonical μ))
+unfoldable pub restored : Text → Outcome eos.Lines → Result Marking ReadRefusal
+restored s (got ls x) = Ok (hold_marking (eos.canonical (spelt ls)))
 restored s (bad e) = Err (faulty s e)
 
 unfoldable pub marking_or : Bool → Model → Text → Result Marking ReadRefusal

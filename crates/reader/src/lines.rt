@@ -9,7 +9,7 @@ ghost use Rattle.reader.specs.Reading.{read_model, read_marking_at, read_marking
 ghost use Rattle.reader.specs.Parts.{hold_loaded};
 
 use marking::{Marking, PlaceSizes};
-use marking_read::block;
+use marking_read::start;
 use marking_test::place_sizes;
 use model::Model;
 use model_read::read_plant;
@@ -21,7 +21,7 @@ fn start_lines(r: &mut Reader, z: &PlaceSizes, marking: &mut Marking) -> Result<
     requires { Roomy (as_sizes z.now) }
     ensures { lent marking.new result ≡ accepted (kept hold_block (read_marking_at (as_sizes z.now) r.old.src.now r.old.at)) }
 {
-    block(r, b"start=", Model::LINES, z, marking)?;
+    start(r, Model::LINES, z, Marking::ROOM, marking)?;
     r.close()
 }
 

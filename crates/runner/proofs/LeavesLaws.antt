@@ -9,16 +9,15 @@ use Rattle.text.specs.Bytes.{Text}
 use Rattle.text.specs.Lines.{Outcome, got, bad}
 use Rattle.text.proofs.Basics.{by_test}
 use Rattle.eos.specs.Model as eos
-use Rattle.eos.specs.Firing.{Step, after}
+use Rattle.eos.specs.Firing.{Written, step_of, after}
 use Rattle.eos.specs.Causes.{Cause, refusal}
 use Rattle.model.specs.Limits.{room_limit, longest}
 use Rattle.model.specs.Held.{model_of}
 use Rattle.model.specs.declared.Model.{Model}
-use Rattle.marking.specs.Held.{hold_marking, tokens_of}
+use Rattle.marking.specs.Held.{hold_marking, tokens_of, has_room}
 use Rattle.marking.specs.Sizes.{sizes_for}
 use Rattle.marking.specs.declared.Marking.{Marking}
 use Rattle.reader.specs.Answers.{held_both}
-use Rattle.step.specs.Verdict.{has_room}
 use Rattle.runner.specs.Answers.{step_judged, read_then, stepped, held_step, where_held, stepping, stepping_in, Stepped}
 use Rattle.runner.proofs.RuledLaws.{RightStep, read_right}
 use Rattle.runner.proofs.StepAnswers.{reading, held_reads}
@@ -28,14 +27,14 @@ module _ (m : Model) (k : Marking) where
   μ = tokens_of (sizes_for m) k
 
   module _ (P : Marking → Type 0) (before : P k)
-      (fired : (t : Step) → RightStep (sizes_for m) m.listed t → refusal (has_room room_limit) (model_of m) t μ ≡ none → P (hold_marking (eos.canonical (after t μ)))) where
-    judged_hands_on : (t : Step) (next : ℕ) → RightStep (sizes_for m) m.listed t → (o : Option Cause) → refusal (has_room room_limit) (model_of m) t μ ≡ o
+      (fired : (t : Written) → RightStep (sizes_for m) m.listed t → refusal (has_room room_limit) (model_of m) t μ ≡ none → P (hold_marking (eos.canonical (after (step_of t) μ)))) where
+    judged_hands_on : (t : Written) (next : ℕ) → RightStep (sizes_for m) m.listed t → (o : Option Cause) → refusal (has_room room_limit) (model_of m) t μ ≡ o
         → P (stepped k (step_judged μ t next o)).marking
     unfolding step_judged stepped
     judged_hands_on t next r none e = fired t r e
     judged_hands_on t next r (some c) e = before
 
-    read_hands_on : (s : Text) (o : Outcome Step) → reading m k s ≡ o → P (stepped k (read_then room_limit (model_of m) μ s o)).marking
+    read_hands_on : (s : Text) (o : Outcome Written) → reading m k s ≡ o → P (stepped k (read_then room_limit (model_of m) μ s o)).marking
     unfolding read_then stepped
     read_hands_on s (got t next) e = judged_hands_on t next (read_right (sizes_for m) m.listed s t next e) (refusal (has_room room_limit) (model_of m) t μ) refl
     read_hands_on s (bad d) e = before

@@ -9,18 +9,17 @@ use Rattle.text.specs.Bytes.{Text}
 use Rattle.text.proofs.Basics.{by_test}
 use Rattle.text.specs.Lines.{Outcome, got, bad}
 use Rattle.eos.specs.Model as eos
-use Rattle.eos.specs.Firing.{Step}
+use Rattle.eos.specs.Firing.{Written}
 use Rattle.eos.specs.Causes.{Cause, refusal}
 use Rattle.model.specs.Limits.{longest, room_limit}
 use Rattle.model.specs.Held.{model_of}
 use Rattle.model.specs.declared.Model.{Model}
-use Rattle.marking.specs.Held.{tokens_of}
+use Rattle.marking.specs.Held.{tokens_of, has_room}
 use Rattle.marking.specs.declared.Marking.{Marking}
 use Rattle.reader.specs.Reading.{bounds}
 use Rattle.marking.specs.Sizes.{sizes_for}
 use Rattle.reader.specs.Answers.{held_both}
 use Rattle.step.specs.Reading.{read_step}
-use Rattle.step.specs.Verdict.{has_room}
 use Rattle.runner.specs.Answers.{used_by, step_judged, read_then, tried, stepped, held_step, where_held, stepping, stepping_in, Stepped}
 use Rattle.std.specs.Prelude.{Ok}
 
@@ -28,12 +27,12 @@ use Rattle.std.specs.Prelude.{Ok}
 abbrev pub Leaves : Marking → Stepped → Type 0
 Leaves k r = ((n : ℕ) → r.answer ≡ Ok n → ⊥) → (r.marking ≡ k) × (used_by r.answer ≡ 0)
 
-judged-leaves : (k : Marking) (μ : eos.Marking) (t : Step) (next : ℕ) (o : Option Cause) → Leaves k (stepped k (step_judged μ t next o))
+judged-leaves : (k : Marking) (μ : eos.Marking) (t : Written) (next : ℕ) (o : Option Cause) → Leaves k (stepped k (step_judged μ t next o))
 unfolding step_judged stepped
 judged-leaves k μ t next none n = absurd (n next refl)
 judged-leaves k μ t next (some r) n = (refl, refl)
 
-read_leaves : (room : ℕ) (k : Marking) (m : eos.Model) (μ : eos.Marking) (s : Text) (o : Outcome Step) → Leaves k (stepped k (read_then room m μ s o))
+read_leaves : (room : ℕ) (k : Marking) (m : eos.Model) (μ : eos.Marking) (s : Text) (o : Outcome Written) → Leaves k (stepped k (read_then room m μ s o))
 unfolding read_then stepped
 read_leaves room k m μ s (got t next) n = judged-leaves k μ t next (refusal (has_room room) m t μ) n
 read_leaves room k m μ s (bad e) n = (refl, refl)

@@ -14,18 +14,17 @@ use Rattle.text.specs.declared.Fault.{Fault}
 use Rattle.text.specs.declared.Spot.{Spot}
 use Rattle.text.proofs.Basics.{by_test}
 use Rattle.eos.specs.Model as eos
-use Rattle.eos.specs.Firing.{Step}
+use Rattle.eos.specs.Firing.{Written}
 use Rattle.eos.specs.Causes.{Cause, refusal}
 use Rattle.model.specs.Limits.{room_limit, longest}
 use Rattle.model.specs.Held.{model_of}
 use Rattle.model.specs.declared.Model.{Model}
-use Rattle.marking.specs.Held.{tokens_of}
+use Rattle.marking.specs.Held.{tokens_of, has_room}
 use Rattle.marking.specs.Sizes.{sizes_for}
 use Rattle.marking.specs.declared.Marking.{Marking}
 use Rattle.reader.specs.Reading.{bounds}
 use Rattle.reader.specs.Answers.{held_both, held_in}
 use Rattle.step.specs.Reading.{read_step}
-use Rattle.step.specs.Verdict.{has_room}
 use Rattle.step.proofs.StepRefused.{StepFaults, step_refuses}
 use Rattle.runner.specs.Answers.{step_judged, read_then, tried, stepped, held_step, where_held, stepping_in, stepping}
 use Rattle.reader.specs.declared.ReadRefusal.TheVariants.{TooLong, NotHeld, Faulty}
@@ -44,12 +43,12 @@ unheld≢faulty : {G : Type 0} {p : Spot} → ◌≡◌ {A = Result ℕ StepRefu
 unheld≢faulty e = let z : ◌≡◌ {A = ℕ} 0 1 = cc in absurd (omega arith)
 
 -- a step that is judged has no faulty line
-judged_names : (k : Marking) (μ : eos.Marking) (t : Step) (next : ℕ) (c : Option Cause) (p : Spot) → (stepped k (step_judged μ t next c)).answer ≡ Err (Unread (Faulty p)) → ⊥
+judged_names : (k : Marking) (μ : eos.Marking) (t : Written) (next : ℕ) (c : Option Cause) (p : Spot) → (stepped k (step_judged μ t next c)).answer ≡ Err (Unread (Faulty p)) → ⊥
 unfolding stepped step_judged
 judged_names k μ t next none p h = let u : ◌≡◌ {A = ℕ} 0 1 = cc in omega arith
 judged_names k μ t next (some c) p h = let u : ◌≡◌ {A = ℕ} 0 1 = cc in omega arith
 
-read_names : (k : Marking) (m : eos.Model) (μ : eos.Marking) (s : Text) (o : Outcome Step) (p : Spot) → (stepped k (read_then room_limit m μ s o)).answer ≡ Err (Unread (Faulty p))
+read_names : (k : Marking) (m : eos.Model) (μ : eos.Marking) (s : Text) (o : Outcome Written) (p : Spot) → (stepped k (read_then room_limit m μ s o)).answer ≡ Err (Unread (Faulty p))
     → (e : Fault) × (o ≡ bad e) × (p ≡ spot_of s e)
 unfolding read_then stepped
 read_names k m μ s (got t next) p h = absurd (judged_names k μ t next (refusal (has_room room_limit) m t μ) p h)

@@ -4,19 +4,19 @@ use Rattle.std.proofs.Math.Option.{Option, none, some}
 use Rattle.text.specs.Bytes.{Text}
 use Rattle.text.specs.Lines.{Outcome, got, bad}
 use Rattle.eos.specs.Model as eos
-use Rattle.eos.specs.Firing.{Step, after}
+use Rattle.eos.specs.Firing.{Written, step_of, after}
 use Rattle.eos.specs.Causes.{Refusal, Cause, refusal}
 use Rattle.model.specs.Limits.{room_limit, longest}
 use Rattle.model.specs.Held.{model_of}
 use Rattle.model.specs.declared.Model.{Model}
-use Rattle.marking.specs.Held.{Sizes, hold_marking, tokens_of}
+use Rattle.marking.specs.Held.{Sizes, hold_marking, tokens_of, has_room}
 use Rattle.marking.specs.declared.Marking.{Marking}
 use Rattle.reader.specs.Reading.{bounds}
 use Rattle.marking.specs.Sizes.{sizes_for}
 use Rattle.reader.specs.Answers.{triple_of, unread_triple, faulty, held_in}
 use Rattle.reader.specs.declared.ReadRefusal.TheVariants.{TooLong, NotHeld}
 use Rattle.step.specs.Reading.{read_step}
-use Rattle.step.specs.Verdict.{has_room, turned_by, turned_triple}
+use Rattle.step.specs.Verdict.{turned_by, turned_triple}
 use Rattle.runner.specs.declared.StepRefusal.{StepRefusal}
 use Rattle.runner.specs.declared.StepRefusal.TheVariants.{Unread, Turned}
 
@@ -43,14 +43,14 @@ pub data Tried : Type 0 where
   fires : ℕ → eos.Marking → Tried
   stops : StepRefusal → Tried
 
--- a step that was read, a line for each net-token: the first of the causes 8 to 12, or the marking after in canonical order
-unfoldable pub step_judged : eos.Marking → Step → ℕ → Option Cause → Tried
-step_judged μ t next none = fires next (eos.canonical (after t μ))
-step_judged μ t next (some c) = stops (Turned (turned_by (length t.taken) c))
+-- a step that was read: the first of the causes 8 to 12, or the marking after in canonical order
+unfoldable pub step_judged : eos.Marking → Written → ℕ → Option Cause → Tried
+step_judged μ w next none = fires next (eos.canonical (after (step_of w) μ))
+step_judged μ w next (some c) = stops (Turned (turned_by (length w.taken) c))
 
 -- line by line 2 and 3, lines counted from the step's own `fire` line, which begins the text; then 8 to 12
-unfoldable pub read_then : ℕ → eos.Model → eos.Marking → Text → Outcome Step → Tried
-read_then room m μ s (got t next) = step_judged μ t next (refusal (has_room room) m t μ)
+unfoldable pub read_then : ℕ → eos.Model → eos.Marking → Text → Outcome Written → Tried
+read_then room m μ s (got w next) = step_judged μ w next (refusal (has_room room) m w μ)
 read_then room m μ s (bad e) = stops (Unread (faulty s e))
 
 -- a marking has its room

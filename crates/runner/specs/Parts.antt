@@ -1,18 +1,15 @@
 -- What the parts of this crate's code answer.
-use Rattle.std.specs.Prelude.{ℕ, List, ◌++◌, Result, Ok, Err}
-use Rattle.eos.specs.Multiset as M
-use Rattle.marking.specs.Tokens.{like, before, holding, tokens_in}
+use Rattle.std.specs.Prelude.{ℕ, List, Ok}
+use Rattle.std.proofs.Math.Option.{Option, none, some}
+use Rattle.eos.specs.Causes.{Cause}
+use Rattle.marking.specs.Tokens.{held_by}
 use Rattle.marking.specs.declared.NetToken.{NetToken}
 use Rattle.marking.specs.declared.Marking.{Marking}
-use Rattle.step.specs.declared.Refusal.{Refusal}
+use Rattle.step.specs.Verdict.{turned_by}
 use Rattle.runner.specs.declared.StepRefusal.TheVariants.{Turned}
 use Rattle.runner.specs.Answers.{Stepped, stays}
 
--- a marking changed by net-tokens that are taken and given
-abbrev pub changed : Marking → List NetToken → List NetToken → Marking
-changed k taken given = holding (M.sort before (M.less like (tokens_in k) taken ++ given))
-
--- a step whose lines were read, up to a position, by the verdict on it
-unfoldable pub ruled : ℕ → Marking → List NetToken → List NetToken → Result (Unit {0}) Refusal → Stepped
-ruled next k taken given (Ok x) = record { answer = Ok next; marking = changed k taken given }
-ruled next k taken given (Err r) = stays (Turned r) k
+-- a step whose lines were read, up to a position, that takes so many lines and leaves ts, by the first of its causes
+unfoldable pub ruled : ℕ → Marking → ℕ → List NetToken → Option Cause → Stepped
+ruled next k lines ts none = record { answer = Ok next; marking = held_by ts }
+ruled next k lines ts (some c) = stays (Turned (turned_by lines c)) k

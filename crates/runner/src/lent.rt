@@ -3,7 +3,7 @@ ghost use Rattle.std.specs.Prelude.{◌≡◌, true, ◌≤◌, length};
 ghost use Rattle.eos.specs.Causes.{first};
 ghost use Rattle.model.specs.Limits.{room_limit, longest};
 ghost use Rattle.marking.specs.Tokens.{tokens_in, Kept};
-ghost use Rattle.step.specs.Verdict.{causes_in, verdict_of};
+ghost use Rattle.step.specs.Verdict.{left_held, causes_in};
 ghost use Rattle.step.specs.VerdictParts.{Sound, Placed};
 ghost use Rattle.model.specs.Test.{held_model};
 ghost use Rattle.marking.specs.Sizes.{place_sizes};
@@ -12,7 +12,7 @@ ghost use Rattle.runner.specs.Parts.{ruled};
 ghost use Rattle.runner.specs.Answers.{held_step};
 
 use super::StepRefusal;
-use marking::{Marking, NetToken, PlaceSizes};
+use marking::{Entry, Marking, PlaceSizes};
 use marking_test::place_sizes;
 use model::Model;
 use reader::named;
@@ -23,33 +23,33 @@ use step_rule::rule_of;
 use step_verdict::verdict;
 use text_reader::Reader;
 
-// A step whose lines were read, up to `next`: it is turned down, or the marking is changed.
+// A step whose lines were read, up to `next`: it is turned down, for its lines or by its change, or the marking is changed.
 fn fire(
     room: usize,
     rule: &Rule,
     k: &mut Marking,
-    taken: &[NetToken],
-    given: &[NetToken],
+    taken: &[Entry],
+    given: &[Entry],
     next: usize,
 ) -> Result<usize, StepRefusal>
-    requires { (room ≤ room_limit) × Sound rule.now × Placed taken.now × Placed given.now × Kept k.old }
+    requires { (room ≤ room_limit) × (k.old.len ≤ room) × Sound rule.now × Placed taken.now × Placed given.now × Kept k.old }
     ensures { record { answer = result; marking = k.new }
-        ≡ ruled next k.old taken.now given.now (verdict_of (length taken.now) (first (causes_in room rule.now taken.now given.now (tokens_in k.old)))) }
+        ≡ ruled next k.old (length taken.now) (left_held (tokens_in k.old) taken.now given.now) (first (causes_in room rule.now taken.now given.now (tokens_in k.old))) }
 {
-    verdict(room, rule, taken, given, k.held())?;
-    change(k, taken, given);
+    verdict(rule, taken, given)?;
+    change(k, taken, given, room)?;
     Ok(next)
 }
 
-// What the steps of a run share: a held model, how many counts the net-tokens of its places have, how many net-tokens a marking has room
-// for, and room for those that a step takes and gives, in fixed memory.
+// What the steps of a run share: a held model, how many counts the net-tokens of its places have, how many entries a marking has room for, and
+// room for the lines that a step takes and gives, in fixed memory.
 #[derive(Drop)]
 pub struct Stepper<'a> {
     pub model: &'a Model,
     pub sizes: PlaceSizes,
     pub room: usize,
-    pub taken: [NetToken; Marking::ROOM],
-    pub given: [NetToken; Marking::ROOM],
+    pub taken: [Entry; Marking::ROOM],
+    pub given: [Entry; Marking::ROOM],
     ghost held: { held_model model.now ≡ true },
     ghost sized: { sizes ≡ place_sizes model.now },
     ghost bounded: { room ≤ room_limit },
@@ -60,7 +60,7 @@ impl<'a> Stepper<'a> {
         requires { (held_model model.now ≡ true) × (room ≤ room_limit) }
         ensures { (result.model.now ≡ model.now) × (result.room ≡ room) }
     {
-        let unused = [NetToken::empty(); Marking::ROOM];
+        let unused = [Entry::empty(); Marking::ROOM];
         Stepper {
             model,
             sizes: place_sizes(model),
@@ -72,7 +72,7 @@ impl<'a> Stepper<'a> {
 
     // A step on a lent held marking: for a run over many steps, the held test stands once in front of the run.
     pub fn step_on(&mut self, k: &mut Marking, s: &[u8]) -> Result<usize, StepRefusal>
-        requires { (held_both self.old.model.now k.old ≡ true) × (length s.now ≤ longest) × (length k.old.tokens ≡ room_limit) }
+        requires { (held_both self.old.model.now k.old ≡ true) × (length s.now ≤ longest) × (length k.old.entries ≡ room_limit) × (k.old.len ≤ self.old.room) }
         ensures stepped { record { answer = result; marking = k.new } ≡ held_step self.old.room self.old.model.now k.old s.now }
         ensures same { (self.new.model.now ≡ self.old.model.now) × (self.new.room ≡ self.old.room) }
     {

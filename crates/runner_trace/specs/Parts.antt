@@ -25,5 +25,5 @@ turn_at m s at k =
 pub record Ready (room : ℕ) (m : Model) (s : Text) (k : Marking) : Type 0 where
   pub held : held_both m k ≡ true
   pub within : length s ≤ longest
-  pub long : length k.tokens ≡ room_limit
+  pub long : length k.entries ≡ room_limit
   pub room_is : room ≡ room_limit

@@ -1,7 +1,7 @@
 -- The table of 01's starred cases: the definitions give each row its outcome. So they do of the worked cases of 02.
 use mathlib.Core.Path.{◌≡◌, refl, ap₂}
 use mathlib.Core.List.{List, [], ◌∷◌, ◌++◌, map}
-use Rattle.starred.specs.Table.{once_read, checked, step_outcome, counted, check_for, step_on, step_for, outcome_of, Case, listed_weighings, listed_steps, insides, new_racks, full_hall_weighing, spread_cases, leaving_racks, rows}
+use Rattle.starred.specs.Table.{once_read, checked, step_outcome, counted, check_for, step_on, step_for, outcome_of, Case, listed_weighings, listed_steps, insides, new_racks, full_hall_weighing, spread_cases, leaving_racks, counted_lines, alike_read, alike_given, alike_exchanged, counted_racks, rows}
 use Rattle.starred.proofs.Opened.{opened}
 
 -- each of the rows is given its outcome
@@ -59,3 +59,26 @@ leaving_gives = record { each = refl }
 -- a rack that is emptied leaves, and one with a token more does not
 pub leaving-cases : map (λ (r : Case). outcome_of r.input) leaving_racks ≡ map (λ (r : Case). r.outcome) leaving_racks
 leaving-cases = leaving_gives.each
+
+-- ---- counted net-tokens
+
+lines_give : Gives counted_lines
+unfolding evaluated
+lines_give = record { each = refl }
+
+read_gives : Gives alike_read
+unfolding evaluated
+read_gives = record { each = refl }
+
+given_gives : Gives alike_given
+unfolding evaluated
+given_gives = record { each = refl }
+
+exchanged_gives : Gives alike_exchanged
+unfolding evaluated
+exchanged_gives = record { each = refl }
+
+-- 02, K7, row by row
+pub counted-cases : map (λ (r : Case). outcome_of r.input) counted_racks ≡ map (λ (r : Case). r.outcome) counted_racks
+counted-cases =
+    (gives_more counted_lines _ lines_give (gives_more alike_read _ read_gives (gives_more alike_given _ given_gives exchanged_gives))).each

@@ -5,8 +5,8 @@ use mathlib.Core.Bool.{true, false}
 use mathlib.Core.List.{[], ◌∷◌}
 use lib.IntN.{ℤ, pos, negsuc}
 use Rattle.text.specs.Bytes.{bytes, meet, far}
-use Rattle.text.specs.Number.{made, both, literal, digits, number_of, number, negated, signed, ended, item}
-use Rattle.text.specs.Lists.{stop_of, items, list_end}
+use Rattle.text.specs.Number.{made, both, either, literal, digits, number_of, number, negated, signed, ended, item}
+use Rattle.text.specs.Lists.{stop_of, joined, values, list_end}
 use Rattle.text.specs.Lines.{got, bad, fault_at, fault, out_at, then, need, judged, behind, read_number, read_row, read_head}
 use Rattle.text.specs.Printed.{decimal_of, decimal, signed_text, items_text, end_text, texts, number_text, weights_text}
 use Rattle.text.specs.Repeat.{many_at}
@@ -46,8 +46,8 @@ pub read-cases :
     × (read_weight_file listing (bytes "inv=1\nouter=-7,0\ninner=1,1\n") ≡ got (weights (negsuc 6) (pos 0) (pos 1)) 27)
     × (read_weight_file listing (bytes "inv=1\nouter=1,1\ninner=1001,1\n") ≡ bad (fault_at Range 16 22))
     × (read_weight_file listing (bytes "inv=1\nouter=1,1\n") ≡ bad (fault Syntax 16))
-unfolding read_weights_at read_inner read_end read_head read_number read_row out_at signed_text decimal decimal_of behind judged need then many_at literal both made far meet
-    stop_of ended item items list_end digits number_of number negated signed
+unfolding read_weights_at read_inner read_end read_head read_number read_row out_at signed_text decimal decimal_of behind judged need then many_at literal both either made far meet
+    stop_of ended item values joined list_end digits number_of number negated signed
 read-cases = (refl, refl, refl, refl)
 
 -- 01: that model and weights have sum 3 and cover 1; outer weights 1,0 are turned down for event 1; all weights 0, for the last line

@@ -163,6 +163,44 @@ leaving_racks =
     ∷ (step scrapping (bytes "start=1\ntoken=1:1,2\n") (bytes "fire=1\ntake=1\ntoken=1:1,2\ngive=0\n") gives of_step (pair 10 1) (bytes "start=1\ntoken=1:1,2\n"))
     ∷ []
 
+-- 02, K7: an event takes two racks and gives two carts, which are black; another takes a rack and gives one at the same place
+abbrev pub carts : Text
+carts =
+    bytes "eos=1\nnets=1\nplaces=2\ntype=1,0\nmoves=2\npre=2,0\npost=0,2\npre=1,0\npost=1,0\n" ++ bytes "inner=1\nsteps=0\n"
+    ++ bytes "events=2\nevent=1\nsync=\nevent=2\nsync=\n" ++ bytes "start=1\ntoken=1:0*2\n"
+
+-- both in one line
+abbrev pub two_at_once : Text
+two_at_once = bytes "fire=1\ntake=1\ntoken=1:0*2\ngive=1\ntoken=2:*2\n"
+
+-- `*2` in a start, a take and a give; likes split over lines; a line of more likes than the marking has is 11
+abbrev pub counted_lines : List Case
+counted_lines =
+    (step carts (bytes "start=1\ntoken=1:0*2\n") two_at_once gives of_step fine (bytes "start=1\ntoken=2:*2\n"))
+    ∷ (step carts (bytes "start=2\ntoken=1:0\ntoken=1:0*2\n") (bytes "fire=1\ntake=2\ntoken=1:0\ntoken=1:0\ngive=2\ntoken=2:\ntoken=2:\n")
+    gives of_step fine (bytes "start=2\ntoken=1:0\ntoken=2:*2\n"))
+    ∷ (step carts (bytes "start=2\ntoken=1:0\ntoken=1:1\n") two_at_once gives of_step (pair 11 3) (bytes "start=2\ntoken=1:0\ntoken=1:1\n"))
+    ∷ []
+
+-- over 65,535 alike are 12: in a start beside the token line
+abbrev pub alike_read : List Case
+alike_read = (step carts (bytes "start=2\ntoken=1:0*65535\ntoken=1:0\n") two_at_once gives unread (pair 12 3)) ∷ []
+
+-- in a step beside its `give` line
+abbrev pub alike_given : List Case
+alike_given =
+    (step carts (bytes "start=2\ntoken=1:0*2\ntoken=2:*65534\n") two_at_once gives of_step (pair 12 4) (bytes "start=2\ntoken=1:0*2\ntoken=2:*65534\n"))
+    ∷ []
+
+-- of 65,535 alike one is taken, and one given
+abbrev pub alike_exchanged : List Case
+alike_exchanged =
+    (step carts (bytes "start=1\ntoken=1:0*65535\n") (bytes "fire=2\ntake=1\ntoken=1:0\ngive=1\ntoken=1:0\n") gives of_step fine (bytes "start=1\ntoken=1:0*65535\n"))
+    ∷ []
+
+abbrev pub counted_racks : List Case
+counted_racks = counted_lines ++ (alike_read ++ (alike_given ++ alike_exchanged))
+
 -- all starred cases
 abbrev pub rows : List Case
 rows = listed_weighings ++ (listed_steps ++ (insides ++ (new_racks ++ (full_hall_weighing ++ spread_cases))))

@@ -13,11 +13,11 @@ use Rattle.std.specs.Prelude.{Some}
 use Rattle.std.specs.List.{find, range_with_len}
 use Rattle.eos.specs.Causes.{failing}
 use Rattle.eos.specs.Vector.{◌⊕◌, ◌⊖◌, eq_v}
-use Rattle.eos.proofs.VectorLaws.{get_d-⊕}
+use Rattle.eos.proofs.VectorLaws.{get_d-⊕, get_d-⊖}
 use Rattle.eos.proofs.VectorSums.{long-left}
 use Rattle.model.specs.Rules.{nth}
 use Rattle.model.specs.Held.{told}
-use Rattle.step.proofs.VectorArrays.{length-less, nth-less}
+use Rattle.step.proofs.VectorArrays.{length-less}
 
 -- ---- vectors compared number by number
 
@@ -42,7 +42,7 @@ module _ (made held pre post : List ℕ) (o : length made ≡ 32) (p : length he
   pub even_on : (v : ℕ) → k < 32 → v ≡ nth held k - nth pre k + nth post k
       → t && eq_v (drop k made) (drop k moved) ≡ (t && eqb (nth made k) v) && eq_v (drop (k + 1) made) (drop (k + 1) moved)
   even_on v c e =
-      let at : nth moved k ≡ v = omega (arith, get_d-⊕ (held ⊖ pre) post k, nth-less held pre k) in
+      let at : nth moved k ≡ v = omega (arith, get_d-⊕ (held ⊖ pre) post k, get_d-⊖ held pre k) in
       eq_on made moved k t (omega arith) (omega (arith, moved_long)) ∙ rw at
 
   pub even_end : 32 ≤ k → t && eq_v (drop k made) (drop k moved) ≡ t

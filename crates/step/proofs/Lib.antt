@@ -5,7 +5,6 @@ pub mod VectorArrays
 pub mod TokenSums
 pub mod InsideLaws
 pub mod FirstFailing
-pub mod LackLaws
 pub mod VerdictLaws
 pub mod PaddedTests
 pub mod SidesHeld
@@ -18,6 +17,5 @@ pub mod TokenLoop
 pub mod StepReading
 pub mod StepExactly
 pub mod StepRefused
-pub mod MoveLaws
 pub mod ChangeLaws
 pub mod StepFaults

@@ -1,26 +1,18 @@
 -- Laws of padded vectors: the tests of vectors do not see the padding.
 use Prim.Native.Nat.{ℕ, ◌≤◌}
-use mathlib.Core.Path.{◌≡◌, refl, sym, ◌∙◌}
-use mathlib.Core.Bool.{Bool, true, false}
+use mathlib.Core.Path.{◌≡◌, sym, ◌∙◌}
 use mathlib.Core.List.{List}
 use native.Mathlib.Omega.{arith}
-use lib.Dec.{T}
 use lib.ListN.{length}
 use lib.Seq.{ext_get_or}
 use Rattle.eos.specs.Vector.{◌⊕◌, ◌⊖◌, le_v}
-use Rattle.eos.proofs.Basics.{is_true}
-use Rattle.eos.proofs.VectorLaws.{le_v_le, le_le_v, get_d-⊕}
+use Rattle.eos.proofs.Basics.{same_test}
+use Rattle.eos.proofs.VectorLaws.{le_v_le, le_le_v, get_d-⊕, get_d-⊖}
 use Rattle.eos.proofs.VectorSums.{long-left}
 use Rattle.text.specs.Answers.{padded}
 use Rattle.text.proofs.PaddedLaws.{length-padded, at-padded}
 use Rattle.model.specs.Rules.{nth}
-use Rattle.step.proofs.VectorArrays.{length-less, nth-less}
-
--- two tests that hold where the other does
-pub same_test : (a b : Bool) → (T a → T b) → (T b → T a) → a ≡ b
-same_test true b f g = sym (is_true b (f tt))
-same_test false true f g = absurd (g tt)
-same_test false false f g = refl
+use Rattle.step.proofs.VectorArrays.{length-less}
 
 -- ---- order
 module _ (x y v w : List ℕ) (p : (i : ℕ) → nth x i ≡ nth v i) (q : (i : ℕ) → nth y i ≡ nth w i) where
@@ -49,9 +41,9 @@ moved_padded x y z n h p q r =
     omega (
       arith,
       get_d-⊕ (padded x ⊖ padded y) (padded z) i,
-      nth-less (padded x) (padded y) i,
+      get_d-⊖ (padded x) (padded y) i,
       get_d-⊕ (x ⊖ y) z i,
-      nth-less x y i,
+      get_d-⊖ x y i,
       at-padded x (omega arith) i,
       at-padded y (omega arith) i,
       at-padded z (omega arith) i,

@@ -1,24 +1,28 @@
--- The projections of held net-tokens are those of the net-tokens, padded.
-use Prim.Native.Nat.{ℕ, suc, ◌-◌, ◌≤◌, ◌<◌}
+-- The projections of held lines are those of the net-tokens that they spell, padded.
+use Prim.Native.Nat.{ℕ, suc, ◌-◌, ◌*◌, ◌≤◌, ◌<◌}
 use mathlib.Core.Path.{◌≡◌, refl, sym, ap, ap₂, ◌∙◌}
 use mathlib.Core.Bool.{Bool, true, false, cond}
-use mathlib.Core.List.{[], ◌∷◌, map}
+use mathlib.Core.List.{List, [], ◌∷◌, map}
 use native.Mathlib.Omega.{arith}
-use lib.Dec.{T, eqb, ltb, eqb→eq, ltb→lt}
+use lib.Dec.{T, eqb, leb, ltb, leb→le, eqb→eq, ltb→lt}
 use lib.ListN.{length, get_or}
-use Rattle.eos.specs.Vector.{unit}
+use Rattle.eos.specs.Vector.{◌⊕◌, times, unit, zeros}
 use Rattle.eos.specs.Multiset as M
-use Rattle.eos.specs.Model.{NetToken, Marking, Model, places, net, type_of, size_of, proper}
+use Rattle.eos.specs.Counted.{ones, spelt, there}
+use Rattle.eos.specs.Model.{NetToken, Marking, Lines, Model, places, net, type_of, size_of, proper}
 use Rattle.eos.specs.Firing.{outer, inside_of, inner}
 use Rattle.eos.proofs.Basics.{true_is, and_l, and_r}
 use Rattle.eos.proofs.VectorLaws.{get_d-⊕}
-use Rattle.eos.proofs.VectorSums.{length-unit, length-zeros, long_right, nth_zero}
+use Rattle.eos.proofs.VectorSums.{length-times, nth-times, length-unit, length-zeros, long_right, nth_zero}
+use Rattle.eos.proofs.CountedLaws.{every_ones}
+use Rattle.eos.proofs.FiringLaws.{outer_spelt, inner_spelt}
 use Rattle.text.specs.Answers.{padded}
 use Rattle.text.proofs.PaddedLaws.{at-padded, length-padded}
 use Rattle.model.specs.Rules.{under, nth, right_plant}
 use Rattle.model.proofs.RuleLaws.{right_is, few-places}
-use Rattle.marking.specs.Held.{hold_token}
-use Rattle.step.specs.Verdict.{outer_tokens, types_in, inside_in, inner_tokens}
+use Rattle.marking.specs.Held.{hold_token, hold_line}
+use Rattle.marking.proofs.HeldBy.{spelt_held}
+use Rattle.step.specs.Verdict.{outer_entries, types_in, inside_in, inner_entries}
 use Rattle.step.proofs.TokenSums.{outer_none, outer_more, inner_none, inner_more}
 use Rattle.step.proofs.PaddedTests.{padded_of}
 use Rattle.step.proofs.SidesHeld.{net-small}
@@ -34,18 +38,34 @@ fit m t h = record {
   size = eqb→eq (length t.inside) _ (and_r (ltb t.place (places m)) _ h);
 }
 
+-- two sums of vectors, number by number
+nth_both : (x y v w : List ℕ) (i : ℕ) → nth x i ≡ nth v i → nth y i ≡ nth w i → nth (x ⊕ y) i ≡ nth (v ⊕ w) i
+nth_both x y v w i p q = omega (arith, get_d-⊕ x y i, get_d-⊕ v w i, p, q)
+
+nth_so_many : (n : ℕ) (x v : List ℕ) (i : ℕ) → nth x i ≡ nth v i → nth (times n x) i ≡ nth (times n v) i
+nth_so_many n x v i p = nth-times n x i ∙ ap (λ (k : ℕ). n * k) p ∙ sym (nth-times n v i)
+
+outer_nothing : (m : Model) → outer m [] ≡ zeros (places m)
+unfolding outer
+outer_nothing m = refl
+
+inner_nothing : (m : Model) (n : ℕ) → inner m n [] ≡ zeros (net m n).size
+unfolding inner
+inner_nothing m n = refl
+
 module _ (header : ℕ) (m : Model) (right : right_plant (under header m) ≡ true) where
   few : places m ≤ 32
   few = few-places _ (right_is _ right)
 
   -- ---- the outer projection
-  outer-nth : (l : Marking) (i : ℕ) → nth (outer_tokens (map hold_token l)) i ≡ nth (outer m l) i
-  unfolding outer
-  outer-nth [] i = rw outer_none (nth_zero 32 i ∙ sym (nth_zero (places m) i))
-  outer-nth (t ∷ l) i =
-      let e : suc t.place - 1 ≡ t.place = omega arith in
-      rw (outer_more (hold_token t) (map hold_token l), e)
-      (omega (arith, get_d-⊕ (unit t.place) (outer_tokens (map hold_token l)) i, get_d-⊕ (unit t.place) (outer m l) i, outer-nth l i))
+  outer_nth : (ls : Lines) → T (there ls) → (i : ℕ) → nth (outer_entries (map hold_line ls)) i ≡ nth (outer m (spelt ls)) i
+  outer_nth [] h i = rw (outer_none, outer_nothing m) (nth_zero 32 i ∙ sym (nth_zero (places m) i))
+  outer_nth (l ∷ ls) h i =
+      let e : suc l.one.place - 1 ≡ l.one.place = omega arith in
+      let some : 1 ≤ l.times = leb→le 1 l.times (and_l (leb 1 l.times) (there ls) h) in
+      let r = outer_nth ls (and_r (leb 1 l.times) (there ls) h) i in
+      rw (outer_more (hold_line l) (map hold_line ls), e, outer_spelt m l ls some)
+      (nth_both (times l.times (unit l.one.place)) (outer_entries (map hold_line ls)) (times l.times (unit l.one.place)) (outer m (spelt ls)) i refl r)
 
   pub outer-long : (l : Marking) → T (M.every (proper m) l) → length (outer m l) ≡ places m
   unfolding outer
@@ -55,17 +75,20 @@ module _ (header : ℕ) (m : Model) (right : right_plant (under header m) ≡ tr
       let r = outer-long l (and_r (proper m t) (M.every (proper m) l) h) in
       long_right (unit t.place) (outer m l) (omega (arith, length-unit t.place, f.place)) ∙ r
 
-  outer_wide : (l : Marking) → T (M.every (proper m) l) → length (outer_tokens (map hold_token l)) ≡ 32
+  outer_wide : (ls : Lines) → T (M.every (proper m) (ones ls)) → length (outer_entries (map hold_line ls)) ≡ 32
   outer_wide [] h = rw outer_none (length-zeros 32)
-  outer_wide (t ∷ l) h =
-      let f = fit m t (and_l (proper m t) (M.every (proper m) l) h) in
-      let r = outer_wide l (and_r (proper m t) (M.every (proper m) l) h) in
-      let e : suc t.place - 1 ≡ t.place = omega arith in
-      rw (outer_more (hold_token t) (map hold_token l), e)
-      (long_right (unit t.place) (outer_tokens (map hold_token l)) (omega (arith, length-unit t.place, f.place, few)) ∙ r)
+  outer_wide (l ∷ ls) h =
+      let f = fit m l.one (and_l (proper m l.one) (M.every (proper m) (ones ls)) h) in
+      let r = outer_wide ls (and_r (proper m l.one) (M.every (proper m) (ones ls)) h) in
+      let e : suc l.one.place - 1 ≡ l.one.place = omega arith in
+      rw (outer_more (hold_line l) (map hold_line ls), e)
+      (long_right (times l.times (unit l.one.place)) (outer_entries (map hold_line ls))
+      (omega (arith, length-times l.times (unit l.one.place), length-unit l.one.place, f.place, few, r)) ∙ r)
 
-  pub outer_held : (l : Marking) → T (M.every (proper m) l) → outer_tokens (map hold_token l) ≡ padded (outer m l)
-  outer_held l h = padded_of (outer_tokens (map hold_token l)) (outer m l) (outer_wide l h) (omega (arith, outer-long l h, few)) (outer-nth l)
+  pub outer_held : (ls : Lines) → T (M.every (proper m) (spelt ls)) → T (there ls) → outer_entries (map hold_line ls) ≡ padded (outer m (spelt ls))
+  outer_held ls h k =
+      padded_of (outer_entries (map hold_line ls)) (outer m (spelt ls)) (outer_wide ls (every_ones (proper m) ls k h))
+      (omega (arith, outer-long (spelt ls) h, few)) (outer_nth ls k)
 
   -- ---- the type of a net-token's place
   type_same : (t : NetToken) → get_or (padded m.types) (suc t.place - 1) 0 ≡ type_of m t.place
@@ -73,9 +96,12 @@ module _ (header : ℕ) (m : Model) (right : right_plant (under header m) ≡ tr
       let e : suc t.place - 1 ≡ t.place = omega arith in
       rw e (at-padded m.types few t.place)
 
-  pub types_held : (l : Marking) → types_in (padded m.types) (map hold_token l) ≡ map (λ t. type_of m t.place) l
-  types_held [] = refl
-  types_held (t ∷ l) = ap₂ ◌∷◌ (type_same t) (types_held l)
+  types_same : (l : Marking) → map (λ t. get_or (padded m.types) (t.place - 1) 0) (map hold_token l) ≡ map (λ t. type_of m t.place) l
+  types_same [] = refl
+  types_same (t ∷ l) = ap₂ ◌∷◌ (type_same t) (types_same l)
+
+  pub types_held : (ls : Lines) → types_in (padded m.types) (map hold_line ls) ≡ map (λ t. type_of m t.place) (spelt ls)
+  types_held ls = rw (spelt_held ls) (types_same (spelt ls))
 
   -- ---- the inner projection of net n
   module _ (n : ℕ) (k : n < length m.nets) where
@@ -91,20 +117,17 @@ module _ (header : ℕ) (m : Model) (right : right_plant (under header m) ≡ tr
             at-padded t.inside (omega (arith, own_long t f d, net-small _ m right n k)) i
         go false e = refl
 
-    inner-nth : (l : Marking) → T (M.every (proper m) l) → (i : ℕ) → nth (inner_tokens (padded m.types) n (map hold_token l)) i ≡ nth (inner m n l) i
-    unfolding inner
-    inner-nth [] h i = rw (inner_none (padded m.types) n) (nth_zero 32 i ∙ sym (nth_zero (net m n).size i))
-    inner-nth (t ∷ l) h i =
-        let f = fit m t (and_l (proper m t) (M.every (proper m) l) h) in
-        let r = inner-nth l (and_r (proper m t) (M.every (proper m) l) h) i in
-        rw (inner_more (padded m.types) n (hold_token t) (map hold_token l))
-        (omega (
-          arith,
-          get_d-⊕ (inside_in (padded m.types) n (hold_token t)) (inner_tokens (padded m.types) n (map hold_token l)) i,
-          get_d-⊕ (inside_of m n t) (inner m n l) i,
-          inside-nth t f i,
-          r,
-        ))
+    inner-nth : (ls : Lines) → T (M.every (proper m) (ones ls)) → T (there ls) → (i : ℕ)
+        → nth (inner_entries (padded m.types) n (map hold_line ls)) i ≡ nth (inner m n (spelt ls)) i
+    inner-nth [] h s i = rw (inner_none (padded m.types) n, inner_nothing m n) (nth_zero 32 i ∙ sym (nth_zero (net m n).size i))
+    inner-nth (l ∷ ls) h s i =
+        let f = fit m l.one (and_l (proper m l.one) (M.every (proper m) (ones ls)) h) in
+        let some : 1 ≤ l.times = leb→le 1 l.times (and_l (leb 1 l.times) (there ls) s) in
+        let r = inner-nth ls (and_r (proper m l.one) (M.every (proper m) (ones ls)) h) (and_r (leb 1 l.times) (there ls) s) i in
+        let own : List ℕ = inside_in (padded m.types) n (hold_token l.one) in
+        rw (inner_more (padded m.types) n (hold_line l) (map hold_line ls), inner_spelt m l ls some n)
+        (nth_both (times l.times own) (inner_entries (padded m.types) n (map hold_line ls)) (times l.times (inside_of m n l.one)) (inner m n (spelt ls)) i
+        (nth_so_many l.times own (inside_of m n l.one) i (inside-nth l.one f i)) r)
 
     pub inner-long : (l : Marking) → T (M.every (proper m) l) → length (inner m n l) ≡ (net m n).size
     unfolding inner
@@ -118,17 +141,20 @@ module _ (header : ℕ) (m : Model) (right : right_plant (under header m) ≡ tr
         go f true e = omega (arith, own_long t f (eqb→eq (type_of m t.place) (suc n) (true_is e)))
         go f false e = omega arith
 
-    inner_wide : (l : Marking) → length (inner_tokens (padded m.types) n (map hold_token l)) ≡ 32
+    inner_wide : (ls : Lines) → length (inner_entries (padded m.types) n (map hold_line ls)) ≡ 32
     inner_wide [] = rw (inner_none (padded m.types) n) (length-zeros 32)
-    inner_wide (t ∷ l) =
-        rw (inner_more (padded m.types) n (hold_token t) (map hold_token l))
-        (long_right (inside_in (padded m.types) n (hold_token t)) (inner_tokens (padded m.types) n (map hold_token l))
-        (rw (inner_wide l) (go (eqb (get_or (padded m.types) (suc t.place - 1) 0) (suc n)))) ∙ inner_wide l)
+    inner_wide (l ∷ ls) =
+        let own : List ℕ = inside_in (padded m.types) n (hold_token l.one) in
+        rw (inner_more (padded m.types) n (hold_line l) (map hold_line ls))
+        (long_right (times l.times own) (inner_entries (padded m.types) n (map hold_line ls))
+        (rw (inner_wide ls, length-times l.times own) (go (eqb (get_or (padded m.types) (suc l.one.place - 1) 0) (suc n)))) ∙ inner_wide ls)
       where
-        go : (b : Bool) → length (cond b (padded t.inside) []) ≤ 32
-        go true = omega (arith, length-padded t.inside)
+        go : (b : Bool) → length (cond b (padded l.one.inside) []) ≤ 32
+        go true = omega (arith, length-padded l.one.inside)
         go false = omega arith
 
-    pub inner-held : (l : Marking) → T (M.every (proper m) l) → inner_tokens (padded m.types) n (map hold_token l) ≡ padded (inner m n l)
-    inner-held l h =
-        padded_of (inner_tokens (padded m.types) n (map hold_token l)) (inner m n l) (inner_wide l) (omega (arith, inner-long l h, net-small _ m right n k)) (inner-nth l h)
+    pub inner-held : (ls : Lines) → T (M.every (proper m) (spelt ls)) → T (there ls)
+        → inner_entries (padded m.types) n (map hold_line ls) ≡ padded (inner m n (spelt ls))
+    inner-held ls h s =
+        padded_of (inner_entries (padded m.types) n (map hold_line ls)) (inner m n (spelt ls)) (inner_wide ls)
+        (omega (arith, inner-long (spelt ls) h, net-small _ m right n k)) (inner-nth ls (every_ones (proper m) ls s h) s)

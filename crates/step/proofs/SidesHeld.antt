@@ -8,8 +8,8 @@ use borrow.Author.Tests.{ltb-true}
 use lib.ListN.{length, get_or}
 use lib.Dec.{ltb, eqb}
 use Rattle.eos.specs.Vector.{times, zeros}
-use Rattle.eos.specs.Model.{Transition, Act, move, idle, alone, Event, Model, places, net, event, no_transition}
-use Rattle.eos.specs.Firing.{of_act, outer_of, summed, inner_of, pre, post}
+use Rattle.eos.specs.Model.{Transition, Act, move, idle, alone, Event, Model, places, net, no_transition}
+use Rattle.eos.specs.Firing.{of_act, summed, inner_of, pre, post}
 use Rattle.eos.proofs.VectorSums.{length-times, length-zeros, long-left, length-one}
 use Rattle.text.proofs.Basics.{and_true}
 use Rattle.text.specs.Lines.{every}
@@ -17,7 +17,7 @@ use Rattle.text.specs.Answers.{padded}
 use Rattle.text.proofs.TestLaws.{within-is}
 use Rattle.model.specs.Rules.{under, right_sides, right_act, frame_of, right_plant}
 use Rattle.model.specs.Held.{row, listed, row_at}
-use Rattle.model.proofs.RuleLaws.{sides_long, net-is, right_is, few-nets, right_move_lem, right_net_lem, right_event_lem}
+use Rattle.model.proofs.RuleLaws.{sides_long, net-is, right_is, few-nets, right_move_lem, right_net_lem}
 use Rattle.model.proofs.SlotLaws.{length-listed, listed_at}
 use Rattle.model.proofs.TableLaws.{tabled-row}
 use Rattle.step.specs.Rule.{hold_sides}
@@ -48,10 +48,6 @@ module _ (side : Transition → List ℕ) (s : Side side) where
     act-long (move k) h = s (places m) (get_or m.moves k no_transition) (right_move_lem _ (right_is _ right) k (ltb-true k (length m.moves) h))
     act-long (idle p) h = length-one p (places m) (ltb-true p (places m) (and_true (ltb p (places m)) _ (and_true (not (eqb header 2)) _ h).1).0)
     act-long (alone n) h = length-zeros (places m)
-
-    pub outer_side_long : (e : ℕ) → e < length m.events → length (outer_of side m (event m e)) ≡ places m
-    unfolding outer_of
-    outer_side_long e h = act-long (event m e).act (right_event_lem _ (right_is _ right) e h).act
 
     pub inner_side_long : (ev : Event) (n : ℕ) → n < length m.nets → length (inner_of side m ev n) ≡ (net m n).size
     unfolding inner_of

@@ -1,18 +1,20 @@
--- What the verdict is asked of holds of every right model's rule, and of right net-tokens as they are held.
+-- What the verdict is asked of holds of every right model's rule, and of right lines as they are held.
 use Prim.Native.Nat.{ℕ, suc, ◌-◌, ◌*◌, ◌≤◌, ◌<◌}
 use mathlib.Core.Path.{◌≡◌, refl, ap, ◌∙◌}
-use mathlib.Core.Bool.{true}
+use mathlib.Core.Bool.{Bool, true, ◌&&◌}
 use mathlib.Core.List.{List, [], ◌∷◌, map}
 use native.Mathlib.Omega.{arith}
 use native.Mathlib.Nat.{mul-le-mul}
 use borrow.Author.Tests.{lt-ltb, eq-eqb}
-use lib.Dec.{T, ltb}
+use lib.Dec.{T, leb, ltb, le→leb}
 use lib.ListN.{length, length-map, get_or, get_or-eq_default}
 use Rattle.eos.specs.Vector.{times, zeros}
 use Rattle.eos.specs.Multiset as M
-use Rattle.eos.specs.Model.{NetToken, Marking, Transition, Model, places, net, event, size_of, type_of, proper}
+use Rattle.eos.specs.Counted.{ones, spelt, there, up_to}
+use Rattle.eos.specs.Model.{NetToken, Lines, Transition, Model, places, net, event, size_of, type_of, proper}
 use Rattle.eos.specs.Firing.{summed, inner_of, pre, post}
 use Rattle.eos.proofs.Basics.{true_is, and_l, and_r, and_i}
+use Rattle.eos.proofs.CountedLaws.{every_spelt, every_ones}
 use Rattle.eos.proofs.VectorLaws.{get_d-⊕}
 use Rattle.eos.proofs.VectorSums.{nth-times, nth_zero}
 use Rattle.text.proofs.Basics.{and_true}
@@ -20,6 +22,7 @@ use Rattle.text.specs.Lines.{every}
 use Rattle.text.specs.Answers.{padded}
 use Rattle.text.proofs.PaddedLaws.{at-padded}
 use Rattle.text.proofs.TestLaws.{within-is}
+use Rattle.model.specs.Limits.{line_limit, alike_limit}
 use Rattle.model.specs.Rules.{under, nth, byte, right_sides, right_plant, frame_of}
 use Rattle.model.specs.Held.{tabled, row, listed}
 use Rattle.model.proofs.PaddedRows.{small_at, nth-zeros, padded_none}
@@ -27,8 +30,9 @@ use Rattle.model.proofs.RuleLaws.{list_is, sides_are, net-is, right_is, few-nets
 use Rattle.model.proofs.SlotLaws.{by_index, length-listed, listed_at, listed_past}
 use Rattle.model.proofs.TableLaws.{length-tabled, tabled-row}
 use Rattle.marking.specs.Tokens.{OnPlaces}
-use Rattle.marking.specs.Held.{sizes_of, hold_token}
-use Rattle.marking.specs.Reading.{Limits, right_net_token}
+use Rattle.marking.specs.Held.{Sizes, sizes_of, hold_line}
+use Rattle.marking.specs.Reading.{Limits, limits, right_net_token}
+use Rattle.marking.proofs.HeldBy.{held_ones, lines_held}
 use Rattle.marking.proofs.HoldMarking as hold
 use Rattle.step.specs.Rule.{hold_sides, hold_rule}
 use Rattle.step.specs.VerdictParts.{SmallRows, Sound, Placed}
@@ -113,27 +117,59 @@ sound_rule _ m right e known = record {
   post = side_small post post_side post-bytes _ m right e known;
 }
 
--- ---- what is required of net-tokens
+-- ---- what is required of lines
 
-on_places : (header : ℕ) (m : Model) → right_plant (under header m) ≡ true → (l : Marking) → T (M.every (proper m) l) → OnPlaces (map hold_token l)
+on_places : (header : ℕ) (m : Model) → right_plant (under header m) ≡ true → (ls : Lines) → T (M.every (proper m) (ones ls)) → OnPlaces (map hold_line ls)
 on_places _ m right [] h = tt
-on_places _ m right (t ∷ l) h =
-    let f = fit m t (and_l (proper m t) (M.every (proper m) l) h) in
-    (omega arith, omega (arith, f.place, few-places _ (right_is _ right)), on_places _ m right l (and_r (proper m t) (M.every (proper m) l) h))
+on_places _ m right (l ∷ ls) h =
+    let f = fit m l.one (and_l (proper m l.one) (M.every (proper m) (ones ls)) h) in
+    (omega arith, omega (arith, f.place, few-places _ (right_is _ right)), on_places _ m right ls (and_r (proper m l.one) (M.every (proper m) (ones ls)) h))
 
-pub placed-held : (header : ℕ) (m : Model) → right_plant (under header m) ≡ true → (ts : Marking) → T (M.every (proper m) ts) → length ts ≤ 256 → Placed (map hold_token ts)
-placed-held _ m right ts h few = record { few = omega (arith, length-map ts hold_token); places = on_places _ m right ts h }
+-- a test of how many of each there are
+times_held : (f : ℕ → Bool) (ls : Lines) → M.every (λ e. f e.times) (held_ones ls) ≡ M.every (λ l. f l.times) ls
+times_held f [] = refl
+times_held f (l ∷ ls) = ap (λ (b : Bool). f l.times && b) (times_held f ls)
 
--- net-tokens that are read for a model are the model's
-pub proper_read : (lim : Limits) (m : Model) (ts : Marking) → every (right_net_token lim (sizes_of m)) ts ≡ true → T (M.every (proper m) ts)
-proper_read lim m [] h = tt
-proper_read lim m (t ∷ ts) h =
-    let p = and_true (right_net_token lim (sizes_of m) t) _ h in
-    let r = hold.right_is lim (sizes_of m) t p.0 in
-    and_i (proper m t) (M.every (proper m) ts) (one t r.place r.size) (proper_read lim m ts p.1)
-  where
-    one : (t : NetToken) → t.place < places m → length t.inside ≡ (sizes_of m).size (suc t.place) → T (proper m t)
-    one t p q =
-        let e : suc t.place - 1 ≡ t.place = omega arith in
-        let k : length t.inside ≡ size_of m (type_of m t.place) = q ∙ ap (λ (i : ℕ). size_of m (type_of m i)) e in
-        and_i (ltb t.place (places m)) _ (true_is (lt-ltb t.place (places m) p)) (true_is (eq-eqb (length t.inside) _ k))
+pub placed-held : (header : ℕ) (m : Model) → right_plant (under header m) ≡ true → (ls : Lines) → T (M.every (proper m) (spelt ls)) → T (there ls)
+    → T (up_to alike_limit ls) → length ls ≤ line_limit → Placed (map hold_line ls)
+placed-held _ m right ls h some small few = record {
+  few = omega (arith, length-map ls hold_line);
+  places = on_places _ m right ls (every_ones (proper m) ls some h);
+  some = rw (lines_held ls, times_held (λ n. leb 1 n) ls) some;
+  small = rw (lines_held ls, times_held (λ n. leb n alike_limit) ls) small;
+}
+
+-- ---- lines that are read for a model
+
+-- their net-tokens are the model's
+module _ (lim : Limits) (m : Model) where
+  ones_read : (ls : Lines) → every (right_net_token lim (sizes_of m)) ls ≡ true → T (M.every (proper m) (ones ls))
+  ones_read [] h = tt
+  ones_read (l ∷ ls) h =
+      let p = and_true (right_net_token lim (sizes_of m) l) _ h in
+      let r = (hold.right_is lim (sizes_of m) l p.0).token in
+      and_i (proper m l.one) (M.every (proper m) (ones ls)) (one l.one r.place r.size) (ones_read ls p.1)
+    where
+      one : (t : NetToken) → t.place < places m → length t.inside ≡ (sizes_of m).size (suc t.place) → T (proper m t)
+      one t p q =
+          let e : suc t.place - 1 ≡ t.place = omega arith in
+          let k : length t.inside ≡ size_of m (type_of m t.place) = q ∙ ap (λ (i : ℕ). size_of m (type_of m i)) e in
+          and_i (ltb t.place (places m)) _ (true_is (lt-ltb t.place (places m) p)) (true_is (eq-eqb (length t.inside) _ k))
+
+  pub proper_read : (ls : Lines) → every (right_net_token lim (sizes_of m)) ls ≡ true → T (M.every (proper m) (spelt ls))
+  proper_read ls h = every_spelt (proper m) ls (ones_read ls h)
+
+-- each is of at least one, and of no more than the limit
+pub there_read : (lim : Limits) (z : Sizes) (ls : Lines) → every (right_net_token lim z) ls ≡ true → T (there ls)
+there_read lim z [] h = tt
+there_read lim z (l ∷ ls) h =
+    let p = and_true (right_net_token lim z l) _ h in
+    let r = hold.right_is lim z l p.0 in
+    and_i (leb 1 l.times) (there ls) (le→leb 1 l.times r.some) (there_read lim z ls p.1)
+
+pub small_read : (lines counts : ℕ) (z : Sizes) (ls : Lines) → every (right_net_token (limits lines counts) z) ls ≡ true → T (up_to alike_limit ls)
+small_read lines counts z [] h = tt
+small_read lines counts z (l ∷ ls) h =
+    let p = and_true (right_net_token (limits lines counts) z l) _ h in
+    let r = hold.right_is (limits lines counts) z l p.0 in
+    and_i (leb l.times alike_limit) (up_to alike_limit ls) (true_is r.times) (small_read lines counts z ls p.1)

@@ -12,7 +12,7 @@ use Rattle.text.proofs.TestLaws.{and_both, within-is, is_within}
 use Rattle.text.proofs.Exactly.{Exactly, then-then}
 use Rattle.text.proofs.LinesExactly.{number_exactly}
 use Rattle.text.proofs.ChainExactly.{exactly_by, first_makes, last_makes}
-use Rattle.eos.specs.Firing.{Step}
+use Rattle.eos.specs.Firing.{Written}
 use Rattle.marking.specs.Held.{Sizes}
 use Rattle.marking.specs.Reading.{Limits, read_block, right_block}
 use Rattle.marking.proofs.BlockExactly.{block_exactly}
@@ -28,11 +28,11 @@ module _ (lim : Limits) (z : Sizes) (events : ℕ) (s : Text) where
   index_again : (e : ℕ) → suc e - 1 ≡ e
   index_again e = omega arith
 
-  again : (t : Step) → record { event = suc t.event - 1; taken = t.taken; given = t.given } ≡ t
+  again : (t : Written) → record { event = suc t.event - 1; taken = t.taken; given = t.given } ≡ t
   again t = λ i. record { event = index_again t.event i; taken = t.taken; given = t.given }
 
   -- the lines of a step one after the other
-  abbrev pub in_aRow : ℕ → Outcome Step
+  abbrev pub in_aRow : ℕ → Outcome Written
   in_aRow at =
       then (read_number (bytes "fire=") (in_range 1 events) s at) λ e x₁.
       then (read_block (bytes "take=") lim z s x₁) λ taken x₂.
@@ -49,14 +49,14 @@ module _ (lim : Limits) (z : Sizes) (events : ℕ) (s : Text) where
   pub step_exactly : Exactly s (read_step lim z events s) step_text (right_step lim z events)
   unfolding step_text right_step need
   step_exactly =
-      subst (λ (f : ℕ → Outcome Step). Exactly s f step_text (right_step lim z events)) in_a_row
+      subst (λ (f : ℕ → Outcome Written). Exactly s f step_text (right_step lim z events)) in_a_row
       (exactly_by
       (first_makes (number_exactly (bytes "fire=") (in_range 1 events) s)
       (λ v. first_makes (block_exactly lim z s (bytes "take="))
       (λ taken. last_makes (block_exactly lim z s (bytes "give=")) (λ given. true) Syntax
       (λ given. record { event = v - 1; taken = taken; given = given }) (λ t. t.given) (λ given h. refl))
-      (λ t. t.taken) (λ taken t h r. ap (λ (t : Step). t.taken) r.2))
-      (λ t. suc t.event) (λ v t h r. event_again v t.event h (ap (λ (t : Step). t.event) r.1.2)))
+      (λ t. t.taken) (λ taken t h r. ap (λ (t : Written). t.taken) r.2))
+      (λ t. suc t.event) (λ v t h r. event_again v t.event h (ap (λ (t : Written). t.event) r.1.2)))
       (λ t h.
       let w = within-is 1 events (suc t.event) h.0 in
       and_both (ltb t.event events) _ (lt-ltb t.event events w.1) (and_both (right_block lim z t.taken) _ h.1.0 h.1.1.0))

@@ -6,7 +6,7 @@ use Rattle.text.specs.Lines.{Outcome, in_range}
 use Rattle.text.specs.declared.Fault.{Fault}
 use Rattle.text.proofs.Refusals.{Refuses, ThenFaults, made_refuses, then_refuses}
 use Rattle.text.proofs.LinesRefused.{NumberThen, number-then}
-use Rattle.eos.specs.Firing.{Step}
+use Rattle.eos.specs.Firing.{Written}
 use Rattle.marking.specs.Held.{Sizes}
 use Rattle.marking.specs.Reading.{Limits, right_block}
 use Rattle.marking.specs.Printed.{block_text}
@@ -25,7 +25,7 @@ module _ (lim : Limits) (z : Sizes) (events : ℕ) (s : Text) where
 
   pub step_refuses : Refuses (read_step lim z events s) StepFaults
   step_refuses =
-      subst (λ (f : ℕ → Outcome Step). Refuses f StepFaults) (in_a_row lim z events s)
+      subst (λ (f : ℕ → Outcome Written). Refuses f StepFaults) (in_a_row lim z events s)
       (number-then (bytes "fire=") (in_range 1 events) s (λ e.
       then_refuses (block_exactly lim z s (bytes "take=")) (block_refuses lim z s (bytes "take=")) (λ taken.
       made_refuses (block_refuses lim z s (bytes "give=")) (λ given. record { event = e - 1; taken = taken; given = given }))))

@@ -1,13 +1,14 @@
 -- Laws of sums of vectors, and of sums kept in an array.
-use Prim.Native.Nat.{ℕ, zero, suc, ◌+◌, ◌-◌, ◌≤◌, ◌<◌}
-use mathlib.Core.Path.{◌≡◌, refl, sym, ap, ap₂, subst}
+use Prim.Native.Nat.{ℕ, zero, suc, ◌+◌, ◌*◌, ◌≤◌, ◌<◌}
+use mathlib.Core.Path.{◌≡◌, refl, sym, ap, ap₂, subst, ◌∙◌}
 use mathlib.Core.List.{List, [], ◌∷◌, ◌++◌}
 use native.Mathlib.Omega.{arith}
 use native.Mathlib.Numerals.{add-one}
 use lib.ListN.{length, take, set, get_or-eq_default}
-use lib.Seq.{take-suc, length-take-le}
-use Rattle.eos.specs.Vector.{◌⊕◌, ◌⊖◌, zeros, unit}
+use lib.Seq.{take-suc, take_all, length-take-le}
+use Rattle.eos.specs.Vector.{◌⊕◌, ◌⊖◌, times, zeros, unit}
 use Rattle.eos.proofs.VectorLaws.{get_d-⊕}
+use Rattle.eos.proofs.VectorSums.{length-times, nth-times}
 use Rattle.model.specs.Rules.{nth}
 
 pub sum_nil : (x : List ℕ) → x ⊕ [] ≡ x
@@ -37,22 +38,22 @@ zeros_right zero x h = sum_nil x
 zeros_right (suc n) [] h = absurd (omega arith)
 zeros_right (suc n) (a ∷ x) h = let e : a + 0 ≡ a = omega arith in ap₂ ◌∷◌ e (zeros_right n x (omega arith))
 
-unit-small : (p i : ℕ) → nth (unit p) i ≤ 1
-unit-small zero zero = omega arith
-unit-small zero (suc i) = omega arith
-unit-small (suc p) zero = omega arith
-unit-small (suc p) (suc i) = unit-small p i
+times_unit : (n p i : ℕ) → n * nth (unit p) i ≤ n
+times_unit n zero zero = omega arith
+times_unit n zero (suc i) = omega arith
+times_unit n (suc p) zero = omega arith
+times_unit n (suc p) (suc i) = times_unit n p i
 
 -- ---- sums in an array
 
--- one more at p
-pub put_unit : (s : List ℕ) (p : ℕ) → p < length s → set s p (nth s p + 1) ≡ s ⊕ unit p
-put_unit [] p h = absurd (omega arith)
-put_unit (a ∷ s) zero h = ap (λ (k : List ℕ). (a + 1) ∷ k) (sym (sum_nil s))
-put_unit (a ∷ s) (suc p) h = let e : a ≡ a + 0 = omega arith in ap₂ ◌∷◌ e (put_unit s p (omega arith))
+-- so many more at p
+pub put_units : (n : ℕ) (s : List ℕ) (p : ℕ) → p < length s → set s p (nth s p + n) ≡ s ⊕ times n (unit p)
+put_units n [] p h = absurd (omega arith)
+put_units n (a ∷ s) zero h = let e : a + n ≡ a + n * 1 = omega arith in ap₂ ◌∷◌ e (sym (sum_nil s))
+put_units n (a ∷ s) (suc p) h = let e : a ≡ a + n * 0 = omega arith in ap₂ ◌∷◌ e (put_units n s p (omega arith))
 
-pub unit_more : (s : List ℕ) (p b : ℕ) → ((k : ℕ) → nth s k ≤ b) → (k : ℕ) → nth (s ⊕ unit p) k ≤ b + 1
-unit_more s p b h k = omega (arith, get_d-⊕ s (unit p) k, unit-small p k, h k)
+pub units_more : (n : ℕ) (s : List ℕ) (p b : ℕ) → ((k : ℕ) → nth s k ≤ b) → (k : ℕ) → nth (s ⊕ times n (unit p)) k ≤ b + n
+units_more n s p b h k = omega (arith, get_d-⊕ s (times n (unit p)) k, nth-times n (unit p) k, times_unit n p k, h k)
 
 -- the next number of a row that is added
 pub put_next_lem : (s v : List ℕ) (x : ℕ) → length v < length s → set (s ⊕ v) (length v) (nth (s ⊕ v) (length v) + x) ≡ s ⊕ (v ++ (x ∷ []))
@@ -64,28 +65,32 @@ put_at : (s v : List ℕ) (x k : ℕ) → length v ≡ k → k < length s → se
 put_at s v x k e h =
     subst (λ (j : ℕ). set (s ⊕ v) j (nth (s ⊕ v) j + x) ≡ s ⊕ (v ++ (x ∷ []))) e (put_next_lem s v x (omega (arith, e)))
 
--- a row added to another of 32, number by number
-module _ (s l : List ℕ) (k : ℕ) (room : length s ≡ 32) (long : length l ≡ 32) (h : k < 32) where
-  part_long : length (take k l) ≡ k
-  part_long = length-take-le k l (omega arith)
+-- a row added to another of 32 so many times, number by number
+module _ (n : ℕ) (s l : List ℕ) (k : ℕ) (room : length s ≡ 32) (long : length l ≡ 32) (h : k < 32) where
+  abbrev more : List ℕ
+  more = times n l
+
+  more_long : length more ≡ 32
+  more_long = length-times n l ∙ long
+
+  part_long : length (take k more) ≡ k
+  part_long = length-take-le k more (omega (arith, more_long))
 
   -- the next number still is what it was
-  pub add_at : nth (s ⊕ take k l) k ≡ nth s k
-  add_at = omega (arith, get_d-⊕ s (take k l) k, get_or-eq_default (take k l) 0 {n = k} (omega (arith, part_long)))
+  pub add_at : nth (s ⊕ take k more) k ≡ nth s k
+  add_at = omega (arith, get_d-⊕ s (take k more) k, get_or-eq_default (take k more) 0 {n = k} (omega (arith, part_long)))
 
-  pub add_turn : set (s ⊕ take k l) k (nth (s ⊕ take k l) k + nth l k) ≡ s ⊕ take (k + 1) l
+  pub add_turn : set (s ⊕ take k more) k (nth (s ⊕ take k more) k + n * nth l k) ≡ s ⊕ take (k + 1) more
   add_turn =
-      let e : take (suc k) l ≡ take k l ++ (nth l k ∷ []) = take-suc l k 0 (omega arith) in
-      rw (add-one k, e) (put_at s (take k l) (nth l k) k part_long (omega arith))
+      let e : take (suc k) more ≡ take k more ++ (nth more k ∷ []) = take-suc more k 0 (omega (arith, more_long)) in
+      rw (add-one k, e, nth-times n l k) (put_at s (take k more) (n * nth l k) k part_long (omega arith))
+
+-- all of them
+pub all_times : (n k : ℕ) (s l : List ℕ) → length l ≡ 32 → 32 ≤ k → s ⊕ take k (times n l) ≡ s ⊕ times n l
+all_times n k s l long h = ap (λ (v : List ℕ). s ⊕ v) (take_all k (times n l) (omega (arith, length-times n l)))
 
 -- ---- a difference
 pub length-less : (x y : List ℕ) → length (x ⊖ y) ≡ length x
 length-less [] y = refl
 length-less (a ∷ x) [] = refl
 length-less (a ∷ x) (b ∷ y) = ap suc (length-less x y)
-
-pub nth-less : (x y : List ℕ) (i : ℕ) → nth (x ⊖ y) i ≡ nth x i - nth y i
-nth-less [] y i = omega arith
-nth-less (a ∷ x) [] i = omega arith
-nth-less (a ∷ x) (b ∷ y) zero = refl
-nth-less (a ∷ x) (b ∷ y) (suc i) = nth-less x y i

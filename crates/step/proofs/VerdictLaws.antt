@@ -1,25 +1,27 @@
 -- Laws of the verdict: the tests before one are passed, and it says why.
-use Prim.Native.Nat.{ℕ, zero, suc, ◌+◌, ◌-◌, ◌≤◌, ◌<◌}
+use Prim.Native.Nat.{ℕ, zero, suc, ◌+◌, ◌-◌, ◌≤◌}
 use mathlib.Core.Path.{◌≡◌, refl, sym, ap, ◌∙◌}
 use mathlib.Core.Bool.{Bool, true, false, and-false}
 use mathlib.Core.List.{List, [], ◌∷◌, ◌++◌}
 use mathlib.Core.Option.{Option, none, some}
 use native.Mathlib.Omega.{arith}
-use borrow.Author.Tests.{le-leb, lt-leb}
-use lib.ListN.{length}
+use lib.Dec.{T, leb, leb→le}
+use lib.ListN.{length, get_or, length-append, length-map, length-replicate}
 use Rattle.std.specs.Prelude.{Result, Ok, Err, None, Some}
 use Rattle.std.specs.Result.{IsErrAnd}
 use Rattle.eos.specs.Vector.{le_v, eq_v}
-use Rattle.eos.specs.Causes.{Cause, taking, giving, short, unequal, missing, crowded, first, unless, at, failing}
-use Rattle.marking.specs.declared.NetToken.{NetToken}
+use Rattle.eos.specs.Counted.{there}
+use Rattle.eos.specs.Causes.{Cause, taking, giving, short, unequal, first, unless, at, failing}
+use Rattle.eos.proofs.Basics.{and_l, and_r}
+use Rattle.marking.specs.Tokens.{all_counted, spelt_out, copies}
+use Rattle.marking.specs.declared.Entry.{Entry}
 use Rattle.model.specs.Held.{row_at, told}
 use Rattle.step.specs.declared.Rule.{Rule}
-use Rattle.step.specs.declared.Refusal.TheVariants.{Places, Short, Unequal, Missing, Crowded}
+use Rattle.step.specs.declared.Refusal.TheVariants.{Places, Short, Unequal}
 use Rattle.step.specs.declared.Refusal.{Refusal}
-use Rattle.step.specs.Verdict.{outer_tokens, types_in, by_alone, outer_taken_in, outer_given_in, inner_taken_in, inner_given_in, lacking_tokens, outer_causes, inner_causes, marking_causes, causes_in, verdict_of}
+use Rattle.step.specs.Verdict.{outer_entries, types_in, by_alone, outer_taken_in, outer_given_in, inner_taken_in, inner_given_in, outer_causes, inner_causes, line_causes, verdict_of}
 use Rattle.step.specs.VerdictParts.{Inner, even_in}
 use Rattle.eos.proofs.FailingLaws.{failing_same}
-use Rattle.step.proofs.LackLaws.{lacking_fewer}
 
 -- what a verdict says
 abbrev pub Verdict : Type 0
@@ -81,7 +83,7 @@ module _ (t : ℕ) (b : List (Option Cause)) where
   goes_on (some c ∷ a) e = never _ e
 
   -- and not where it turns the step down
-  turns : (a : List (Option Cause)) {r : Refusal} → answer t a ≡ Err r → answer t (a ++ b) ≡ Err r
+  pub turns : (a : List (Option Cause)) {r : Refusal} → answer t a ≡ Err r → answer t (a ++ b) ≡ Err r
   unfolding first verdict_of
   turns [] {r} e = never r (sym e)
   turns (none ∷ a) e = turns a e
@@ -97,33 +99,65 @@ module _ {B : Type 0} (named alone : B) where
   is_alone zero e = absurd (e refl)
   is_alone (suc n) e = refl
 
-module _ (q : Rule) (taken : List NetToken) where
+module _ (q : Rule) (taken : List Entry) where
   module _ (e : q.alone ≡ 0) where
-    pub taken_named : eq_v (outer_tokens taken) q.pre.outer ≡ outer_taken_in q taken
+    pub taken_named : eq_v (outer_entries taken) q.pre.outer ≡ outer_taken_in q taken
     unfolding outer_taken_in
-    taken_named = sym (is_named (eq_v (outer_tokens taken) q.pre.outer) (eq_v (types_in q.types taken) (q.alone ∷ [])) q.alone e)
+    taken_named = sym (is_named (eq_v (outer_entries taken) q.pre.outer) (eq_v (types_in q.types taken) (q.alone ∷ [])) q.alone e)
 
-    pub given_named : (given : List NetToken) → eq_v (outer_tokens given) q.post.outer ≡ outer_given_in q taken given
+    pub given_named : (given : List Entry) → eq_v (outer_entries given) q.post.outer ≡ outer_given_in q taken given
     unfolding outer_given_in
-    given_named given = ap (eq_v (outer_tokens given)) (sym (is_named q.post.outer (outer_tokens taken) q.alone e))
+    given_named given = ap (eq_v (outer_entries given)) (sym (is_named q.post.outer (outer_entries taken) q.alone e))
 
   module _ (e : q.alone ≡ 0 → ⊥) where
     pub taken_alone : eq_v (types_in q.types taken) (q.alone ∷ []) ≡ outer_taken_in q taken
     unfolding outer_taken_in
-    taken_alone = sym (is_alone (eq_v (outer_tokens taken) q.pre.outer) (eq_v (types_in q.types taken) (q.alone ∷ [])) q.alone e)
+    taken_alone = sym (is_alone (eq_v (outer_entries taken) q.pre.outer) (eq_v (types_in q.types taken) (q.alone ∷ [])) q.alone e)
 
-    pub given_alone : (given : List NetToken) → eq_v (outer_tokens given) (outer_tokens taken) ≡ outer_given_in q taken given
+    pub given_alone : (given : List Entry) → eq_v (outer_entries given) (outer_entries taken) ≡ outer_given_in q taken given
     unfolding outer_given_in
-    given_alone given = ap (eq_v (outer_tokens given)) (sym (is_alone q.post.outer (outer_tokens taken) q.alone e))
+    given_alone given = ap (eq_v (outer_entries given)) (sym (is_alone q.post.outer (outer_entries taken) q.alone e))
 
--- not one net-token
-pub not_one : (types : List ℕ) (net : ℕ) (taken : List NetToken) → (length taken ≡ 1 → ⊥) → false ≡ eq_v (types_in types taken) (net ∷ [])
-not_one types net [] h = refl
-not_one types net (t ∷ []) h = absurd (h refl)
-not_one types net (t ∷ u ∷ l) h = sym (and-false _)
+-- not one number
+not_one : (x : List ℕ) (n : ℕ) → (length x ≡ 1 → ⊥) → false ≡ eq_v x (n ∷ [])
+not_one [] n h = refl
+not_one (a ∷ []) n h = absurd (h refl)
+not_one (a ∷ b ∷ x) n h = sym (and-false _)
+
+-- there are at least as many net-tokens as entries
+spelt_long : (es : List Entry) → T (there (all_counted es)) → length es ≤ length (spelt_out es)
+spelt_long [] h = omega arith
+spelt_long (e ∷ es) h =
+    omega (
+      arith,
+      length-append (copies e) (spelt_out es),
+      length-replicate e.times e.token,
+      leb→le 1 e.times (and_l (leb 1 e.times) (there (all_counted es)) h),
+      spelt_long es (and_r (leb 1 e.times) (there (all_counted es)) h),
+    )
+
+-- what is taken is not one net-token where it is not one entry, or one of another number
+module _ (types : List ℕ) (net : ℕ) where
+  types_long : (es : List Entry) → length (types_in types es) ≡ length (spelt_out es)
+  types_long es = length-map (spelt_out es) (λ t. get_or types (t.place - 1) 0)
+
+  pub not_one_line : (es : List Entry) → T (there (all_counted es)) → (length es ≡ 1 → ⊥) → false ≡ eq_v (types_in types es) (net ∷ [])
+  not_one_line [] h n = refl
+  not_one_line (e ∷ []) h n = absurd (n refl)
+  not_one_line (e ∷ f ∷ es) h n =
+      not_one (types_in types (e ∷ f ∷ es)) net (λ q. omega (arith, types_long (e ∷ f ∷ es), spelt_long (e ∷ f ∷ es) h, q))
+
+  -- the types of the net-tokens of one entry
+  line_types : (e : Entry) → length (types_in types (e ∷ [])) ≡ e.times
+  line_types e = omega (arith, types_long (e ∷ []), length-append (copies e) [], length-replicate e.times e.token)
+
+  pub more_than_one : (es : List Entry) (d : Entry) → length es ≡ 1 → ((get_or es 0 d).times ≡ 1 → ⊥) → false ≡ eq_v (types_in types es) (net ∷ [])
+  more_than_one [] d h n = absurd (omega arith)
+  more_than_one (e ∷ []) d h n = not_one (types_in types (e ∷ [])) net (λ q. n (sym (line_types e) ∙ q))
+  more_than_one (e ∷ f ∷ es) d h n = absurd (omega arith)
 
 -- ---- the tests on the places
-module _ (t : ℕ) (q : Rule) (taken given : List NetToken) where
+module _ (t : ℕ) (q : Rule) (taken given : List Entry) where
   abbrev pub on_places : Verdict
   on_places = answer t (outer_causes q taken given)
 
@@ -143,7 +177,7 @@ module _ (t : ℕ) (q : Rule) (taken given : List NetToken) where
     pass_places e = skip t taking _ (outer_taken_in q taken) a ∙ skip t giving [] (outer_given_in q taken given) e ∙ nothing t
 
 -- ---- the tests on the nets
-module _ (t : ℕ) (q : Rule) (taken given : List NetToken) where
+module _ (t : ℕ) (q : Rule) (taken given : List Entry) where
   abbrev pub on_nets : Verdict
   on_nets = answer t (inner_causes q taken given)
 
@@ -172,69 +206,27 @@ module _ (t : ℕ) (q : Rule) (taken given : List NetToken) where
     pass_nets e = skip_at t short _ takes (told_none takes a) ∙ skip_at t unequal [] gives (told_none gives e) ∙ nothing t
 
 -- over rows of the inner projections
-module _ (q : Rule) (taken : List NetToken) (held : List (List ℕ)) (few : q.nets ≤ 8) (h : Inner q.types taken held) where
+module _ (q : Rule) (taken : List Entry) (held : List (List ℕ)) (few : q.nets ≤ 8) (h : Inner q.types taken held) where
   pub taken_same : failing q.nets 0 (λ n. le_v (row_at q.pre.inner n) (row_at held n)) ≡ failing q.nets 0 (inner_taken_in q taken)
   unfolding inner_taken_in
   taken_same = failing_same q.nets 0 _ (inner_taken_in q taken) (λ i k. rw (h.rows i (omega arith)))
 
-  pub given_same : (given : List NetToken) (made : List (List ℕ)) → Inner q.types given made
+  pub given_same : (given : List Entry) (made : List (List ℕ)) → Inner q.types given made
       → failing q.nets 0 (even_in made held q.pre.inner q.post.inner) ≡ failing q.nets 0 (inner_given_in q taken given)
   unfolding inner_given_in
   given_same given made m =
       failing_same q.nets 0 (even_in made held q.pre.inner q.post.inner) (inner_given_in q taken given)
       (λ i k. rw (h.rows i (omega arith), m.rows i (omega arith)))
 
--- ---- the tests on the marking
-module _ (room t : ℕ) (taken : List NetToken) (give : ℕ) (held : List NetToken) where
-  abbrev pub on_marking : Verdict
-  on_marking = answer t (marking_causes room taken give held)
-
-  abbrev lacks : Option ℕ
-  lacks = lacking_tokens held 0 [] taken
-
-  pub stop_missing : (i : ℕ) → Some i ≡ told lacks → on_marking ≡ Err (Missing (i + 3))
-  unfolding marking_causes verdict_of
-  stop_missing i e =
-      let k : 3 + i ≡ i + 3 = omega arith in
-      stop_at t missing _ lacks i (told_some lacks i e) ∙ ap (λ (n : ℕ). Err (Missing n)) k
-
-  module _ (a : None ≡ told lacks) where
-    pub stop_crowded : room + length taken < length held + give → on_marking ≡ Err (Crowded (t + 3))
-    unfolding marking_causes verdict_of
-    stop_crowded h =
-        let k : 3 + t ≡ t + 3 = omega arith in
-        skip_at t missing _ lacks (told_none lacks a) ∙ stop t crowded [] _ (lt-leb (length held - length taken + give) room (omega arith))
-        ∙ ap (λ (n : ℕ). Err (Crowded n)) k
-
-    pub pass_marking : length held + give ≤ room + length taken → on_marking ≡ Ok tt
-    unfolding marking_causes
-    pass_marking h =
-        skip_at t missing _ lacks (told_none lacks a)
-        ∙ skip t crowded [] _ (le-leb (length held - length taken + give) room (omega (arith, lacking_fewer held taken (told_none lacks a))))
-        ∙ nothing t
-
 -- ---- the parts in turn
-module _ (room t : ℕ) (q : Rule) (taken given held : List NetToken) where
+module _ (t : ℕ) (q : Rule) (taken given : List Entry) where
   abbrev in_turn : Verdict
-  in_turn = answer t (causes_in room q taken given held)
-
-  abbrev behind_places : List (Option Cause)
-  behind_places = inner_causes q taken given ++ marking_causes room taken (length given) held
+  in_turn = answer t (line_causes q taken given)
 
   -- turned down on the places
   pub by_places : (r : Refusal) → Err r ≡ on_places t q taken given → Err r ≡ in_turn
-  unfolding causes_in
-  by_places r e = sym (turns t behind_places (outer_causes q taken given) (sym e))
+  by_places r e = sym (turns t (inner_causes q taken given) (outer_causes q taken given) (sym e))
 
-  module _ (e : Ok tt ≡ on_places t q taken given) where
-    places-passed : answer t behind_places ≡ in_turn
-    unfolding causes_in
-    places-passed = sym (goes_on t behind_places (outer_causes q taken given) (sym e))
-
-    -- on the nets
-    pub by_nets : (r : Refusal) → Err r ≡ on_nets t q taken given → Err r ≡ in_turn
-    by_nets r f = sym (turns t (marking_causes room taken (length given) held) (inner_causes q taken given) (sym f)) ∙ places-passed
-
-    -- and else it is for the marking to say
-    pub by_marking : Ok tt ≡ on_nets t q taken given → (v : Verdict) → v ≡ on_marking room t taken (length given) held → v ≡ in_turn
-    by_marking f v h = h ∙ sym (goes_on t (marking_causes room taken (length given) held) (inner_causes q taken given) (sym f)) ∙ places-passed
+  -- and else it is for the nets to say
+  pub by_nets : Ok tt ≡ on_places t q taken given → (v : Verdict) → v ≡ on_nets t q taken given → v ≡ in_turn
+  by_nets e v h = h ∙ sym (goes_on t (inner_causes q taken given) (outer_causes q taken given) (sym e))

@@ -5,7 +5,7 @@
 ghost use Rattle.std.specs.Prelude.{◌≡◌};
 ghost use Rattle.step.specs.Rule.{no_sides, no_rule};
 
-use marking::NetToken;
+use marking::Entry;
 
 // One side of an event: how many net-tokens it has on each place, and how many tokens on each place of each object net, a row for each
 // net. Unused room is 0.
@@ -64,17 +64,17 @@ pub enum Refusal {
     Crowded { line: usize },
 }
 
-// What the lines of a step say up to those that it takes: its event, from 0, and the net-tokens that it takes, in the order of their lines.
+// What the lines of a step say up to those that it takes: its event, from 0, and the entries that it takes, in the order of their lines.
 #[derive(Clone, Copy)]
 pub struct TakeLines<'a> {
     pub event: usize,
-    pub taken: &'a [NetToken],
+    pub taken: &'a [Entry],
 }
 
-// What the lines of a step say: its event, from 0, and the net-tokens that it takes and gives, in the order of their lines.
+// What the lines of a step say: its event, from 0, and the entries that it takes and gives, in the order of their lines.
 #[derive(Clone, Copy)]
 pub struct StepLines<'a> {
     pub event: usize,
-    pub taken: &'a [NetToken],
-    pub given: &'a [NetToken],
+    pub taken: &'a [Entry],
+    pub given: &'a [Entry],
 }

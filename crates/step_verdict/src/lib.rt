@@ -1,36 +1,33 @@
-// The verdict on a step: the tests in their order, up to the first that fails. They are asked of net-tokens that need not have been read from a
-// step's lines, and so of what is taken and what is given each by itself.
+// The verdict on a step's lines by themselves (8 to 10): the tests in their order, up to the first that fails. They are asked of lines that need
+// not have been read from a step, and so of what is taken and what is given each by itself. Whether the marking has the net-tokens taken, and
+// room for those given, its change says.
 #![tactic(auto)]
 
 ghost use Rattle.std.specs.Prelude.{◌≡◌, ◌≤◌, length, [], ◌∷◌};
 ghost use Rattle.eos.specs.Vector.{eq_v};
 ghost use Rattle.eos.specs.Causes.{first};
-ghost use Rattle.eos.specs.Multiset as M;
-ghost use Rattle.model.specs.Limits.{room_limit};
-ghost use Rattle.marking.specs.Tokens.{before};
-ghost use Rattle.step.specs.Verdict.{types_in, outer_taken_in, outer_given_in, outer_causes, inner_causes, marking_causes, causes_in, verdict_of};
+ghost use Rattle.step.specs.Verdict.{types_in, outer_taken_in, outer_given_in, outer_causes, inner_causes, line_causes, verdict_of};
 ghost use Rattle.step.specs.VerdictParts.{Sound, Placed};
 
-use marking::NetToken;
+use marking::Entry;
 use step::{Refusal, Rule};
-use step_projections::containment::lacking;
 use step_projections::nets::{short_net, unbalanced_net};
 use step_projections::{inner_of, outer_of};
 
 // Whether the net-tokens taken are one, of the net that is `alone`.
-fn one_of_net(rule: &Rule, taken: &[NetToken]) -> bool
+fn one_of_net(rule: &Rule, taken: &[Entry]) -> bool
     requires { Placed taken.now }
     ensures { result ≡ eq_v (types_in rule.now.types taken.now) (rule.now.alone ∷ []) }
 {
     if taken.len() != 1 {
         return false;
     }
-    let place = usize::from(taken[0].place) - 1;
-    rule.types[place] == rule.alone
+    let Entry { token, times } = taken[0];
+    times == 1 && rule.types[usize::from(token.place) - 1] == rule.alone
 }
 
 // Whether the net-tokens taken are on the places that the event asks.
-fn asked(rule: &Rule, taken: &[NetToken]) -> bool
+fn asked(rule: &Rule, taken: &[Entry]) -> bool
     requires { Placed taken.now }
     ensures { result ≡ outer_taken_in rule.now taken.now }
 {
@@ -41,7 +38,7 @@ fn asked(rule: &Rule, taken: &[NetToken]) -> bool
 }
 
 // Whether the net-tokens given are on the places that the event gives.
-fn left(rule: &Rule, taken: &[NetToken], given: &[NetToken]) -> bool
+fn left(rule: &Rule, taken: &[Entry], given: &[Entry]) -> bool
     requires { Placed taken.now × Placed given.now }
     ensures { result ≡ outer_given_in rule.now taken.now given.now }
 {
@@ -52,7 +49,7 @@ fn left(rule: &Rule, taken: &[NetToken], given: &[NetToken]) -> bool
 }
 
 // The tests on the places (8): the net-tokens taken are those that the event asks, and those given are those that it gives.
-pub fn on_places(rule: &Rule, taken: &[NetToken], given: &[NetToken]) -> Result<(), Refusal>
+pub fn on_places(rule: &Rule, taken: &[Entry], given: &[Entry]) -> Result<(), Refusal>
     requires { Placed taken.now × Placed given.now }
     ensures { result ≡ verdict_of (length taken.now) (first (outer_causes rule.now taken.now given.now)) }
 {
@@ -68,7 +65,7 @@ pub fn on_places(rule: &Rule, taken: &[NetToken], given: &[NetToken]) -> Result<
 }
 
 // The tests on the nets (9 and 10): the tokens inside the net-tokens taken are enough, and those inside the net-tokens given are what is left.
-pub fn on_nets(rule: &Rule, taken: &[NetToken], given: &[NetToken]) -> Result<(), Refusal>
+pub fn on_nets(rule: &Rule, taken: &[Entry], given: &[Entry]) -> Result<(), Refusal>
     requires { Sound rule.now × Placed taken.now × Placed given.now }
     ensures { result ≡ verdict_of (length taken.now) (first (inner_causes rule.now taken.now given.now)) }
 {
@@ -85,40 +82,12 @@ pub fn on_nets(rule: &Rule, taken: &[NetToken], given: &[NetToken]) -> Result<()
     Ok(())
 }
 
-// The tests on the marking (11 and 12): it has the net-tokens taken, and of its room there is enough for those given.
-pub fn on_marking(
-    room: usize,
-    taken: &[NetToken],
-    give: usize,
-    held: &[NetToken],
-) -> Result<(), Refusal>
-    requires { (room ≤ room_limit) × (length taken.now ≤ room_limit) × (give ≤ room_limit) × (length held.now ≤ room_limit) × M.Sorted before held.now }
-    ensures { result ≡ verdict_of (length taken.now) (first (marking_causes room taken.now give held.now)) }
-{
-    if let Some(i) = lacking(taken, held) {
-        return Err(Refusal::Missing { line: i + 3 });
-    }
-    if room + taken.len() < held.len() + give {
-        return Err(Refusal::Crowded {
-            line: taken.len() + 3,
-        });
-    }
-    Ok(())
-}
-
-// Why a step is turned down, or that it fires: an event with its rule, the net-tokens taken and given, on the net-tokens of a marking with its
-// room. The three parts are asked in turn.
-pub fn verdict(
-    room: usize,
-    rule: &Rule,
-    taken: &[NetToken],
-    given: &[NetToken],
-    held: &[NetToken],
-) -> Result<(), Refusal>
-    requires { (room ≤ room_limit) × Sound rule.now × Placed taken.now × Placed given.now × (length held.now ≤ room_limit) × M.Sorted before held.now }
-    ensures { result ≡ verdict_of (length taken.now) (first (causes_in room rule.now taken.now given.now held.now)) }
+// Why a step is turned down for its lines, or that they are right: an event with its rule, and the net-tokens taken and given. The two parts are
+// asked in turn.
+pub fn verdict(rule: &Rule, taken: &[Entry], given: &[Entry]) -> Result<(), Refusal>
+    requires { Sound rule.now × Placed taken.now × Placed given.now }
+    ensures { result ≡ verdict_of (length taken.now) (first (line_causes rule.now taken.now given.now)) }
 {
     on_places(rule, taken, given)?;
-    on_nets(rule, taken, given)?;
-    on_marking(room, taken, given.len(), held)
+    on_nets(rule, taken, given)
 }

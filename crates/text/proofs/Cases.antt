@@ -7,23 +7,26 @@ use lib.IntN.{ℤ, pos, negsuc}
 use lib.ListN.{length, take}
 use Rattle.text.specs.Bytes.{Text, bytes, meet, far, newlines}
 use Rattle.text.specs.Number.{made, both, either, literal, digits, number_of, number, negated, signed, ended, item}
-use Rattle.text.specs.Lists.{stop_of, items, list_end, any_items, any_list}
+use Rattle.text.specs.Lists.{stop_of, joined, values, list_end, any_items, any_list}
 use Rattle.text.specs.Lines.{Outcome, got, bad, fault_at, spot_of, then, many, judged, out_at, in_range, modest, behind, read_number, read_row, read_list, read_weights, read_head, read_heads}
 use Rattle.text.specs.Token.{Token}
-use Rattle.text.specs.TokenLine.{counts_at, token_form, token_out, read_token}
+use Rattle.text.specs.TokenLine.{counts_at, beyond_one, more_than_one, timed, token_form, counts_out, token_out, read_token}
 use Rattle.text.specs.Keyed.{keyed_form, read_keyed}
-use Rattle.text.specs.Printed.{decimal_of, decimal, signed_text, items_text, end_text, texts, number_text, list_text, weights_text, token_text}
+use Rattle.text.specs.Printed.{decimal_of, decimal, signed_text, items_text, end_text, texts, number_text, list_text, weights_text, counts_text, token_text}
 use Rattle.text.proofs.Standing.{differ}
-use Rattle.text.specs.declared.Cause.TheVariants.{Syntax, Range, Idling}
+use Rattle.text.specs.declared.Cause.TheVariants.{Syntax, Range, Idling, Crowded}
 use Rattle.text.specs.declared.Keyed.{Keyed}
 use Rattle.text.specs.declared.Keyed.TheVariants.{Former, Latter}
 
+abbrev tokens : ℕ → List ℕ → ℕ → Token
+tokens p cs n = record { place = p; counts = cs; times = n }
+
 abbrev token : ℕ → List ℕ → Token
-token p cs = record { place = p; counts = cs }
+token p cs = tokens p cs 1
 
 -- a token's line where there are two places, of two counts each
 abbrev token_of : Text → ℕ → Outcome Token
-token_of = read_token (bytes "token=") 2 (λ p. 2) (in_range 0 65535)
+token_of = read_token (bytes "token=") 2 (λ p. 2) (in_range 0 65535) (in_range 0 65535)
 
 abbrev model : Text
 model =
@@ -54,8 +57,8 @@ pub model_reads : (read_head (bytes "eos=1\n") model 0 ≡ got tt 6)
     × (token_of model 147 ≡ got (token 1 (0 ∷ 0 ∷ [])) 159)
     × (many (token_of model) 2 135 ≡ got (token 1 (1 ∷ 0 ∷ []) ∷ token 1 (0 ∷ 0 ∷ []) ∷ []) 159)
     × (length model ≡ 159)
-unfolding read_head read_number read_row read_token token_form counts_at many then judged behind literal both made far meet
-    list_end items item ended stop_of number number_of digits
+unfolding read_head read_number read_row read_token token_form timed counts_at beyond_one more_than_one either many then judged behind literal both made far meet
+    list_end values joined item ended number number_of digits
 model_reads = (refl, refl, refl, refl, refl, refl, refl, refl, refl, refl, refl, refl, refl, refl, refl, refl, refl, refl, refl, refl, refl)
 
 abbrev weights : Text
@@ -66,7 +69,7 @@ pub weights_read : (read_head (bytes "inv=1\n") weights 0 ≡ got tt 6)
     × (read_weights (bytes "outer=") 2 (modest 1000) weights 6 ≡ got (pos 1 ∷ pos 1 ∷ []) 16)
     × (read_weights (bytes "inner=") 2 (modest 1000) weights 16 ≡ got (pos 1 ∷ pos 1 ∷ []) 26)
     × (length weights ≡ 26)
-unfolding read_head read_row judged behind literal both made far meet list_end items item ended stop_of signed negated number number_of digits
+unfolding read_head read_row judged behind literal both made far meet list_end values joined item ended signed negated number number_of digits
 weights_read = (refl, refl, refl, refl)
 
 abbrev nets : Text → Outcome ℕ
@@ -112,7 +115,7 @@ pub list_edges : (pre (bytes "pre=1,2\n") ≡ got (1 ∷ 2 ∷ []) 8)
     × (sync 1 (bytes "sync=01\n") ≡ bad (fault_at Syntax 0 6))
     × (sync 0 (bytes "sync=\n") ≡ got [] 6)
     × (sync 0 (bytes "sync=0\n") ≡ bad (fault_at Syntax 0 5))
-unfolding read_row judged behind literal both made far meet out_at list_end items item ended stop_of number number_of digits decimal decimal_of
+unfolding read_row judged behind literal both made far meet out_at list_end values joined item ended number number_of digits decimal decimal_of
 list_edges = (refl, refl, refl, refl, refl, refl, refl, refl, refl, refl)
 
 abbrev outer : Text → Outcome (List ℤ)
@@ -128,8 +131,12 @@ pub weight_edges : (outer (bytes "outer=-5\n") ≡ got (negsuc 4 ∷ []) 9)
     × (outer (bytes "outer=-01\n") ≡ bad (fault_at Syntax 0 7))
     × (outer (bytes "outer=--1\n") ≡ bad (fault_at Syntax 0 7))
     × (outer (bytes "outer=-\n") ≡ bad (fault_at Syntax 0 7))
-unfolding read_row judged behind literal both made far meet out_at list_end items item ended stop_of signed negated number number_of digits signed_text decimal decimal_of
+unfolding read_row judged behind literal both made far meet out_at list_end values joined item ended signed negated number number_of digits signed_text decimal decimal_of
 weight_edges = (refl, refl, refl, refl, refl, refl, refl, refl, refl)
+
+-- the same where there are three, of no count
+abbrev black_of : Text → ℕ → Outcome Token
+black_of = read_token (bytes "token=") 3 (λ p. 0) (in_range 0 65535) (in_range 0 65535)
 
 -- a token: out of range, its place is 3 whatever the length of the list, whose syntax is judged
 pub token_edges : (token_of (bytes "token=2:65535,0\n") 0 ≡ got (token 2 (65535 ∷ 0 ∷ [])) 16)
@@ -143,10 +150,38 @@ pub token_edges : (token_of (bytes "token=2:65535,0\n") 0 ≡ got (token 2 (6553
     × (token_of (bytes "token=3:9") 0 ≡ bad (fault_at Syntax 0 9))
     × (token_of (bytes "token=3:01\n") 0 ≡ bad (fault_at Syntax 0 9))
     × (token_of (bytes "token=0:\n") 0 ≡ bad (fault_at Range 0 6))
-    × (read_token (bytes "token=") 3 (λ p. 0) (in_range 0 65535) (bytes "token=3:\n") 0 ≡ got (token 3 []) 9)
-unfolding read_token token_form token_out counts_at judged behind literal both made either far meet out_at list_end items item ended stop_of any_list any_items number number_of digits
-    decimal decimal_of
+    × (black_of (bytes "token=3:\n") 0 ≡ got (token 3 []) 9)
+unfolding read_token token_form timed token_out counts_out counts_at beyond_one more_than_one judged behind literal both made either far meet out_at list_end values joined item ended any_list any_items number number_of digits decimal decimal_of
 token_edges = (refl, refl, refl, refl, refl, refl, refl, refl, refl, refl, refl, refl)
+
+-- `*n`: n from 2 on; 0 is wrong at its byte, 1 behind it, and its range is judged last
+pub times_edges : (token_of (bytes "token=2:1,0*2\n") 0 ≡ got (tokens 2 (1 ∷ 0 ∷ []) 2) 14)
+    × (black_of (bytes "token=3:*5\n") 0 ≡ got (tokens 3 [] 5) 11)
+    × (token_of (bytes "token=2:1,0*65535\n") 0 ≡ got (tokens 2 (1 ∷ 0 ∷ []) 65535) 18)
+    × (token_of (bytes "token=2:1,0*0\n") 0 ≡ bad (fault_at Syntax 0 12))
+    × (token_of (bytes "token=2:1,0*1\n") 0 ≡ bad (fault_at Syntax 0 13))
+    × (token_of (bytes "token=2:1,0*01\n") 0 ≡ bad (fault_at Syntax 0 12))
+    × (token_of (bytes "token=2:1,0*1x") 0 ≡ bad (fault_at Syntax 0 13))
+    × (token_of (bytes "token=2:1,0*2x") 0 ≡ bad (fault_at Syntax 0 13))
+    × (token_of (bytes "token=2:1,0*2*2\n") 0 ≡ bad (fault_at Syntax 0 13))
+    × (token_of (bytes "token=2:1,0*\n") 0 ≡ bad (fault_at Syntax 0 12))
+    × (token_of (bytes "token=2:1,0*") 0 ≡ bad (fault_at Syntax 0 12))
+    × (token_of (bytes "token=2:1,0*1") 0 ≡ bad (fault_at Syntax 0 13))
+    × (token_of (bytes "token=2:1,0*2") 0 ≡ bad (fault_at Syntax 0 13))
+    × (token_of (bytes "token=2:1,0x") 0 ≡ bad (fault_at Syntax 0 11))
+    × (token_of (bytes "token=2:1*2\n") 0 ≡ bad (fault_at Syntax 0 9))
+    × (token_of (bytes "token=2:1,0*65536\n") 0 ≡ bad (fault_at Range 0 12))
+    × (black_of (bytes "token=3:*65536\n") 0 ≡ bad (fault_at Range 0 9))
+    × (token_of (bytes "token=2:1,70000*70000\n") 0 ≡ bad (fault_at Range 0 10))
+    × (token_of (bytes "token=2:70000,0*1\n") 0 ≡ bad (fault_at Syntax 0 17))
+    × (token_of (bytes "token=9:0*2\n") 0 ≡ bad (fault_at Range 0 6))
+    × (token_of (bytes "token=9:*70000\n") 0 ≡ bad (fault_at Range 0 6))
+    × (token_of (bytes "token=9:0*1\n") 0 ≡ bad (fault_at Syntax 0 11))
+    × (token_of (bytes "token=9:*0\n") 0 ≡ bad (fault_at Syntax 0 9))
+    × (token_of (bytes "token=9:1,*2\n") 0 ≡ bad (fault_at Syntax 0 10))
+unfolding read_token token_form timed token_out counts_out counts_at beyond_one more_than_one judged behind literal both made either far meet out_at list_end values joined item ended any_list any_items
+    number number_of digits end_text items_text stop_of decimal decimal_of
+times_edges = (refl, refl, refl, refl, refl, refl, refl, refl, refl, refl, refl, refl, refl, refl, refl, refl, refl, refl, refl, refl, refl, refl, refl, refl)
 
 abbrev act : Text → Outcome Keyed
 act s = read_keyed (bytes "event=") (bytes "idle=") (in_range 1 3) (in_range 1 2) s 0
@@ -190,8 +225,9 @@ pub spots : (spot_of (bytes "eos=1\nnets=99\n") (fault_at Range 6 11) ≡ record
     × (spot_of (bytes "eos=1\nnets=") (fault_at Syntax 6 11) ≡ record { cause = Syntax; line = 2; column = 6 })
     × (spot_of (bytes "eos=1\n") (fault_at Syntax 6 6) ≡ record { cause = Syntax; line = 2; column = 1 })
     × (spot_of (bytes "eos=1\nidle=1\n") (fault_at Idling 6 6) ≡ record { cause = Idling; line = 2; column = 0 })
+    × (spot_of (bytes "start=1\ntoken=1:0\n") (fault_at Crowded 8 8) ≡ record { cause = Crowded; line = 2; column = 0 })
 unfolding newlines
-spots = (refl, refl, refl, refl)
+spots = (refl, refl, refl, refl, refl)
 
 -- the lines ended before a position
 pub lines-counted : (newlines model ≡ 19)
@@ -210,6 +246,8 @@ pub printed : (number_text (bytes "nets=") 12 ≡ bytes "nets=12\n")
     × (weights_text (bytes "outer=") (pos 0 ∷ negsuc 0 ∷ pos 1000 ∷ negsuc 999 ∷ []) ≡ bytes "outer=0,-1,1000,-1000\n")
     × (token_text (bytes "token=") (token 1 (1 ∷ 0 ∷ [])) ≡ bytes "token=1:1,0\n")
     × (token_text (bytes "token=") (token 3 []) ≡ bytes "token=3:\n")
+    × (token_text (bytes "token=") (tokens 1 (1 ∷ 0 ∷ []) 3) ≡ bytes "token=1:1,0*3\n")
+    × (token_text (bytes "token=") (tokens 3 [] 65535) ≡ bytes "token=3:*65535\n")
     × (texts (token_text (bytes "token=")) (token 1 (65535 ∷ []) ∷ token 2 [] ∷ []) ≡ bytes "token=1:65535\ntoken=2:\n")
-unfolding number_text list_text weights_text token_text texts end_text items_text signed_text decimal decimal_of stop_of
-printed = (refl, refl, refl, refl, refl, refl, refl, refl)
+unfolding number_text list_text weights_text token_text counts_text texts end_text items_text signed_text decimal decimal_of stop_of
+printed = (refl, refl, refl, refl, refl, refl, refl, refl, refl, refl)

@@ -1,10 +1,11 @@
 -- Which causes a reading may have. One law for each combinator; a reader's law is then put together as the reader is.
 use Prim.Native.Nat.{ℕ, zero, suc}
 use mathlib.Core.Bool.{Bool, true, false}
+use mathlib.Core.List.{List, [], ◌∷◌, ◌++◌}
 use Rattle.text.specs.Bytes.{Text, lf}
 use Rattle.text.specs.Number.{Read, missing, found, made, either, literal, number, item}
 use Rattle.text.specs.Lists.{list_end}
-use Rattle.text.specs.Lines.{Outcome, got, bad, then, need, many, judged, every, behind, read_number, read_row, read_head, read_heads, cause_number}
+use Rattle.text.specs.Lines.{Outcome, got, bad, then, need, many, many_within, judged, every, behind, read_number, read_row, read_head, read_heads, cause_number}
 use Rattle.text.specs.Repeat.{many_at}
 use Rattle.text.specs.TokenLine.{token_form, token_range, read_token}
 use Rattle.text.specs.Keyed.{by_key, keyed_form, read_keyed}
@@ -43,6 +44,17 @@ module _ (P : ℕ → Type 0) where
     many_at_faults f h i (suc n) at =
         then_faults (f i at) _ (h i at) (λ a next. then_faults (many_at f (suc i) n next) _ (many_at_faults f h (suc i) n next) (λ l end. tt))
 
+  -- each of several put to a test with those before it
+  pub within_faults : {A : Type 0} (fits : List A → Bool) (cause : Cause) (f : ℕ → Outcome A) → P (cause_number cause) → ((at : ℕ) → Faults (f at))
+      → (seen : List A) (n at : ℕ) → Faults (many_within fits cause f seen n at)
+  unfolding many_within
+  within_faults fits cause f p h seen zero at = tt
+  within_faults fits cause f p h seen (suc n) at =
+      then_faults (f at) _ (h at)
+      (λ a next.
+      let more = seen ++ (a ∷ []) in
+      need_faults (fits more) cause at _ p (then_faults (many_within fits cause f more n next) _ (within_faults fits cause f p h more n next) (λ l end. tt)))
+
   -- a line is refused with 2 or 3
   module _ (two : P 2) (three : P 3) where
     judged_faults : {A : Type 0} (range : A → Bool) (out : A → ℕ) (at : ℕ) (r : Read A) → Faults (judged range out at r)
@@ -57,15 +69,16 @@ module _ (P : ℕ → Type 0) where
     pub row_faults : {A : Type 0} (value : Text → ℕ → Read A) (text : A → Text) (key : Text) (n : ℕ) (range : A → Bool) (s : Text) (at : ℕ)
         → Faults (read_row value text key n range s at)
     unfolding read_row
-    row_faults value text key n range s at = judged_faults (every range) _ at (behind key (list_end value n) s at)
+    row_faults value text key n range s at = judged_faults (every range) _ at (behind key (list_end value lf n) s at)
 
     pub keyed_faults : (one two : Text) (range₁ range₂ : ℕ → Bool) (s : Text) (at : ℕ) → Faults (read_keyed one two range₁ range₂ s at)
     unfolding read_keyed
     keyed_faults one two range₁ range₂ s at = judged_faults (by_key range₁ range₂) _ at (keyed_form one two s at)
 
-    pub token_faults : (key : Text) (places : ℕ) (size : ℕ → ℕ) (range : ℕ → Bool) (s : Text) (at : ℕ) → Faults (read_token key places size range s at)
+    pub token_faults : (key : Text) (places : ℕ) (size : ℕ → ℕ) (range times : ℕ → Bool) (s : Text) (at : ℕ)
+        → Faults (read_token key places size range times s at)
     unfolding read_token
-    token_faults key places size range s at = judged_faults (token_range places range) _ at (token_form key places size s at)
+    token_faults key places size range times s at = judged_faults (token_range places range times) _ at (token_form key places size s at)
 
   -- the first line of a file with 2 alone
   module _ (two : P 2) where

@@ -8,7 +8,7 @@ use lib.Dec.{eqb, lit<}
 use lib.IntN.{ℤ, pos, negsuc}
 use borrow.Author.Tests.{eqb-true, eqb-false, le-leb}
 use lib.ListN.{length, drop, get_or}
-use Rattle.text.specs.Bytes.{Text, lf, minus, meet, far}
+use Rattle.text.specs.Bytes.{Text, minus, meet, far}
 use Rattle.text.proofs.Basics.{by_test, and_true}
 use Rattle.text.proofs.ByteLaws.{meet_same, meet_other, meet_none, far_least}
 use Rattle.text.specs.Number.{Read, missing, found, is_digit, digits, number_of, number, made, negated, signed}
@@ -24,8 +24,8 @@ use Rattle.text.proofs.Spelled.{number_spelled, signed-minus, signed_plain}
 -- how far the texts of values go, before a byte `stop` that is no digit
 pub record Halts {A : Type 0} (value : Text → ℕ → Read A) (text : A → Text) : Type 0 where
   pub some : A
-  -- no value begins with LF
-  pub begins : (a : A) (t : Text) → get_or (text a ++ t) 0 0 ≡ lf → ⊥
+  -- a value begins with a digit or with a minus sign
+  pub begins : (a : A) (t : Text) (c : ℕ) → is_digit c ≡ false → (c ≡ minus → ⊥) → get_or (text a ++ t) 0 0 ≡ c → ⊥
   -- where no value is found, one goes as far as the byte at fault
   pub goes : (s : Text) (at b : ℕ) → value s at ≡ missing b → (a : A) × (b ≤ far s at (text a))
   -- and none beyond it
@@ -115,8 +115,8 @@ of_missing (c ∷ t) at b e =
 leads_digit : (n : ℕ) (t : Text) → is_digit (get_or (decimal n ++ t) 0 0) ≡ true
 leads_digit n t = let k = decimal_leads n t in rw (le-leb 48 _ k.0, le-leb _ 57 k.1)
 
-leads_other : (n : ℕ) (t : Text) → get_or (decimal n ++ t) 0 0 ≡ lf → ⊥
-leads_other n t e = omega (arith, e, (decimal_leads n t).0)
+leads_other : (n : ℕ) (t : Text) (c : ℕ) → is_digit c ≡ false → get_or (decimal n ++ t) 0 0 ≡ c → ⊥
+leads_other n t c d e = digit_other _ c (leads_digit n t) d e
 
 -- '0' leads 0 alone
 leads_zero : (n : ℕ) → get_or (decimal n) 0 0 ≡ 48 → decimal n ≡ 48 ∷ []
@@ -141,7 +141,7 @@ number_ends s at v end e n stop d o =
 pub number_halts : Halts number decimal
 number_halts = record {
   some = 0;
-  begins = leads_other;
+  begins = λ n t c d m. leads_other n t c d;
   goes = λ s at b e. (0, omega (arith, (number_missing s at b e).0, far_least s at (decimal 0)));
   stays = λ s at b e n stop d. omega (arith, (number_missing s at b e).0, number_nowhere s at b e n (stop ∷ []));
   ends = number_ends;
@@ -160,7 +160,7 @@ module _ (s : Text) (at : ℕ) where
   minus_past m t = far_past s at (minus ∷ []) t (at + 1) (record { stands = byte_stands s at minus (lit< tt) m; next_is = refl })
 
 -- no number but 0 goes on with a '0'
-zero_nowhere : (s : Text) (at end : ℕ) → number s at ≡ found 0 end → (n : ℕ) (t : Text) → far s at (decimal (suc n) ++ t) ≡ at
+pub zero_nowhere : (s : Text) (at end : ℕ) → number s at ≡ found 0 end → (n : ℕ) (t : Text) → far s at (decimal (suc n) ++ t) ≡ at
 zero_nowhere s at end e n t =
     let r = number_spelled.back s at 0 end e in
     let z : get_or s at 0 ≡ 48 = first_byte s at _ r.stands ∙ rw (decimal-small 0 (lit< tt)) in
@@ -222,7 +222,7 @@ pub signed_halts : Halts signed signed_text
 unfolding signed_text
 signed_halts = record {
   some = pos 0;
-  begins = elim [ pos n ↦ leads_other n | negsuc n ↦ λ t e. omega (arith, e) ];
+  begins = elim [ pos n ↦ λ t c d m. leads_other n t c d | negsuc n ↦ λ t c d m e. m (sym e) ];
   goes = λ s at b e.
       by_test (eqb (get_or s at 0) minus)
       (λ h.

@@ -20,8 +20,10 @@ pub mod Parts
 pub mod Halts
 pub mod LineParts
 pub mod AnyParts
+pub mod TimesParts
 pub mod LineKinds
 pub mod Refusals
+pub mod ManyWithin
 pub mod Columns
 pub mod Outs
 pub mod LinesExactly

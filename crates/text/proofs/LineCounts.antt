@@ -5,20 +5,21 @@ use mathlib.Core.List.{List, [], ◌∷◌, ◌++◌}
 use mathlib.Core.Bool.{true}
 use native.Mathlib.Omega.{arith}
 use lib.Dec.{eqb}
-use borrow.Author.Tests.{leb-true, ne_eqb}
+use borrow.Author.Tests.{leb-true, eqb-true, eqb-false, ne_eqb}
 use lib.IntN.{ℤ, pos, negsuc}
 use lib.ListN.{length, take, drop, length-take, length-drop}
-use Rattle.text.specs.Bytes.{Text, lf, comma, colon, minus, newlines, line_at, column_at}
+use Rattle.text.specs.Bytes.{Text, lf, comma, colon, star, minus, newlines, line_at, column_at}
 use Rattle.text.specs.Number.{is_digit}
 use Rattle.text.specs.Lists.{stop_of}
 use Rattle.text.specs.Lines.{every, column_for, spot_of}
 use Rattle.text.specs.declared.Cause.{Cause}
-use Rattle.text.specs.declared.Cause.TheVariants.{Syntax, Range, Idling}
+use Rattle.text.specs.declared.Cause.TheVariants.{Syntax, Range, Idling, Crowded}
 use Rattle.text.specs.declared.Fault.{Fault}
-use Rattle.text.specs.Printed.{decimal, signed_text, items_text, end_text, texts, number_text, weights_text, token_text}
+use Rattle.text.specs.Printed.{decimal, signed_text, items_text, end_text, texts, number_text, weights_text, counts_text, token_text}
 use Rattle.text.specs.Token.{Token}
 use Rattle.text.proofs.Basics.{by_test, and_true}
 use Rattle.text.proofs.DecimalLaws.{decimal-digits}
+use Rattle.text.proofs.PrintedLaws.{counts_one, counts_many}
 
 -- a byte that is no LF ends no line
 other_byte : (b : ℕ) (s : Text) → (b ≡ lf → ⊥) → newlines (b ∷ s) ≡ newlines s
@@ -54,6 +55,7 @@ spot-within s e = go e.cause
     go Syntax = (column-within s e.at e.byte).1
     go Range = (column-within s e.at e.byte).1
     go Idling = omega arith
+    go Crowded = omega arith
 
 -- ---- within a line
 
@@ -73,20 +75,34 @@ unfolding signed_text
 signed_lines (pos n) = decimal-lines n
 signed_lines (negsuc n) = rw (other_byte minus (decimal (suc n)) (λ e. omega (arith, e))) (decimal-lines (suc n))
 
--- ---- a list to the end of its line
+-- ---- a list to its end, which ends a line where its last byte does
 
-module _ {A : Type 0} (text : A → Text) (plain : (a : A) → newlines (text a) ≡ 0) where
-  items-lines : (a : A) (l : List A) → newlines (items_text text (a ∷ l)) ≡ 1
-  unfolding items_text stop_of newlines
-  items-lines a [] = rw (lines_append (text a) (lf ∷ []), plain a)
+module _ {A : Type 0} (text : A → Text) (plain : (a : A) → newlines (text a) ≡ 0) (last : ℕ) where
+  items-lines : (a : A) (l : List A) → newlines (items_text text last (a ∷ l)) ≡ newlines (last ∷ [])
+  unfolding items_text stop_of
+  items-lines a [] = rw (lines_append (text a) (last ∷ []), plain a) (omega arith)
   items-lines a (b ∷ l) =
-      let more = items_text text (b ∷ l) in
+      let more = items_text text last (b ∷ l) in
       rw (lines_append (text a) (comma ∷ more), plain a, other_byte comma more (λ e. omega (arith, e))) (omega (arith, items-lines b l))
 
-  end_lines : (l : List A) → newlines (end_text text l) ≡ 1
-  unfolding end_text newlines
+  end_lines : (l : List A) → newlines (end_text text last l) ≡ newlines (last ∷ [])
+  unfolding end_text
   end_lines [] = refl
   end_lines (a ∷ l) = items-lines a l
+
+counts_lines : (l : List ℕ) (n : ℕ) → newlines (counts_text l n) ≡ 1
+unfolding newlines
+counts_lines l n =
+    by_test (eqb n 1)
+    (λ h. rw (counts_one l n (eqb-true n 1 h)) (end_lines decimal decimal-lines lf l))
+    (λ h.
+    rw (
+      counts_many l n (eqb-false n 1 h),
+      lines_append (end_text decimal star l) (decimal n ++ (lf ∷ [])),
+      end_lines decimal decimal-lines star l,
+      lines_append (decimal n) (lf ∷ []),
+      decimal-lines n,
+    ))
 
 -- several texts of one line each
 pub texts-lines : {A : Type 0} (text : A → Text) → ((a : A) → newlines (text a) ≡ 1) → (l : List A) → newlines (texts text l) ≡ length l
@@ -101,17 +117,17 @@ module _ (key : Text) (plain : newlines key ≡ 0) where
   number-line n = rw (lines_append key (decimal n ++ (lf ∷ [])), plain, lines_append (decimal n) (lf ∷ []), decimal-lines n)
 
   pub weights-line : (ws : List ℤ) → newlines (weights_text key ws) ≡ 1
-  unfolding weights_text
-  weights-line ws = rw (lines_append key (end_text signed_text ws), plain, end_lines signed_text signed_lines ws)
+  unfolding weights_text newlines
+  weights-line ws = rw (lines_append key (end_text signed_text lf ws), plain, end_lines signed_text signed_lines lf ws)
 
   pub token_line_lem : (t : Token) → newlines (token_text key t) ≡ 1
   unfolding token_text newlines
   token_line_lem t =
       rw (
-        lines_append key ((decimal t.place ++ (colon ∷ [])) ++ end_text decimal t.counts),
+        lines_append key ((decimal t.place ++ (colon ∷ [])) ++ counts_text t.counts t.times),
         plain,
-        lines_append (decimal t.place ++ (colon ∷ [])) (end_text decimal t.counts),
+        lines_append (decimal t.place ++ (colon ∷ [])) (counts_text t.counts t.times),
         lines_append (decimal t.place) (colon ∷ []),
         decimal-lines t.place,
-        end_lines decimal decimal-lines t.counts,
+        counts_lines t.counts t.times,
       )

@@ -11,7 +11,7 @@ use Rattle.text.specs.Bytes.{Text, lf, colon}
 use Rattle.text.specs.Number.{Read, made, either, literal, number, item}
 use Rattle.text.specs.Lists.{list_end}
 use Rattle.text.specs.Lines.{in_range, behind}
-use Rattle.text.specs.Printed.{decimal, end_text, number_text, place_text, token_text, head_text}
+use Rattle.text.specs.Printed.{decimal, end_text, number_text, place_text, counts_text, token_text, head_text}
 use Rattle.text.specs.Token.{Token}
 use Rattle.text.specs.TokenLine.{counts_at, token_form, sized, token_formed}
 use Rattle.text.specs.Keyed.{by_key, keyed_text, keyed_form}
@@ -21,8 +21,9 @@ use Rattle.text.proofs.Standing.{Stands, differ, differ_stand}
 use Rattle.text.proofs.Spelled.{Spelled, number_spelled}
 use Rattle.text.proofs.Halts.{Halts, number_halts}
 use Rattle.text.proofs.Parts.{Part, literal_part, row_part, made_part, either_part, same_part}
-use Rattle.text.proofs.LineParts.{item_part, list_part, behind_part}
+use Rattle.text.proofs.LineParts.{Closes, lf_closes, item_part, list_part, behind_part}
 use Rattle.text.proofs.AnyParts.{any_part}
+use Rattle.text.proofs.TimesParts.{timed_part}
 
 -- the line of a number
 pub number_line : (key : Text) → Part (behind key (item number lf)) (number_text key) (λ n. true)
@@ -31,8 +32,8 @@ number_line key = behind_part key (item_part number decimal number_spelled numbe
 
 -- the line of n values of a kind
 pub row_line : {A : Type 0} (value : Text → ℕ → Read A) (text : A → Text) → Spelled value text → Halts value text → (key : Text) (n : ℕ)
-    → Part (behind key (list_end value n)) (λ l. key ++ end_text text l) (λ l. eqb (length l) n)
-row_line value text one halts key n = behind_part key (list_part value text one halts n)
+    → Part (behind key (list_end value lf n)) (λ l. key ++ end_text text lf l) (λ l. eqb (length l) n)
+row_line value text one halts key n = behind_part key (list_part value text one halts lf lf_closes n)
 
 -- the first line of a file
 pub head_line : (line : Text) → Part (literal line) (λ _. line) (λ _. true)
@@ -69,23 +70,26 @@ module _ (one two : Text) (differs : differ one two ≡ true) where
 
 -- ---- the line of a net-token
 
-counts_part : (b : Bool) (n : ℕ) → Part (counts_at b n) (end_text decimal) (sized b n)
+counts_part : (b : Bool) (n last : ℕ) → Closes last → Part (counts_at b n last) (end_text decimal last) (sized b n)
 unfolding counts_at sized
-counts_part true n = list_part number decimal number_spelled number_halts n
-counts_part false n = any_part number decimal number_spelled number_halts
+counts_part true n last closes = list_part number decimal number_spelled number_halts last closes n
+counts_part false n last closes = any_part number decimal number_spelled number_halts last closes
 
--- it is its key, its place and the colon, then its counts
-pub token_split : (key : Text) (t : Token) → token_text key t ≡ place_text key t.place ++ end_text decimal t.counts
+-- it is its key, its place and the colon, then its counts and what stands behind them
+pub token_split : (key : Text) (t : Token) → token_text key t ≡ place_text key t.place ++ counts_text t.counts t.times
 unfolding token_text
-token_split key t = sym (append_assoc key (decimal t.place ++ (colon ∷ [])) (end_text decimal t.counts))
+token_split key t = sym (append_assoc key (decimal t.place ++ (colon ∷ [])) (counts_text t.counts t.times))
 
 pub token_line : (key : Text) (places : ℕ) (size : ℕ → ℕ) → Part (token_form key places size) (token_text key) (token_formed places size)
 unfolding token_form
 token_line key places size =
-    row_part (λ p counts. record { place = p; counts = counts })
+    row_part (λ p c. record { place = p; counts = c.0; times = c.1 })
     (behind_part key (item_part number decimal number_spelled number_halts colon refl (lit< tt)))
-    (record { join = λ p counts g h. (token_split key (record { place = p; counts = counts }), h); split = λ t h. (t.place, t.counts, refl, refl, h) })
-    (λ p. counts_part (in_range 1 places p) (size p))
+    (record {
+      join = λ p c g h. (token_split key (record { place = p; counts = c.0; times = c.1 }), h);
+      split = λ t h. (t.place, (t.counts, t.times), refl, refl, h);
+    })
+    (λ p. timed_part (counts_part (in_range 1 places p) (size p)))
 
 -- ---- the line of one of two keys that begin with unlike bytes
 

@@ -1,6 +1,6 @@
 -- The parts of a line: a value and the byte that ends it, lists of values, and what stands behind a key.
 use Prim.Native.Nat.{ℕ, zero, suc, ◌+◌, ◌<◌}
-use mathlib.Core.Path.{◌≡◌, refl, ap, sym, ◌∙◌}
+use mathlib.Core.Path.{◌≡◌, refl, ap, sym, subst, fun_ext, ◌∙◌}
 use mathlib.Core.List.{List, [], ◌∷◌, ◌++◌, append_assoc}
 use mathlib.Core.Bool.{Bool, true, false}
 use native.Mathlib.Omega.{arith}
@@ -9,21 +9,21 @@ use lib.Dec.{eqb, lit<}
 use borrow.Author.Tests.{eqb-true, eqb-false, eq-eqb}
 use lib.ListN.{length, drop, get_or}
 use lib.Seq.{append_snoc}
-use Rattle.text.specs.Bytes.{Text, lf}
+use Rattle.text.specs.Bytes.{Text, lf, comma, minus, star}
 use Rattle.text.proofs.Basics.{by_test}
 use Rattle.text.proofs.ByteLaws.{far_least}
-use Rattle.text.specs.Number.{Read, missing, found, is_digit, ended, item}
-use Rattle.text.specs.Lists.{stop_of, items, list_end}
+use Rattle.text.specs.Number.{Read, missing, found, is_digit, made, both, literal, ended, item}
+use Rattle.text.specs.Lists.{stop_of, joined, values, list_end}
 use Rattle.text.specs.Lines.{behind}
 use Rattle.text.specs.Printed.{items_text, end_text}
-use Rattle.text.proofs.NumberLaws.{ended_here, ended_other}
-use Rattle.text.proofs.ReadLaws.{missing≢found, missing-is, found-is}
+use Rattle.text.proofs.NumberLaws.{ended_here, ended_other, made_ended}
+use Rattle.text.proofs.ReadLaws.{by_read, missing≢found, missing-is, found-is, literal_here, literal_other}
 use Rattle.text.proofs.Standing.{Reaches, stands_right, ends_join, reach_join, nothing_reaches, byte_stands, first_byte}
-use Rattle.text.proofs.Far.{far_past, far_more}
+use Rattle.text.proofs.Far.{far_past, far_more, far_whole, far_other}
 use Rattle.text.proofs.Exactly.{accepts_as}
 use Rattle.text.proofs.Spelled.{Spelled}
 use Rattle.text.proofs.Halts.{Halts}
-use Rattle.text.proofs.Parts.{Furthest, Part, Joins, literal_part, row_part, made_part}
+use Rattle.text.proofs.Parts.{Furthest, Part, Joins, literal_part, row_part, made_part, same_part}
 
 -- ---- a value and the byte that ends it
 module _ {A : Type 0} (value : Text → ℕ → Read A) (text : A → Text) (one : Spelled value text) (halts : Halts value text) (stop : ℕ)
@@ -78,63 +78,135 @@ module _ {A : Type 0} (value : Text → ℕ → Read A) (text : A → Text) (one
       fails = λ s at b e. item_fails s at (value s at) b refl e;
     }
 
+-- ---- the byte that ends a list: no digit, no comma and no minus sign
+pub record Closes (last : ℕ) : Type 0 where
+  pub positive : 0 < last
+  pub other : is_digit last ≡ false
+  pub no-comma : last ≡ comma → ⊥
+  pub no-minus : last ≡ minus → ⊥
+
+pub lf_closes : Closes lf
+lf_closes = record { positive = lit< tt; other = refl; no-comma = λ e. omega (arith, e); no-minus = λ e. omega (arith, e) }
+
+pub star_closes : Closes star
+star_closes = record { positive = lit< tt; other = refl; no-comma = λ e. omega (arith, e); no-minus = λ e. omega (arith, e) }
+
+pub stop_positive : (last n : ℕ) → 0 < last → 0 < stop_of last n
+unfolding stop_of
+stop_positive last zero h = h
+stop_positive last (suc n) h = lit< tt
+
+pub stop_other : (last n : ℕ) → is_digit last ≡ false → is_digit (stop_of last n) ≡ false
+unfolding stop_of
+stop_other last zero h = h
+stop_other last (suc n) h = refl
+
+-- a fixed text of one byte, as that byte behind nothing
+pub literal_ended : (c : ℕ) (s : Text) (at : ℕ) → 0 < c → literal (c ∷ []) s at ≡ ended c s (found tt at)
+literal_ended c s at p =
+    by_test (eqb (get_or s at 0) c)
+    (λ h.
+    let e = eqb-true _ _ h in
+    literal_here (c ∷ []) s at (far_whole s at (c ∷ []) (byte_stands s at c p e)) ∙ sym (ended_here c s tt at e))
+    (λ h.
+    let n = eqb-false _ _ h in
+    let k = far_other s at (c ∷ []) n in
+    literal_other (c ∷ []) s at (λ e. omega (arith, e, k)) ∙ ap missing k ∙ sym (ended_other c s tt at n))
+
 -- ---- lists of values
-pub stop_positive : (n : ℕ) → 0 < stop_of n
-unfolding stop_of
-stop_positive zero = lit< tt
-stop_positive (suc n) = lit< tt
 
-pub stop_other : (n : ℕ) → is_digit (stop_of n) ≡ false
-unfolding stop_of
-stop_other zero = refl
-stop_other (suc n) = refl
-
--- the first of several values and what ends it
-pub items_split : {A : Type 0} (text : A → Text) (n : ℕ) (a : A) (l : List A) → length l ≡ n
-    → items_text text (a ∷ l) ≡ (text a ++ (stop_of n ∷ [])) ++ items_text text l
+-- the first of several values and what stands behind it
+pub items_split : {A : Type 0} (text : A → Text) (last n : ℕ) (a : A) (l : List A) → length l ≡ n
+    → items_text text last (a ∷ l) ≡ (text a ++ (stop_of last n ∷ [])) ++ items_text text last l
 unfolding items_text
-items_split text n a l e = rw (e, append_snoc)
+items_split text last n a l e = rw (e, append_snoc)
+
+pub end_items : {A : Type 0} (text : A → Text) (last : ℕ) (l : List A) → 0 < length l → end_text text last l ≡ items_text text last l
+unfolding end_text
+end_items text last [] h = absurd (omega arith)
+end_items text last (a ∷ l) h = refl
 
 no_value : {A : Type 0} (l : List A) → eqb (length l) 0 ≡ true → l ≡ []
 no_value [] h = refl
 no_value (a ∷ l) h = absurd (omega (arith, eqb-true (suc (length l)) 0 h))
 
-module _ {A : Type 0} (value : Text → ℕ → Read A) (text : A → Text) (one : Spelled value text) (halts : Halts value text) where
-  -- a text of n more values than one, which begins as theirs do
-  list_joins : (whole : List A → Text) → ((a : A) (l : List A) → whole (a ∷ l) ≡ items_text text (a ∷ l)) → (n : ℕ)
-      → Joins (λ a l. a ∷ l) (λ a. text a ++ (stop_of n ∷ [])) (λ a. true) (items_text text) (λ a l. eqb (length l) n) whole (λ l. eqb (length l) (suc n))
-  list_joins whole same n = record {
-    join = λ a l g h. let m = eqb-true _ _ h in (same a l ∙ items_split text n a l m, eq-eqb _ _ (ap suc m));
-    split = elim [
-      | [] ↦ λ h. absurd (omega (arith, eqb-true 0 (suc n) h))
-      | a ∷ l ↦ λ h. let m = eqb-true (suc (length l)) (suc n) h in (a, l, refl, refl, eq-eqb (length l) n (omega arith))
-    ];
-  }
+module _ {A : Type 0} (value : Text → ℕ → Read A) (last : ℕ) where
+  -- n values, each with what stands behind it
+  unfoldable items : ℕ → Text → ℕ → Read (List A)
+  items zero s at = found [] at
+  items (suc n) s at = both (λ a l. a ∷ l) (item value (stop_of last n) s at) λ a next. items n s next
 
-  -- n values, joined by commas
-  pub items_part : (n : ℕ) → Part (items value n) (items_text text) (λ l. eqb (length l) n)
-  unfolding items items_text
-  items_part zero = record {
-    some = ([], refl);
-    finds = λ s. record {
-      back = λ at l next e.
-          accepts_as s at (items_text text) (λ l. eqb (length l) 0) [] l at next (found-is e) (record { reaches = nothing_reaches s at; fine-is = refl });
-      forth = λ at l st h. rw (no_value l h, add-zero at);
-    };
-    fails = λ s at b e. absurd (missing≢found (sym e));
-  }
-  items_part (suc n) =
-      row_part (λ a l. a ∷ l) (item_part value text one halts (stop_of n) (stop_other n) (stop_positive n)) (list_joins (items_text text) (λ a l. refl) n)
-      (λ a. items_part n)
+  -- one value to the end of its list
+  item_list : (s : Text) (at : ℕ) → items 1 s at ≡ list_end value last 1 s at
+  unfolding items stop_of list_end values joined both made item ended
+  item_list s at =
+      by_read (value s at)
+      (λ b e. rw e)
+      (λ a u e. by_test (eqb (get_or s u 0) last) (λ h. rw (e, h, ended)) (λ h. rw (e, h, ended)))
 
-  -- a list of n values to the end of its line
-  pub list_part : (n : ℕ) → Part (list_end value n) (end_text text) (λ l. eqb (length l) n)
-  unfolding list_end items end_text
-  list_part zero =
-      made_part (λ (v : Unit {0}). []) (literal_part (lf ∷ [])) (end_text text) (λ l. eqb (length l) 0) (λ v h. (refl, refl)) (λ l h. (tt, sym (no_value l h), refl))
-  list_part (suc n) =
-      row_part (λ a l. a ∷ l) (item_part value text one halts (stop_of n) (stop_other n) (stop_positive n)) (list_joins (end_text text) (λ a l. refl) n)
-      (λ a. items_part n)
+  -- and a value before others
+  pub list_more : (n : ℕ) (s : Text) (at : ℕ)
+      → list_end value last (suc (suc n)) s at ≡ both (λ a l. a ∷ l) (item value comma s at) (λ a next. list_end value last (suc n) s next)
+  unfolding list_end values joined both ended
+  list_more n s at =
+      by_read (item value comma s at)
+      (λ b e. rw (e, ended))
+      (λ a u e. rw e (made_ended (λ l. a ∷ l) last s (values value (suc n) s u)))
+
+  items_list : (n : ℕ) (s : Text) (at : ℕ) → items (suc n) s at ≡ list_end value last (suc n) s at
+  unfolding items stop_of
+  items_list zero s at = item_list s at
+  items_list (suc n) s at =
+      ap (both (λ a l. a ∷ l) (item value comma s at)) (fun_ext λ a. fun_ext λ next. items_list n s next) ∙ sym (list_more n s at)
+
+  list_none : 0 < last → (s : Text) (at : ℕ) → made (λ v. []) (literal (last ∷ []) s at) ≡ list_end value last 0 s at
+  unfolding list_end values made
+  list_none p s at = ap (made (λ v. [])) (literal_ended last s at p) ∙ sym (made_ended (λ (v : Unit {0}). []) last s (found tt at))
+
+module _ {A : Type 0} (value : Text → ℕ → Read A) (text : A → Text) (one : Spelled value text) (halts : Halts value text) (last : ℕ)
+    (closes : Closes last)
+  where
+    -- n more values than one
+    list_joins : (n : ℕ)
+        → Joins (λ a l. a ∷ l) (λ a. text a ++ (stop_of last n ∷ [])) (λ a. true) (items_text text last) (λ a l. eqb (length l) n) (items_text text last) (λ l. eqb (length l) (suc n))
+    list_joins n = record {
+      join = λ a l g h. let m = eqb-true _ _ h in (items_split text last n a l m, eq-eqb _ _ (ap suc m));
+      split = elim [
+        | [] ↦ λ h. absurd (omega (arith, eqb-true 0 (suc n) h))
+        | a ∷ l ↦ λ h. let m = eqb-true (suc (length l)) (suc n) h in (a, l, refl, refl, eq-eqb (length l) n (omega arith))
+      ];
+    }
+
+    each_part : (n : ℕ) → Part (items value last n) (items_text text last) (λ l. eqb (length l) n)
+    unfolding items items_text
+    each_part zero = record {
+      some = ([], refl);
+      finds = λ s. record {
+        back = λ at l next e.
+            accepts_as s at (items_text text last) (λ l. eqb (length l) 0) [] l at next (found-is e) (record { reaches = nothing_reaches s at; fine-is = refl });
+        forth = λ at l st h. rw (no_value l h, add-zero at);
+      };
+      fails = λ s at b e. absurd (missing≢found (sym e));
+    }
+    each_part (suc n) =
+        row_part (λ a l. a ∷ l) (item_part value text one halts (stop_of last n) (stop_other last n closes.other) (stop_positive last n closes.positive)) (list_joins n)
+        (λ a. each_part n)
+
+    -- n values, one at least, joined by commas and ended
+    pub items_part : (n : ℕ) → Part (list_end value last (suc n)) (items_text text last) (λ l. eqb (length l) (suc n))
+    items_part n =
+        subst (λ f. Part f (items_text text last) (λ l. eqb (length l) (suc n))) (fun_ext λ s. fun_ext λ at. items_list value last n s at) (each_part (suc n))
+
+    -- a list of n values to its end
+    pub list_part : (n : ℕ) → Part (list_end value last n) (end_text text last) (λ l. eqb (length l) n)
+    unfolding end_text
+    list_part zero =
+        subst (λ f. Part f (end_text text last) (λ l. eqb (length l) 0)) (fun_ext λ s. fun_ext λ at. list_none value last closes.positive s at)
+        (made_part (λ (v : Unit {0}). []) (literal_part (last ∷ [])) (end_text text last) (λ l. eqb (length l) 0) (λ v h. (refl, refl)) (λ l h. (tt, sym (no_value l h), refl)))
+    list_part (suc n) =
+        same_part (items_part n) (end_text text last) (λ l. eqb (length l) (suc n))
+        (λ l h. (end_items text last l (omega (arith, eqb-true (length l) (suc n) h)), h))
+        (λ l h. h)
 
 -- ---- behind a key
 pub behind_part : {A : Type 0} {f : Text → ℕ → Read A} {text : A → Text} {fine : A → Bool} (key : Text) → Part f text fine

@@ -1,9 +1,9 @@
 -- Each kind of line is accepted exactly where it is printed and in range.
 use Prim.Native.Nat.{ℕ, ◌+◌}
-use mathlib.Core.Path.{◌≡◌, sym, subst, fun_ext}
+use mathlib.Core.Path.{◌≡◌, refl, sym, subst, fun_ext}
 use mathlib.Core.List.{◌∷◌}
-use mathlib.Core.Bool.{Bool, true, ◌&&◌, and-true}
-use lib.Dec.{eqb}
+use mathlib.Core.Bool.{Bool, true, false, ◌&&◌, and-true, and-false}
+use lib.Dec.{eqb, leb}
 use lib.IntN.{ℤ}
 use lib.ListN.{length}
 use Rattle.text.specs.Bytes.{Text}
@@ -61,14 +61,24 @@ keyed_exactly c d k l unlike range₁ range₂ s =
 
 -- ---- the line of a net-token
 
--- right but for its ranges, and in range: it is right
-right_is : (places : ℕ) (size : ℕ → ℕ) (range : ℕ → Bool) (t : Token) → right_token places size range t ≡ (token_formed places size t && token_range places range t)
-unfolding right_token sized
-right_is places size range t = by_test (in_range 1 places t.place) (λ w. rw w) (λ w. rw w)
+regrouped : (a b c d : Bool) → (a && (b && (c && d))) ≡ ((a && c) && (b && d))
+regrouped false b c d = refl
+regrouped true false false d = refl
+regrouped true false true d = refl
+regrouped true true c d = refl
 
-pub token_exactly : (key : Text) (places : ℕ) (size : ℕ → ℕ) (range : ℕ → Bool) (s : Text)
-    → Exactly s (read_token key places size range s) (token_text key) (right_token places size range)
+-- right but for its ranges, and in range: it is right
+right_is : (places : ℕ) (size : ℕ → ℕ) (range times : ℕ → Bool) (t : Token)
+    → right_token places size range times t ≡ (token_formed places size t && token_range places range times t)
+unfolding right_token sized
+right_is places size range times t =
+    by_test (in_range 1 places t.place)
+    (λ w. rw w (regrouped (eqb (length t.counts) (size t.place)) (every range t.counts) (leb 1 t.times) (times t.times)))
+    (λ w. rw (w, and-false))
+
+pub token_exactly : (key : Text) (places : ℕ) (size : ℕ → ℕ) (range times : ℕ → Bool) (s : Text)
+    → Exactly s (read_token key places size range times s) (token_text key) (right_token places size range times)
 unfolding read_token
-token_exactly key places size range s =
-    subst (Exactly s (read_token key places size range s) (token_text key)) (sym (fun_ext (right_is places size range)))
-    (part_exactly (token_line key places size) (token_range places range) (token_out key places range) s)
+token_exactly key places size range times s =
+    subst (Exactly s (read_token key places size range times s) (token_text key)) (sym (fun_ext (right_is places size range times)))
+    (part_exactly (token_line key places size) (token_range places range times) (token_out key places range) s)

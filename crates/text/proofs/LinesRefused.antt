@@ -48,9 +48,11 @@ module _ (s : Text) where
   abbrev pub KeyedFaults : Text → Text → (ℕ → Bool) → (ℕ → Bool) → ℕ → Fault → Type 0
   KeyedFaults one two range₁ range₂ = LineFaults s (keyed_text one two) (λ a. true) (by_key range₁ range₂) (keyed_out one two)
 
-  -- of a line of key, a place and its counts; its form is that of as many counts as the place asks for, or any where there is no such place
-  abbrev pub TokenFaults : Text → ℕ → (ℕ → ℕ) → (ℕ → Bool) → ℕ → Fault → Type 0
-  TokenFaults key places size range = LineFaults s (token_text key) (token_formed places size) (token_range places range) (token_out key places range)
+  -- of a line of key, a place, its counts and how many net-tokens it stands for; its form is that of as many counts as the place asks for, or
+  -- any where there is no such place
+  abbrev pub TokenFaults : Text → ℕ → (ℕ → ℕ) → (ℕ → Bool) → (ℕ → Bool) → ℕ → Fault → Type 0
+  TokenFaults key places size range times =
+      LineFaults s (token_text key) (token_formed places size) (token_range places range times) (token_out key places range)
 
   -- of the first line of a file or of a line of a number, and behind it those of what comes next
   abbrev pub HeadThen : Text → (ℕ → Fault → Type 0) → ℕ → Fault → Type 0
@@ -98,10 +100,10 @@ unfolding read_keyed
 keyed_refuses c d k l unlike range₁ range₂ s = column-exactly (keyed_line c d k l unlike) (by_key range₁ range₂) (keyed_out (c ∷ k) (d ∷ l)) s
 
 -- the line of a net-token
-pub token_refuses : (key : Text) (places : ℕ) (size : ℕ → ℕ) (range : ℕ → Bool) (s : Text)
-    → Refuses (read_token key places size range s) (TokenFaults s key places size range)
+pub token_refuses : (key : Text) (places : ℕ) (size : ℕ → ℕ) (range times : ℕ → Bool) (s : Text)
+    → Refuses (read_token key places size range times s) (TokenFaults s key places size range times)
 unfolding read_token
-token_refuses key places size range s = column-exactly (token_line key places size) (token_range places range) (token_out key places range) s
+token_refuses key places size range times s = column-exactly (token_line key places size) (token_range places range times) (token_out key places range) s
 
 -- ---- and what comes behind one
 

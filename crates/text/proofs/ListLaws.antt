@@ -8,38 +8,48 @@ use native.Mathlib.Numerals.{add-one}
 use lib.Dec.{leb}
 use lib.IntN.{ℤ, pos, negsuc}
 use borrow.Author.Tests.{leb-true, le-leb}
-use lib.ListN.{replicate, length, set}
+use lib.ListN.{replicate, length, set, get_or}
 use lib.Seq.{sets}
 use Rattle.std.specs.Prelude.{Option, Result}
 use Rattle.std.specs.declared.option.Option.TheVariants.{Some, None}
 use Rattle.std.specs.declared.result.Result.TheVariants.{Ok, Err}
 use Rattle.text.specs.Bytes.{Text, lf, comma}
 use Rattle.text.proofs.Basics.{by_test, and_true}
-use Rattle.text.specs.Number.{Read, missing, found, made, both, literal, number, signed, signed_if, item}
-use Rattle.text.specs.Capped.{cap_signed, capped_signed, passed}
-use Rattle.text.specs.Lists.{stop_of, items, list_end}
+use Rattle.text.specs.Number.{Read, missing, found, made, both, literal, number, signed, signed_if, ended, item}
+use Rattle.text.specs.Capped.{answered}
+use Rattle.text.specs.Lists.{stop_of, joined, values, list_end}
 use Rattle.text.specs.Lines.{fault_at, judged, every, behind, modest, out_at, read_row, read_list, read_weights}
 use Rattle.text.specs.Printed.{decimal, signed_text}
-use Rattle.text.specs.Answers.{syntax_fault, first_out, kept, parsed, padded, row}
+use Rattle.text.specs.Answers.{first_out, kept, parsed, padded, row, ranged}
 use Rattle.text.specs.Values.{number_in}
 use Rattle.text.specs.declared.Cause.TheVariants.{Syntax, Range}
 use Rattle.text.specs.declared.Fault.{Fault}
 use Rattle.text.specs.declared.Parsed.{Parsed}
 use Rattle.text.proofs.ReadLaws.{by_read}
-use Rattle.text.proofs.NumberLaws.{missing_of, Exact, CappedSigned, ended_end, made_end, made_ended}
-use Rattle.text.proofs.LineLaws.{capped-most, passed_found, passed_missing, made_itself}
+use Rattle.text.proofs.NumberLaws.{missing_of, Exact, CappedSigned, ended_here, ended_other, ended_end, made_end, made_ended}
+use Rattle.text.proofs.LineLaws.{capped-most, made_itself}
 use Rattle.text.proofs.Spelled.{number_spelled, signed_spelled}
 
--- ---- what ends a value
+-- ---- what stands behind a value
 
-pub stop_comma : (n : ℕ) → (n ≡ 0 → ⊥) → comma ≡ stop_of n
+pub stop_comma : (last n : ℕ) → (n ≡ 0 → ⊥) → comma ≡ stop_of last n
 unfolding stop_of
-stop_comma zero h = absurd (h refl)
-stop_comma (suc n) h = refl
+stop_comma last zero h = absurd (h refl)
+stop_comma last (suc n) h = refl
 
-pub stop_last : (n : ℕ) → n ≡ 0 → lf ≡ stop_of n
+pub stop_last : (last n : ℕ) → n ≡ 0 → last ≡ stop_of last n
 unfolding stop_of
-stop_last n h = rw h
+stop_last last n h = rw h
+
+module _ {A : Type 0} (value : Text → ℕ → Read A) (s : Text) (at : ℕ) where
+  pub joined_last : (n : ℕ) → n ≡ 0 → value s at ≡ joined value n s at
+  unfolding joined
+  joined_last n h = rw h
+
+  pub joined_comma : (n : ℕ) → (n ≡ 0 → ⊥) → item value comma s at ≡ joined value n s at
+  unfolding joined
+  joined_comma zero h = absurd (h refl)
+  joined_comma (suc n) h = refl
 
 -- ---- where a value ends
 
@@ -96,41 +106,36 @@ module _ (hi : ℕ) where
       (λ h. rw (h, out_at) (out_some (at + length (signed_text w) + 1) l (sym (rw h) ∙ e)))
       (λ h. rw (h, out_at) (out_known at (at + length (signed_text w) + 1) l))
 
-module _ {A : Type 0} (held : ℤ → A) (hi top : ℕ) where
-  -- the answer where every weight was put: the row if none is out of range, else the fault
-  unfoldable pub rows_if : Option ℕ → List A → ℕ → Result (Parsed (List A)) Fault
-  rows_if None values next = Ok (record { value = values; end = next })
-  rows_if (Some b) values next = Err (fault_at Range top b)
+module _ {A : Type 0} (held : ℤ → A) (hi : ℕ) where
+  -- what is answered for the values that begin at `from`
+  abbrev pub answer : ℕ → Read (List ℤ) → Result (Parsed (Result (List A) ℕ)) ℕ
+  answer from r = answered (ranged held hi from) r
 
-  -- the answer where i weights were put, and r is what follows at `at`
-  unfoldable pub going : Option ℕ → ℕ → List A → ℕ → Read (List ℤ) → Result (Parsed (List A)) Fault
-  going out i values at (missing b) = Err (fault_at Syntax top b)
-  going out i values at (found l next) = rows_if (out_of hi out at l) (sets values i (map held l)) next
+  -- the answer where every value was put: the row if none is out of range, else where the first begins
+  abbrev pub row_if : Option ℕ → List A → Result (List A) ℕ
+  row_if None values = Ok values
+  row_if (Some b) values = Err b
 
-  -- what is answered for the whole of a list that begins at `from`
-  abbrev pub answer : ℕ → Read (List ℤ) → Result (Parsed (List A)) Fault
-  answer from r = parsed (kept (row held) (judged (every (modest hi)) (out_at signed_text (modest hi) from) top r))
+  -- the answer where i values were put, and r is what follows at `at`
+  unfoldable pub going : Option ℕ → ℕ → List A → ℕ → Read (List ℤ) → Result (Parsed (Result (List A) ℕ)) ℕ
+  going out i values at (missing b) = Err b
+  going out i values at (found l next) = Ok (record { value = row_if (out_of hi out at l) (sets values i (map held l)); end = next })
 
   pub going_start : (from : ℕ) (r : Read (List ℤ)) → answer from r ≡ going None 0 (replicate 32 (held (pos 0))) from r
-  unfolding going rows_if parsed kept judged row
+  unfolding going ranged row
   going_start from (missing b) = refl
   going_start from (found l next) =
       by_test (every (modest hi) l)
-      (λ h. rw (h, out_none hi from l h, judged))
-      (λ h. rw (h, out_some hi from l h, judged))
+      (λ h. rw (h, ranged, out_none hi from l h))
+      (λ h. rw (h, ranged, out_some hi from l h))
 
-  -- a list of no weights
-  pub list_none : (from : ℕ) (r : Read (List ℤ)) (u : ℕ) → r ≡ found [] u → Ok (record { value = replicate 32 (held (pos 0)); end = u }) ≡ answer from r
-  unfolding parsed kept judged row
-  list_none from r u e = rw e
-
-  -- behind a weight out of range the row does not matter
+  -- behind a value out of range the row does not matter
   going_out : (b i : ℕ) (values values' : List A) (at : ℕ) (r : Read (List ℤ)) → going (Some b) i values at r ≡ going (Some b) i values' at r
-  unfolding going rows_if
+  unfolding going
   going_out b i values values' at (missing c) = refl
   going_out b i values values' at (found l t) = rw (out_known hi b at l)
 
-  -- one weight more, which is put as it is
+  -- one value more, which is put as it is
   going_put : (out : Option ℕ) (i : ℕ) (values : List A) (at : ℕ) (w : ℤ) (r : Read (List ℤ))
       → going out i values at (made (λ l. w ∷ l) r) ≡ going (first_out out at (modest hi w)) (i + 1) (set values i (held w)) (at + length (signed_text w) + 1) r
   unfolding going made out_of
@@ -144,55 +149,85 @@ module _ {A : Type 0} (held : ℤ → A) (hi top : ℕ) where
   going_any None i values values' at from false r e = going_out from i values values' at r
   going_any (Some b) i values values' at from false r e = going_out b i values values' at r
 
-  -- the turn i of n, at `at`
-  module _ (sign : Bool) (s : Text) (n at : ℕ) (out : Option ℕ) (i : ℕ) (values : List A) where
-    pub turn_missing : i < n → (r : Result (Parsed ℤ) ℕ) → r ≡ capped_signed (item (signed_if sign) (stop_of (n - i - 1)) s at) → ((p : Parsed ℤ) → r ≡ Ok p → ⊥)
-        → going out i values at (items (signed_if sign) (n - i) s at) ≡ Err (syntax_fault top r)
-    unfolding items going both syntax_fault
-    turn_missing h (Ok p) q not = absurd (not p refl)
-    turn_missing h (Err b) q not =
-        let left : n - i ≡ suc (n - i - 1) = omega arith in
-        rw (left, missing_of cap_signed _ b q)
+  -- the next value begins behind the comma; if there is none, it does not matter where
+  going_next : (sign : Bool) (s : Text) (out : Option ℕ) (i : ℕ) (row : List A) (m at : ℕ) (w : ℤ) (u : ℕ) → joined (signed_if sign) m s at ≡ found w u
+      → going out i row (at + length (signed_text w) + 1) (values (signed_if sign) m s u) ≡ going out i row u (values (signed_if sign) m s u)
+  unfolding joined values going out_of
+  going_next sign s out i row zero at w u e = refl
+  going_next sign s out i row (suc m) at w u e = rw (← signed_item sign comma s at w u e)
 
-    pub turn_more : hi < 65536 → i < n → (v : ℤ) (u : ℕ) → Exact (item (signed_if sign) (stop_of (n - i - 1)) s at) (CappedSigned v) u
-        → (out' : Option ℕ) → out' ≡ first_out out at (modest hi v) → (values' : List A) → values' ≡ set values i (held v)
-        → going out i values at (items (signed_if sign) (n - i) s at) ≡ going out' (i + 1) values' u (items (signed_if sign) (n - (i + 1)) s u)
-    unfolding items both
-    turn_more fits h v u w out' o values' k =
+  -- the turn i of n, at `at`
+  module _ (sign : Bool) (s : Text) (n at : ℕ) (out : Option ℕ) (i : ℕ) (row : List A) where
+    abbrev reads : Read ℤ
+    reads = joined (signed_if sign) (n - i - 1) s at
+
+    pub turn_missing : i < n → (b : ℕ) → reads ≡ missing b → going out i row at (values (signed_if sign) (n - i) s at) ≡ Err b
+    unfolding values going both
+    turn_missing h b e = let left : n - i ≡ suc (n - i - 1) = omega arith in rw (left, e)
+
+    pub turn_more : hi < 65536 → i < n → (v : ℤ) (u : ℕ) → Exact reads (CappedSigned v) u
+        → (out' : Option ℕ) → out' ≡ first_out out at (modest hi v) → (row' : List A) → row' ≡ set row i (held v)
+        → going out i row at (values (signed_if sign) (n - i) s at) ≡ going out' (i + 1) row' u (values (signed_if sign) (n - (i + 1)) s u)
+    unfolding values both
+    turn_more fits h v u w out' o row' k =
         let left : n - i ≡ suc (n - i - 1) = omega arith in
         let less : n - (i + 1) ≡ n - i - 1 = omega arith in
-        let r = items (signed_if sign) (n - i - 1) s u in
-        rw (o, left, less, w.is, ← modest-is hi v w.value fits w.told, items)
-        (going_put out i values at w.value r
-        ∙ rw (← signed_item sign (stop_of (n - i - 1)) s at w.value u w.is)
-        (going_any out (i + 1) (set values i (held w.value)) values' u at (modest hi w.value) r
-        (λ e. k ∙ ap (λ (v : ℤ). set values i (held v)) (modest_same hi v w.value fits w.told e))))
+        let r = values (signed_if sign) (n - i - 1) s u in
+        rw (o, left, less, w.is, ← modest-is hi v w.value fits w.told, values)
+        (going_put out i row at w.value r
+        ∙ going_next sign s (first_out out at (modest hi w.value)) (i + 1) (set row i (held w.value)) (n - i - 1) at w.value u w.is
+        ∙ going_any out (i + 1) (set row i (held w.value)) row' u at (modest hi w.value) r
+        (λ e. k ∙ ap (λ (v : ℤ). set row i (held v)) (modest_same hi v w.value fits w.told e)))
 
-    pub turn_done : n ≤ i → going out i values at (items (signed_if sign) (n - i) s at) ≡ rows_if out values at
-    unfolding items going out_of
+    pub turn_done : n ≤ i → going out i row at (values (signed_if sign) (n - i) s at) ≡ Ok (record { value = row_if out row; end = at })
+    unfolding values going out_of
     turn_done h = let none : n - i ≡ 0 = omega arith in rw none
 
--- ---- a list to the end of its line
+-- ---- a list to the end of its line, which begins at `top`, by what is answered for its values
 
-module _ {A : Type 0} (value : Text → ℕ → Read A) (s : Text) (at : ℕ) where
-  pub end_items : (n : ℕ) → (n ≡ 0 → ⊥) → items value n s at ≡ list_end value n s at
-  unfolding list_end
-  end_items zero h = absurd (h refl)
-  end_items (suc n) h = refl
+-- what is answered for the line
+abbrev pub line_answer : {A : Type 0} → (ℤ → A) → ℕ → ℕ → ℕ → Read (List ℤ) → Result (Parsed (List A)) Fault
+line_answer held hi top from r = parsed (kept (row held) (judged (every (modest hi)) (out_at signed_text (modest hi) from) top r))
 
-  -- for no value, by where the code says that LF ends or fails
-  module _ (n : ℕ) (none : n ≡ 0) where
-    end_none : list_end value n s at ≡ made (λ _. []) (literal (lf ∷ []) s at)
-    unfolding list_end
-    end_none = rw none
+module _ {A : Type 0} (held : ℤ → A) (hi top from : ℕ) (s : Text) (x : Read (List ℤ)) where
+  abbrev line : Result (Parsed (List A)) Fault
+  line = line_answer held hi top from (ended lf s x)
 
-    pub end_here : (u : ℕ) → Ok u ≡ passed (literal (lf ∷ []) s at) → list_end value n s at ≡ found [] u
-    unfolding made
-    end_here u e = end_none ∙ rw (passed_found (literal (lf ∷ []) s at) u e).1
+  pub end_missing : (b : ℕ) → Err b ≡ answered (ranged held hi from) x → ended lf s x ≡ missing b
+  unfolding ended
+  end_missing b e = rw (missing_of (ranged held hi from) x b e)
 
-    pub end_other : (b : ℕ) → Err b ≡ passed (literal (lf ∷ []) s at) → list_end value n s at ≡ missing b
-    unfolding made
-    end_other b e = end_none ∙ rw (passed_missing (literal (lf ∷ []) s at) b e)
+  module _ (p : Parsed (Result (List A) ℕ)) (h : Exact x (λ l. p.value ≡ ranged held hi from l) p.end) where
+    pub end_other : (get_or s p.end 0 ≡ lf → ⊥) → Err (fault_at Syntax top p.end) ≡ line
+    unfolding parsed kept judged
+    end_other n = rw (h.is, ended_other lf s h.value p.end n)
+
+    module _ (here : get_or s p.end 0 ≡ lf) where
+      pub end_in : (a : List A) → p.value ≡ Ok a → Ok (record { value = a; end = p.end + 1 }) ≡ line
+      unfolding parsed kept judged ranged
+      end_in a e =
+          by_test (every (modest hi) h.value)
+          (λ t.
+          let k : ◌≡◌ {A = Result (List A) ℕ} (Ok a) (Ok (row held h.value)) = sym e ∙ h.told ∙ rw (t, ranged) in
+          let same : a ≡ row held h.value = cc in
+          rw (h.is, ended_here lf s h.value p.end here, t, judged, same))
+          (λ t.
+          let k : ◌≡◌ {A = Result (List A) ℕ} (Ok a) (Err (out_at signed_text (modest hi) from h.value)) = sym e ∙ h.told ∙ rw (t, ranged) in
+          let z : ◌≡◌ {A = ℕ} 0 1 = cc in
+          absurd (omega arith))
+
+      pub end_out : (b : ℕ) → p.value ≡ Err b → Err (fault_at Range top b) ≡ line
+      unfolding parsed kept judged ranged
+      end_out b e =
+          by_test (every (modest hi) h.value)
+          (λ t.
+          let k : ◌≡◌ {A = Result (List A) ℕ} (Err b) (Ok (row held h.value)) = sym e ∙ h.told ∙ rw (t, ranged) in
+          let z : ◌≡◌ {A = ℕ} 0 1 = cc in
+          absurd (omega arith))
+          (λ t.
+          let k : ◌≡◌ {A = Result (List A) ℕ} (Err b) (Err (out_at signed_text (modest hi) from h.value)) = sym e ∙ h.told ∙ rw (t, ranged) in
+          let same : b ≡ out_at signed_text (modest hi) from h.value = cc in
+          rw (h.is, ended_here lf s h.value p.end here, t, judged, same))
 
 -- ---- a list of numbers, read as weights
 
@@ -206,23 +241,26 @@ module _ (s : Text) where
   unfolding item signed_if
   numbers_item stop at = made_ended pos stop s (number s at)
 
-  numbers_items : (n at : ℕ) → items (signed_if false) n s at ≡ made (map pos) (items number n s at)
-  unfolding items both made
-  numbers_items zero at = refl
-  numbers_items (suc n) at =
-      by_read (item number (stop_of n) s at)
-      (λ b e. rw (numbers_item (stop_of n) at, e))
+  numbers_joined : (n at : ℕ) → joined (signed_if false) n s at ≡ made pos (joined number n s at)
+  unfolding joined signed_if
+  numbers_joined zero at = refl
+  numbers_joined (suc n) at = numbers_item comma at
+
+  pub numbers_values : (n at : ℕ) → values (signed_if false) n s at ≡ made (map pos) (values number n s at)
+  unfolding values both made
+  numbers_values zero at = refl
+  numbers_values (suc n) at =
+      by_read (joined number n s at)
+      (λ b e. rw (numbers_joined n at, e))
       (λ v u e.
-      let r = items number n s u in
-      rw (numbers_item (stop_of n) at, e, numbers_items n u) (made_twice (λ l. pos v ∷ l) (map pos) r ∙ sym (made_twice (map pos) (λ l. v ∷ l) r)))
+      let r = values number n s u in
+      rw (numbers_joined n at, e, numbers_values n u) (made_twice (λ l. pos v ∷ l) (map pos) r ∙ sym (made_twice (map pos) (λ l. v ∷ l) r)))
 
-  numbers_end : (n at : ℕ) → list_end (signed_if false) n s at ≡ made (map pos) (list_end number n s at)
+  numbers_end : (n at : ℕ) → list_end (signed_if false) lf n s at ≡ made (map pos) (list_end number lf n s at)
   unfolding list_end
-  numbers_end zero at =
-      sym (made_twice (map pos) (λ _. []) (literal (lf ∷ []) s at))
-  numbers_end (suc n) at = numbers_items (suc n) at
+  numbers_end n at = ap (ended lf s) (numbers_values n at) ∙ made_ended (map pos) lf s (values number n s at)
 
-  numbers_behind : (key : Text) (n at : ℕ) → behind key (list_end (signed_if false) n) s at ≡ made (map pos) (behind key (list_end number n) s at)
+  numbers_behind : (key : Text) (n at : ℕ) → behind key (list_end (signed_if false) lf n) s at ≡ made (map pos) (behind key (list_end number lf n) s at)
   unfolding behind both made
   numbers_behind key n at =
       by_read (literal key s at)
@@ -259,18 +297,22 @@ module _ (most hi : ℕ) where
       (λ e. rw (f, numbers_every l, e, judged, numbers_held l h e, zero_held))
       (λ e. rw (f, numbers_every l, e, judged, numbers_out from l))
 
-  module _ (fits : hi ≤ most) (n : ℕ) (s : Text) where
-    -- from a position to the end of the line
-    pub numbers_list : (top at : ℕ)
-        → kept (row (number_in most)) (judged (every (modest hi)) (out_at signed_text (modest hi) at) top (list_end (signed_if false) n s at))
-        ≡ kept padded (judged (every (λ v. leb v hi)) (out_at decimal (λ v. leb v hi) at) top (list_end number n s at))
-    numbers_list top at = numbers_kept top at _ _ fits (numbers_end s n at)
-
+  module _ (fits : hi ≤ most) where
     -- the line of a key
-    pub numbers_row : (key : Text) (at : ℕ)
+    pub numbers_row : (n : ℕ) (s : Text) (key : Text) (at : ℕ)
         → kept (row (number_in most)) (read_row (signed_if false) signed_text key n (modest hi) s at) ≡ kept padded (read_list key n (λ v. leb v hi) s at)
     unfolding read_row
-    numbers_row key at = numbers_kept at (at + length key) _ _ fits (numbers_behind s key n at)
+    numbers_row n s key at = numbers_kept at (at + length key) _ _ fits (numbers_behind s key n at)
+
+    -- a list alone
+    pub numbers_in : (from : ℕ) (l : List ℕ) → every (λ v. leb v hi) l ≡ true → ranged (number_in most) hi from (map pos l) ≡ Ok (padded l)
+    unfolding ranged row padded
+    numbers_in from l e = rw (numbers_every l, e, ranged, numbers_held l fits e, zero_held)
+
+    pub numbers_beyond : (from : ℕ) (l : List ℕ) → every (λ v. leb v hi) l ≡ false
+        → ranged (number_in most) hi from (map pos l) ≡ Err (out_at decimal (λ v. leb v hi) from l)
+    unfolding ranged
+    numbers_beyond from l e = rw (numbers_every l, e, ranged, numbers_out from l)
 
 -- ---- a list of weights is one of numbers that may have a sign
 

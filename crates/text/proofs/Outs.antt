@@ -6,17 +6,20 @@ use mathlib.Core.Bool.{Bool, true, false, true≢false}
 use mathlib.Core.Logic.{◌⊎◌, inl, inr}
 use native.Mathlib.Omega.{arith}
 use native.Mathlib.Nat.{add-zero}
+use lib.Dec.{eqb}
+use borrow.Author.Tests.{eqb-true, eqb-false}
 use lib.ListN.{length, drop, length-append, length-drop}
-use Rattle.text.specs.Bytes.{Text, lf, comma, colon, column_at}
+use Rattle.text.specs.Bytes.{Text, lf, comma, colon, star, column_at}
 use Rattle.text.proofs.Basics.{by_test}
 use Rattle.text.specs.Lists.{stop_of}
 use Rattle.text.specs.Lines.{every, in_range, out_at}
 use Rattle.text.specs.Token.{Token}
-use Rattle.text.specs.TokenLine.{token_range, token_out}
-use Rattle.text.specs.Printed.{decimal, items_text, end_text, texts, number_text, place_text, token_text}
+use Rattle.text.specs.TokenLine.{token_range, counts_out, token_out}
+use Rattle.text.specs.Printed.{decimal, items_text, end_text, texts, number_text, place_text, counts_text, token_text}
 use Rattle.text.proofs.Far.{between_is}
 use Rattle.text.proofs.Standing.{Stands, stands_left, stands_right}
 use Rattle.text.proofs.LineParts.{items_split}
+use Rattle.text.proofs.PrintedLaws.{counts_one, counts_many}
 use Rattle.text.proofs.LineKinds.{token_split}
 
 -- a number that stands at b lies in the text, so its column is counted from 1
@@ -46,15 +49,15 @@ module _ {A : Type 0} (text : A → Text) (range : A → Bool) (s : Text) where
     unfolding out_at
     out_behind h = rw (h, out_at)
 
-    items_left : Stands s at (items_text text (a ∷ l)) → Stands s at (text a)
+    items_left : (last : ℕ) → Stands s at (items_text text last (a ∷ l)) → Stands s at (text a)
     unfolding items_text
-    items_left st = stands_left s at (text a) (stop_of (length l) ∷ items_text text l) st
+    items_left last st = stands_left s at (text a) (stop_of last (length l) ∷ items_text text last l) st
 
-    items_right : Stands s at (items_text text (a ∷ l)) → Stands s (at + length (text a) + 1) (items_text text l)
-    items_right st =
-        let t = text a ++ (stop_of (length l) ∷ []) in
+    items_right : (last : ℕ) → Stands s at (items_text text last (a ∷ l)) → Stands s (at + length (text a) + 1) (items_text text last l)
+    items_right last st =
+        let t = text a ++ (stop_of last (length l) ∷ []) in
         let e : at + length t ≡ at + length (text a) + 1 = rw length-append (omega arith) in
-        rw e at (stands_right s at t (items_text text l) (rw (items_split text (length l) a l refl) at st))
+        rw e at (stands_right s at t (items_text text last l) (rw (items_split text last (length l) a l refl) at st))
 
     first_more : range a ≡ true → (b : ℕ) → First (at + length (text a) + 1) l b → First at (a ∷ l) b
     unfolding texts
@@ -71,12 +74,12 @@ module _ {A : Type 0} (text : A → Text) (range : A → Bool) (s : Text) where
       stands = k.stands;
     }
 
-  out_first : (at : ℕ) (l : List A) → every range l ≡ false → Stands s at (items_text text l) → First at l (out_at text range at l)
+  out_first : (last at : ℕ) (l : List A) → every range l ≡ false → Stands s at (items_text text last l) → First at l (out_at text range at l)
   unfolding texts
-  out_first at [] e st = absurd (true≢false e)
-  out_first at (a ∷ l) e st =
+  out_first last at [] e st = absurd (true≢false e)
+  out_first last at (a ∷ l) e st =
       by_test (range a)
-      (λ h. rw (out_behind at a l h) (first_more at a l h _ (out_first (at + length (text a) + 1) l (rw h at e) (items_right at a l st))))
+      (λ h. rw (out_behind at a l h) (first_more at a l h _ (out_first last (at + length (text a) + 1) l (rw h at e) (items_right at a l last st))))
       (λ h. rw (out_here at a l h) (record {
         before = [];
         one = a;
@@ -85,35 +88,65 @@ module _ {A : Type 0} (text : A → Text) (range : A → Bool) (s : Text) where
         in-range = refl;
         beyond = h;
         here = sym (add-zero at);
-        stands = items_left at a l st;
+        stands = items_left at a l last st;
       }))
 
-  end_first : (at : ℕ) (l : List A) → every range l ≡ false → Stands s at (end_text text l) → First at l (out_at text range at l)
+  end_first : (last at : ℕ) (l : List A) → every range l ≡ false → Stands s at (end_text text last l) → First at l (out_at text range at l)
   unfolding end_text
-  end_first at [] e st = absurd (true≢false e)
-  end_first at (a ∷ l) e st = out_first at (a ∷ l) e st
+  end_first last at [] e st = absurd (true≢false e)
+  end_first last at (a ∷ l) e st = out_first last at (a ∷ l) e st
 
   -- of a line of values, behind its key
-  pub row_first : (at : ℕ) (key : Text) (l : List A) → every range l ≡ false → Stands s at (key ++ end_text text l)
+  pub row_first : (at : ℕ) (key : Text) (l : List A) → every range l ≡ false → Stands s at (key ++ end_text text lf l)
       → First (at + length key) l (out_at text range (at + length key) l)
-  row_first at key l e st = end_first (at + length key) l e (stands_right s at key (end_text text l) st)
+  row_first at key l e st = end_first lf (at + length key) l e (stands_right s at key (end_text text lf l) st)
 
 -- of a line of one number, behind its key
 pub number_first : (key : Text) (s : Text) (at n : ℕ) → Stands s at (number_text key n) → Stands s (at + length key) (decimal n)
 unfolding number_text
 number_first key s at n st = stands_left s (at + length key) (decimal n) (lf ∷ []) (stands_right s at key (decimal n ++ (lf ∷ [])) st)
 
--- of a token's line: its place, or the first of its counts
-pub token_first : (key : Text) (places : ℕ) (range : ℕ → Bool) (s : Text) (at : ℕ) (t : Token) → token_range places range t ≡ false → Stands s at (token_text key t)
-    → ((in_range 1 places t.place ≡ false) × (token_out key places range at t ≡ at + length key) × Stands s (at + length key) (decimal t.place))
-    ⊎ ((in_range 1 places t.place ≡ true) × First decimal range s (at + length (place_text key t.place)) t.counts (token_out key places range at t))
-unfolding token_out
-token_first key places range s at t e st =
-    let p = place_text key t.place in
-    let c = end_text decimal t.counts in
-    let whole : Stands s at (p ++ c) = rw (token_split key t) at st in
-    by_test (in_range 1 places t.place)
-    (λ w. inr (w, rw (w, token_out) (end_first decimal range s (at + length p) t.counts (rw w at e) (stands_right s at p c whole))))
-    (λ w.
-    let q = decimal t.place in
-    inl (w, rw (w, token_out), stands_left s (at + length key) q (colon ∷ []) (stands_right s at key (q ++ (colon ∷ [])) (stands_left s at p c whole))))
+-- the counts of a token's line, ended by one byte or the other
+counts_stand : (s : Text) (at : ℕ) (l : List ℕ) (n : ℕ) → Stands s at (counts_text l n) → (last : ℕ) × Stands s at (end_text decimal last l)
+counts_stand s at l n st =
+    by_test (eqb n 1)
+    (λ h. (lf, rw (counts_one l n (eqb-true n 1 h)) at st))
+    (λ h. (star, stands_left s at (end_text decimal star l) (decimal n ++ (lf ∷ [])) (rw (counts_many l n (eqb-false n 1 h)) at st)))
+
+-- and how many net-tokens it stands for, where that is not one
+times_stand : (s : Text) (at : ℕ) (l : List ℕ) (n : ℕ) → (n ≡ 1 → ⊥) → Stands s at (counts_text l n) → Stands s (at + length (end_text decimal star l)) (decimal n)
+times_stand s at l n h st =
+    stands_left s _ (decimal n) (lf ∷ []) (stands_right s at (end_text decimal star l) (decimal n ++ (lf ∷ [])) (rw (counts_many l n h) at st))
+
+-- of a token's line: its place, the first of its counts, or else how many net-tokens it stands for; one is in range
+module _ (key : Text) (places : ℕ) (range times : ℕ → Bool) (s : Text) (at : ℕ) (t : Token) where
+  abbrev counts_from : ℕ
+  counts_from = at + length (place_text key t.place)
+
+  abbrev times_from : ℕ
+  times_from = counts_from + length (end_text decimal star t.counts)
+
+  pub token_first : times 1 ≡ true → token_range places range times t ≡ false → Stands s at (token_text key t)
+      → ((in_range 1 places t.place ≡ false) × (token_out key places range at t ≡ at + length key) × Stands s (at + length key) (decimal t.place))
+      ⊎ ((in_range 1 places t.place ≡ true) × First decimal range s counts_from t.counts (token_out key places range at t))
+      ⊎ ((in_range 1 places t.place ≡ true)
+      × (every range t.counts ≡ true)
+      × (times t.times ≡ false)
+      × (token_out key places range at t ≡ times_from)
+      × Stands s times_from (decimal t.times))
+  unfolding token_out counts_out
+  token_first one e st =
+      let p = place_text key t.place in
+      let c = counts_text t.counts t.times in
+      let whole : Stands s at (p ++ c) = rw (token_split key t) at st in
+      let counts = stands_right s at p c whole in
+      by_test (in_range 1 places t.place)
+      (λ w. inr (by_test (every range t.counts)
+      (λ v.
+      let out : times t.times ≡ false = rw (w, v) at e in
+      let n : t.times ≡ 1 → ⊥ = λ k. true≢false (sym one ∙ ap times (sym k) ∙ out) in
+      inr (w, v, out, rw (w, v, token_out, counts_out), times_stand s counts_from t.counts t.times n counts))
+      (λ v. let l = counts_stand s counts_from t.counts t.times counts in inl (w, rw (w, v, token_out, counts_out) (end_first decimal range s l.0 counts_from t.counts v l.1)))))
+      (λ w.
+      let q = decimal t.place in
+      inl (w, rw (w, token_out), stands_left s (at + length key) q (colon ∷ []) (stands_right s at key (q ++ (colon ∷ [])) (stands_left s at p c whole))))

@@ -93,7 +93,7 @@ module _ (t : Text) where
 
 -- ---- what is made of a reading
 module _ {A C : Type 0} (to : A → C) where
-  made_found : (r : Read A) (c : C) (end : ℕ) → made to r ≡ found c end → (a : A) × (r ≡ found a end) × (to a ≡ c)
+  pub made_found : (r : Read A) (c : C) (end : ℕ) → made to r ≡ found c end → (a : A) × (r ≡ found a end) × (to a ≡ c)
   unfolding made
   made_found (missing b) c end e = absurd (missing≢found e)
   made_found (found a t) c end e = let k = found-is e in (a, rw k.1, k.0)
@@ -113,7 +113,7 @@ module _ {A B C : Type 0} (make : A → B → C) where
     pub second : g left next ≡ found right end
     pub made_is : make left right ≡ c
 
-  both_found : (r : Read A) (g : A → ℕ → Read B) (c : C) (end : ℕ) → both make r g ≡ found c end → Both r g c end
+  pub both_found : (r : Read A) (g : A → ℕ → Read B) (c : C) (end : ℕ) → both make r g ≡ found c end → Both r g c end
   unfolding both
   both_found (missing b) g c end e = absurd (missing≢found e)
   both_found (found a t) g c end e =

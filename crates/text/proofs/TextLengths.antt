@@ -19,32 +19,34 @@ module _ {A : Type 0} (text : A → Text) (none : A) (most : ℕ) where
   texts-length (a ∷ l) (suc n) h each =
       omega (arith, length-append (text a) (texts text l), suc-mul n most, each 0 (omega arith), texts-length l n (omega arith) (λ i p. each (suc i) (omega arith)))
 
-  items-length : (l : List A) (n : ℕ) → length l ≤ n → ((i : ℕ) → i < length l → length (text (get_or l i none)) ≤ most) → length (items_text text l) ≤ n * suc most
-  unfolding items_text
-  items-length [] n h each = omega arith
-  items-length (a ∷ l) zero h each = absurd (omega arith)
-  items-length (a ∷ l) (suc n) h each =
-      omega (
-        arith,
-        length-append (text a) (stop_of (length l) ∷ items_text text l),
-        suc-mul n (suc most),
-        each 0 (omega arith),
-        items-length l n (omega arith) (λ i p. each (suc i) (omega arith)),
-      )
+  -- over the byte that ends a list
+  module _ (last : ℕ) where
+    items-length : (l : List A) (n : ℕ) → length l ≤ n → ((i : ℕ) → i < length l → length (text (get_or l i none)) ≤ most) → length (items_text text last l) ≤ n * suc most
+    unfolding items_text
+    items-length [] n h each = omega arith
+    items-length (a ∷ l) zero h each = absurd (omega arith)
+    items-length (a ∷ l) (suc n) h each =
+        omega (
+          arith,
+          length-append (text a) (stop_of last (length l) ∷ items_text text last l),
+          suc-mul n (suc most),
+          each 0 (omega arith),
+          items-length l n (omega arith) (λ i p. each (suc i) (omega arith)),
+        )
 
-  -- a list to the end of its line
-  pub end_length : (l : List A) (n : ℕ) → length l ≤ n → ((i : ℕ) → i < length l → length (text (get_or l i none)) ≤ most)
-      → length (end_text text l) ≤ suc (n * suc most)
-  unfolding end_text
-  end_length [] n h each = omega arith
-  end_length (a ∷ l) n h each = omega (arith, items-length (a ∷ l) n h each)
+    -- a list to its end
+    pub end_length : (l : List A) (n : ℕ) → length l ≤ n → ((i : ℕ) → i < length l → length (text (get_or l i none)) ≤ most)
+        → length (end_text text last l) ≤ suc (n * suc most)
+    unfolding end_text
+    end_length [] n h each = omega arith
+    end_length (a ∷ l) n h each = omega (arith, items-length (a ∷ l) n h each)
 
-  -- where there is room for a thing at least, its end is counted
-  pub ended-length : (l : List A) (n : ℕ) → length l ≤ suc n → ((i : ℕ) → i < length l → length (text (get_or l i none)) ≤ most)
-      → length (end_text text l) ≤ suc n * suc most
-  unfolding end_text
-  ended-length [] n h each = omega (arith, suc-mul n (suc most))
-  ended-length (a ∷ l) n h each = items-length (a ∷ l) (suc n) h each
+    -- where there is room for a thing at least, its end is counted
+    pub ended-length : (l : List A) (n : ℕ) → length l ≤ suc n → ((i : ℕ) → i < length l → length (text (get_or l i none)) ≤ most)
+        → length (end_text text last l) ≤ suc n * suc most
+    unfolding end_text
+    ended-length [] n h each = omega (arith, suc-mul n (suc most))
+    ended-length (a ∷ l) n h each = items-length (a ∷ l) (suc n) h each
 
 -- the line of a number of at most k + 1 digits
 pub number-length : (key : Text) (k n : ℕ) → n < 10 ^ suc k → length (number_text key n) ≤ length key + (k + 2)
@@ -57,4 +59,4 @@ pub list_length : (key : Text) (k : ℕ) (vs : List ℕ) (n : ℕ) → length vs
 unfolding list_text
 list_length key k vs n h each =
     let e : suc (suc k) ≡ k + 2 = omega arith in
-    omega (arith, length-append key (end_text decimal vs), rw e at (end_length decimal 0 (suc k) vs n h (λ i p. length-below k (get_or vs i 0) (each i p))))
+    omega (arith, length-append key (end_text decimal lf vs), rw e at (end_length decimal 0 (suc k) lf vs n h (λ i p. length-below k (get_or vs i 0) (each i p))))

@@ -4,7 +4,8 @@ use Rattle.std.specs.Prelude.{ℕ, Bool, true, false, List, map, ℤ, pos, repli
 use Rattle.std.proofs.lemmas.List.Edits.{sets}
 use Rattle.std.specs.declared.option.Option.TheVariants.{Some, None}
 use Rattle.std.specs.declared.result.Result.TheVariants.{Ok, Err}
-use Rattle.text.specs.Lines.{Outcome, got, bad, fault_at, fault}
+use Rattle.text.specs.Lines.{Outcome, got, bad, fault_at, fault, every, modest, out_at}
+use Rattle.text.specs.Printed.{signed_text}
 use Rattle.text.specs.Token.{Token}
 use Rattle.text.specs.declared.Cause.TheVariants.{Syntax}
 use Rattle.text.specs.declared.Fault.{Fault}
@@ -44,9 +45,14 @@ padded l = sets (replicate 32 0) 0 l
 unfoldable pub row : {A : Type 0} → (ℤ → A) → List ℤ → List A
 row held l = sets (replicate 32 (held (pos 0))) 0 (map held l)
 
--- a net-token, by its place and its counts
-abbrev pub counted : ℕ → List ℕ → TokenLine
-counted p counts = record { place = p; counts = padded counts }
+-- the list as it is held, or where the first of its values begins that is more than hi from 0; the first of all begins at `from`
+unfoldable pub ranged : {A : Type 0} → (ℤ → A) → ℕ → ℕ → List ℤ → Result (List A) ℕ
+ranged held hi from l =
+    elim (every (modest hi) l) [ true ↦ Ok (row held l) | false ↦ Err (out_at signed_text (modest hi) from l) ]
+
+-- a net-token, by its place, its counts and how many alike its line stands for
+abbrev pub counted : ℕ → List ℕ → ℕ → TokenLine
+counted p counts n = record { place = p; counts = padded counts; times = n }
 
 unfoldable pub token_line : Token → TokenLine
-token_line t = counted t.place t.counts
+token_line t = counted t.place t.counts t.times

@@ -24,6 +24,9 @@ minus = 45
 abbrev pub colon : ℕ
 colon = 58
 
+abbrev pub star : ℕ
+star = 42
+
 -- how many bytes two texts have in common from their beginnings on
 unfoldable pub meet : Text → Text → ℕ
 meet [] rest = 0

@@ -1,11 +1,11 @@
 -- Lines `key=value`: what is read, or the one fault that ends the reading.
-use Rattle.std.specs.Prelude.{ℕ, zero, suc, ◌+◌, List, [], ◌∷◌, Bool, true, false, ◌&&◌, leb, ℤ, nat_abs, length}
+use Rattle.std.specs.Prelude.{ℕ, zero, suc, ◌+◌, List, [], ◌∷◌, ◌++◌, Bool, true, false, ◌&&◌, leb, ℤ, nat_abs, length}
 use Rattle.text.specs.Bytes.{Text, lf, line_at, column_at}
 use Rattle.text.specs.Number.{Read, missing, found, made, both, either, literal, number, signed, item}
 use Rattle.text.specs.Lists.{list_end}
 use Rattle.text.specs.Printed.{decimal, signed_text}
 use Rattle.text.specs.declared.Cause.{Cause}
-use Rattle.text.specs.declared.Cause.TheVariants.{Syntax, Range, Idling}
+use Rattle.text.specs.declared.Cause.TheVariants.{Syntax, Range, Idling, Crowded}
 use Rattle.text.specs.declared.Fault.{Fault}
 use Rattle.text.specs.declared.Spot.{Spot}
 
@@ -19,6 +19,7 @@ abbrev pub cause_number : Cause → ℕ
 cause_number Syntax = 2
 cause_number Range = 3
 cause_number Idling = 5
+cause_number Crowded = 12
 
 -- the cause, where the line at fault begins, and the byte at fault
 abbrev pub fault_at : Cause → ℕ → ℕ → Fault
@@ -33,6 +34,7 @@ abbrev pub column_for : Cause → ℕ → ℕ
 column_for Syntax c = c
 column_for Range c = c
 column_for Idling c = 0
+column_for Crowded c = 0
 
 -- a fault as an answer names it: by the number of its line, and by the column in it
 abbrev pub spot_of : Text → Fault → Spot
@@ -73,6 +75,13 @@ module _ {A : Type 0} where
   unfoldable pub behind : Text → (Text → ℕ → Read A) → Text → ℕ → Read A
   behind key f s at = both (λ k a. a) (literal key s at) λ k next. f s next
 
+-- n things, one after the other; each, with those before it, is put to a test, and the cause stands at its place where it fails
+unfoldable pub many_within : {A : Type 0} → (List A → Bool) → Cause → (ℕ → Outcome A) → List A → ℕ → ℕ → Outcome (List A)
+many_within fits cause f seen zero at = got [] at
+many_within fits cause f seen (suc n) at =
+    then (f at) λ a next.
+    need (fits (seen ++ (a ∷ []))) cause at (then (many_within fits cause f (seen ++ (a ∷ [])) n next) λ l end. got (a ∷ l) end)
+
 abbrev pub in_range : ℕ → ℕ → ℕ → Bool
 in_range lo hi v = leb lo v && leb v hi
 
@@ -82,7 +91,7 @@ read_number key range s at = judged range (λ n. at + length key) at (behind key
 
 -- the line of key and n values, each printed by `text`
 unfoldable pub read_row : {A : Type 0} → (Text → ℕ → Read A) → (A → Text) → Text → ℕ → (A → Bool) → Text → ℕ → Outcome (List A)
-read_row value text key n range s at = judged (every range) (out_at text range (at + length key)) at (behind key (list_end value n) s at)
+read_row value text key n range s at = judged (every range) (out_at text range (at + length key)) at (behind key (list_end value lf n) s at)
 
 -- the line of key and n numbers
 abbrev pub read_list : Text → ℕ → (ℕ → Bool) → Text → ℕ → Outcome (List ℕ)

@@ -1,6 +1,6 @@
 -- How things are written.
 use Rattle.std.specs.Prelude.{ℕ, zero, suc, ◌+◌, ◌/◌, ◌%◌, List, [], ◌∷◌, ◌++◌, true, false, ltb, ℤ, pos, negsuc, length}
-use Rattle.text.specs.Bytes.{Text, lf, colon, minus}
+use Rattle.text.specs.Bytes.{Text, lf, colon, star, minus}
 use Rattle.text.specs.Lists.{stop_of}
 use Rattle.text.specs.Token.{Token}
 
@@ -20,15 +20,17 @@ signed_text (negsuc n) = minus ∷ decimal (suc n)
 
 -- over the text of one value
 module _ {A : Type 0} (text : A → Text) where
-  -- values joined by commas and ended by LF; for no value, nothing at all
-  unfoldable pub items_text : List A → Text
-  items_text [] = []
-  items_text (a ∷ l) = text a ++ (stop_of (length l) ∷ items_text l)
+  -- over the byte that ends a list
+  module _ (last : ℕ) where
+    -- values joined by commas and ended; for no value, nothing at all
+    unfoldable pub items_text : List A → Text
+    items_text [] = []
+    items_text (a ∷ l) = text a ++ (stop_of last (length l) ∷ items_text l)
 
-  -- a list to the end of its line: of length 0, nothing but LF
-  unfoldable pub end_text : List A → Text
-  end_text [] = lf ∷ []
-  end_text (a ∷ l) = items_text (a ∷ l)
+    -- a list to its end: of length 0, nothing but the byte that ends it
+    unfoldable pub end_text : List A → Text
+    end_text [] = last ∷ []
+    end_text (a ∷ l) = items_text (a ∷ l)
 
   -- the texts of several things, one after the other
   unfoldable pub texts : List A → Text
@@ -40,17 +42,22 @@ unfoldable pub number_text : Text → ℕ → Text
 number_text key n = key ++ (decimal n ++ (lf ∷ []))
 
 unfoldable pub list_text : Text → List ℕ → Text
-list_text key vs = key ++ end_text decimal vs
+list_text key vs = key ++ end_text decimal lf vs
 
 unfoldable pub weights_text : Text → List ℤ → Text
-weights_text key ws = key ++ end_text signed_text ws
+weights_text key ws = key ++ end_text signed_text lf ws
 
 -- the key, a place and the colon behind it
 abbrev pub place_text : Text → ℕ → Text
 place_text key p = key ++ (decimal p ++ (colon ∷ []))
 
+-- counts to the end of their line, and how many net-tokens it stands for: `*n` where that is not one
+unfoldable pub counts_text : List ℕ → ℕ → Text
+counts_text counts (suc zero) = end_text decimal lf counts
+counts_text counts n = end_text decimal star counts ++ (decimal n ++ (lf ∷ []))
+
 unfoldable pub token_text : Text → Token → Text
-token_text key t = key ++ ((decimal t.place ++ (colon ∷ [])) ++ end_text decimal t.counts)
+token_text key t = key ++ ((decimal t.place ++ (colon ∷ [])) ++ counts_text t.counts t.times)
 
 -- the first line of a file that has two forms, by its number
 abbrev pub head_text : Text → Text → ℕ → Text

@@ -5,3 +5,5 @@ use Rattle.std.specs.Prelude.{ℕ, List}
 pub record Token : Type 0 where
   pub place : ℕ
   pub counts : List ℕ
+  -- how many net-tokens the line stands for: n of `*n` behind it, else 1 (02, K7)
+  pub times : ℕ

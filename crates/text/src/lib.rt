@@ -13,13 +13,14 @@ pub struct Parsed<T> {
     pub end: usize,
 }
 
-// Why a line is refused: it is not of the form that is wanted there, a number is out of its range, or an event idles at a place without a
-// net, with another net or with no transition.
+// Why a line is refused: it is not of the form that is wanted there, a number is out of its range, an event idles at a place without a net,
+// with another net or with no transition, or there is no room for the net-tokens of a line.
 #[derive(Clone, Copy, PartialEq, Eq, Debug)]
 pub enum Cause {
     Syntax,
     Range,
     Idling,
+    Crowded,
 }
 
 impl Cause {
@@ -31,6 +32,7 @@ impl Cause {
             Cause::Syntax => 2,
             Cause::Range => 3,
             Cause::Idling => 5,
+            Cause::Crowded => 12,
         }
     }
 }
@@ -59,11 +61,12 @@ pub enum Keyed {
     Latter(u16),
 }
 
-// A net-token's place, from 1, and its counts. Texts know no held thing: a held net-token is made of it.
+// A net-token's place, from 1, its counts, and how many alike its line stands for. Texts know no held thing: a held net-token is made of it.
 #[derive(Clone, Copy)]
 pub struct TokenLine {
     pub place: u16,
     pub counts: [u16; 32],
+    pub times: u16,
 }
 
 // How a number of a list is held: in what type, and whether a minus sign may stand before it. Of the numbers for which the type has no room,

@@ -3,14 +3,16 @@
 #![tactic(auto)]
 
 ghost use Rattle.std.specs.Prelude.{◌≡◌, leb};
+ghost use Rattle.text.specs.Bytes.{lf};
 ghost use Rattle.text.specs.Number.{signed_if};
-ghost use Rattle.text.specs.Lists.{items, list_end};
+ghost use Rattle.text.specs.Capped.{answered};
+ghost use Rattle.text.specs.Lists.{values, list_end};
 ghost use Rattle.text.specs.Lines.{judged, every, modest, out_at, read_row};
 ghost use Rattle.text.specs.Printed.{signed_text};
-ghost use Rattle.text.specs.Answers.{kept, parsed, row, first_out};
+ghost use Rattle.text.specs.Answers.{kept, parsed, row, ranged, first_out};
 
 use text::{Cause, Fault, Parsed, Value};
-use text_scan::{fault_at, literal, stop_of, syntax_fault, value_item};
+use text_scan::{byte_at, fault_at, joined, literal, syntax_fault};
 
 // Where the first value out of range begins: the one that is known, or the value at `at`, if it is more than hi from 0.
 fn first_out(out: Option<usize>, at: usize, value: i32, hi: u16) -> Option<usize>
@@ -25,24 +27,21 @@ fn first_out(out: Option<usize>, at: usize, value: i32, hi: u16) -> Option<usize
     Some(at)
 }
 
-// n values of at most hi either side of 0 from `from` on, joined by commas and ended by LF; their line begins at `top`.
-fn values<V: Value>(
+// n values from `from` on, joined by commas: their row, or where the first begins that is more than hi from 0. Behind the last, where the
+// reading ends, its list is not ended yet.
+pub fn values<V: Value>(
     s: &[u8],
-    top: usize,
     from: usize,
     n: usize,
     hi: u16,
-) -> Result<Parsed<[V; 32]>, Fault>
-    ensures { result ≡ parsed (kept (row V.held) (judged (every (modest hi)) (out_at signed_text (modest hi) from) top (items (signed_if V.SIGNED) n s.now from))) }
+) -> Result<Parsed<Result<[V; 32], usize>>, usize>
+    ensures { result ≡ answered (ranged V.held hi from) (values (signed_if V.SIGNED) n s.now from) }
 {
     let mut row = [V::held(0); 32];
     let mut out = None;
     let mut at = from;
     for i in 0..n {
-        let read = value_item(s, at, stop_of(n - i - 1), V::SIGNED);
-        let Ok(Parsed { value, end }) = read else {
-            return Err(syntax_fault(top, read));
-        };
+        let Parsed { value, end } = joined(s, at, n - i - 1, V::SIGNED)?;
         out = first_out(out, at, value, hi);
         if i < 32 {
             row[i] = V::held(value);
@@ -50,35 +49,41 @@ fn values<V: Value>(
         at = end;
     }
     match out {
-        Some(byte) => Err(fault_at(Cause::Range, top, byte)),
+        Some(byte) => Ok(Parsed {
+            value: Err(byte),
+            end: at,
+        }),
         None => Ok(Parsed {
-            value: row,
+            value: Ok(row),
             end: at,
         }),
     }
 }
 
 // The list of n values from `at` to the end of its line, which begins at `top`.
-pub fn list_end<V: Value>(
+fn list_end<V: Value>(
     s: &[u8],
     top: usize,
     at: usize,
     n: usize,
     hi: u16,
 ) -> Result<Parsed<[V; 32]>, Fault>
-    ensures { result ≡ parsed (kept (row V.held) (judged (every (modest hi)) (out_at signed_text (modest hi) at) top (list_end (signed_if V.SIGNED) n s.now at))) }
+    ensures { result ≡ parsed (kept (row V.held) (judged (every (modest hi)) (out_at signed_text (modest hi) at) top (list_end (signed_if V.SIGNED) lf n s.now at))) }
 {
-    if n != 0 {
-        return values(s, top, at, n, hi);
-    }
-    let read = literal(s, at, b"\n");
-    let Ok(end) = read else {
+    let read = values(s, at, n, hi);
+    let Ok(Parsed { value, end }) = read else {
         return Err(syntax_fault(top, read));
     };
-    Ok(Parsed {
-        value: [V::held(0); 32],
-        end,
-    })
+    if byte_at(s, end) != b'\n' {
+        return Err(fault_at(Cause::Syntax, top, end));
+    }
+    match value {
+        Ok(value) => Ok(Parsed {
+            value,
+            end: end + 1,
+        }),
+        Err(byte) => Err(fault_at(Cause::Range, top, byte)),
+    }
 }
 
 // The line of key and n values. Their limit has 16 bits for every type of values: a narrower one would ask more of callers.

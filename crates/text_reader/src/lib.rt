@@ -67,17 +67,19 @@ impl<'a> Reader<'a> {
         self.take(list_line(self.src, self.at, key, n, hi))
     }
 
-    // The line of key, a place from 1 to `places` and its counts up to hi; `sizes` says for each place how many.
+    // The line of key, a place from 1 to `places` and its counts up to hi, which stands for up to `most` net-tokens; `sizes` says for each
+    // place how many counts it has.
     pub fn token(
         &mut self,
         key: &[u8],
         places: u16,
         sizes: &[u8],
         hi: u16,
+        most: u16,
     ) -> Result<TokenLine, Fault>
-        ensures { Reads (kept token_line (read_token key.now places (λ p. get_or sizes.now (p - 1) 0) (λ v. leb v hi) self.old.src.now self.old.at)) self.old self.new result }
+        ensures { Reads (kept token_line (read_token key.now places (λ p. get_or sizes.now (p - 1) 0) (λ v. leb v hi) (λ n. leb n most) self.old.src.now self.old.at)) self.old self.new result }
     {
-        self.take(token_line(self.src, self.at, key, places, sizes, hi))
+        self.take(token_line(self.src, self.at, key, places, sizes, hi, most))
     }
 
     // The end of the text: bytes after the last line are a fault.

@@ -7,7 +7,7 @@ ghost use Rattle.std.specs.Prelude.{◌≡◌, drop, get_or, length, ◌+◌, �
 ghost use Rattle.text.specs.Bytes.{far, line_at, column_at};
 ghost use Rattle.text.specs.Number.{found, made, literal, is_digit, digits, number, negated, signed_if, ended, item};
 ghost use Rattle.text.specs.Capped.{answered, passed, capped, capped_signed};
-ghost use Rattle.text.specs.Lists.{stop_of};
+ghost use Rattle.text.specs.Lists.{stop_of, joined};
 ghost use Rattle.text.specs.Lines.{fault_at, column_for, spot_of, behind};
 ghost use Rattle.text.specs.Answers.{syntax_fault};
 
@@ -66,7 +66,7 @@ fn column_for(cause: Cause, column: usize) -> usize
     ensures { result ≡ column_for cause column }
 {
     match cause {
-        Cause::Idling => 0,
+        Cause::Idling | Cause::Crowded => 0,
         Cause::Syntax | Cause::Range => column,
     }
 }
@@ -99,7 +99,7 @@ pub fn spot_of(s: &[u8], fault: Fault) -> Spot
     }
 }
 
-fn digit(b: u8) -> bool
+pub fn digit(b: u8) -> bool
     ensures { result ≡ is_digit b }
 {
     b.is_ascii_digit()
@@ -149,7 +149,7 @@ pub fn number(s: &[u8], at: usize) -> Result<Parsed<u32>, usize>
 }
 
 // What was read, and the byte `stop` right after it.
-fn ended<T: Copy>(s: &[u8], read: Parsed<T>, stop: u8) -> Result<Parsed<T>, usize>
+pub fn ended<T: Copy>(s: &[u8], read: Parsed<T>, stop: u8) -> Result<Parsed<T>, usize>
     requires { read.end ≤ length s.now }
     ensures { result ≡ answered (λ v. v) (ended stop s.now (found read.value read.end)) }
 {
@@ -230,15 +230,25 @@ fn signed_if(s: &[u8], at: usize, minus: bool) -> Result<Parsed<i32>, usize>
 }
 
 // The same, and the byte `stop` right after it.
-pub fn value_item(s: &[u8], at: usize, stop: u8, minus: bool) -> Result<Parsed<i32>, usize>
+fn value_item(s: &[u8], at: usize, stop: u8, minus: bool) -> Result<Parsed<i32>, usize>
     ensures { result ≡ capped_signed (item (signed_if minus) stop s.now at) }
 {
     ended(s, signed_if(s, at, minus)?, stop)
 }
 
-// What ends a number of a list with `left` more to come: LF after the last, else a comma.
-pub fn stop_of(left: usize) -> u8
-    ensures { result ≡ stop_of left }
+// A value of a list with `left` more to come: where there are any, with the comma behind it.
+pub fn joined(s: &[u8], at: usize, left: usize, minus: bool) -> Result<Parsed<i32>, usize>
+    ensures { result ≡ capped_signed (joined (signed_if minus) left s.now at) }
 {
-    if left == 0 { b'\n' } else { b',' }
+    if left == 0 {
+        return signed_if(s, at, minus);
+    }
+    value_item(s, at, b',', minus)
+}
+
+// What stands behind a number of a list with `left` more to come: `last` behind the last, else a comma.
+pub fn stop_of(last: u8, left: usize) -> u8
+    ensures { result ≡ stop_of last left }
+{
+    if left == 0 { last } else { b',' }
 }

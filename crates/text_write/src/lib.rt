@@ -48,27 +48,27 @@ impl<'a> Writer<'a> {
         self.at = end;
     }
 
-    // Numbers, each followed by a comma, the last by LF.
-    fn items(&mut self, values: &[u16])
-        requires { self.old.at + length (items_text decimal values.now) ≤ length self.old.out.now }
-        ensures { Lays (items_text decimal values.now) self.old self.new }
+    // Numbers, each followed by a comma, the last by `last`.
+    fn items(&mut self, values: &[u16], last: u8)
+        requires { self.old.at + length (items_text decimal last values.now) ≤ length self.old.out.now }
+        ensures { Lays (items_text decimal last values.now) self.old self.new }
     {
         for (i, value) in values.iter().enumerate() {
             self.number(u64::from(*value));
-            self.out[self.at] = stop_of(values.len() - i - 1);
+            self.out[self.at] = stop_of(last, values.len() - i - 1);
             self.at += 1;
         }
     }
 
-    // Numbers joined by commas and ended by LF; for no number, LF alone.
-    pub fn list(&mut self, values: &[u16])
-        requires { self.old.at + length (end_text decimal values.now) ≤ length self.old.out.now }
-        ensures { Lays (end_text decimal values.now) self.old self.new }
+    // Numbers joined by commas and ended by `last`; for no number, that byte alone.
+    pub fn list(&mut self, values: &[u16], last: u8)
+        requires { self.old.at + length (end_text decimal last values.now) ≤ length self.old.out.now }
+        ensures { Lays (end_text decimal last values.now) self.old self.new }
     {
         if values.is_empty() {
-            return self.text(b"\n");
+            return self.text(&[last]);
         }
-        self.items(values)
+        self.items(values, last)
     }
 
     // The line of a key and a number.

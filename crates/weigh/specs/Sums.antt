@@ -1,6 +1,6 @@
 -- Sums over what is held: what transitions and events gain, what net-tokens weigh, whether weights cover. Weights are held in rows of 32, the
 -- outer weights and then those of each net; so are gains, those of the moves and then those of each net's transitions.
-use Rattle.std.specs.Prelude.{ℕ, zero, suc, ◌-◌, ◌/◌, ◌≤◌, ◌<◌, ◌≡◌, Bool, ◌&&◌, List, [], ◌∷◌, leb, length, take, get_or, ℤ, pos, ◌+ℤ◌, ◌-ℤ◌, nat_abs}
+use Rattle.std.specs.Prelude.{ℕ, zero, suc, ◌-◌, ◌/◌, ◌≤◌, ◌<◌, ◌≡◌, Bool, ◌&&◌, List, [], ◌∷◌, leb, length, take, get_or, ℤ, pos, ◌+ℤ◌, ◌-ℤ◌, ◌*ℤ◌, nat_abs}
 use Rattle.eos.specs.Multiset.{every}
 use Rattle.eos.specs.Firing.{all_below}
 use Rattle.eos.specs.Weights.{dot, positive, is_zero}
@@ -9,6 +9,7 @@ use Rattle.model.specs.Rules.{nth}
 use Rattle.model.specs.Acts.{move_in}
 use Rattle.model.specs.Held.{no_net, no_event, row_at}
 use Rattle.marking.specs.declared.NetToken.{NetToken}
+use Rattle.marking.specs.declared.Entry.{Entry}
 use Rattle.model.specs.declared.ObjectNet.{ObjectNet}
 use Rattle.model.specs.declared.Event.{Event}
 use Rattle.model.specs.declared.Model.{Model}
@@ -72,9 +73,10 @@ balanced_at nets events gains k = is_zero (event_gain nets (get_or events k no_e
 unfoldable pub token_weight : List (List ℤ) → List ℕ → NetToken → ℤ
 token_weight weights types t = number_of (row_at weights 0) (t.place - 1) +ℤ dot (row_at weights (nth types (t.place - 1))) t.counts
 
-unfoldable pub marking_weight : List (List ℤ) → List ℕ → List NetToken → ℤ
+-- of entries, each as often as it is counted
+unfoldable pub marking_weight : List (List ℤ) → List ℕ → List Entry → ℤ
 marking_weight weights types [] = pos 0
-marking_weight weights types (t ∷ ts) = token_weight weights types t +ℤ marking_weight weights types ts
+marking_weight weights types (e ∷ es) = pos e.times *ℤ token_weight weights types e.token +ℤ marking_weight weights types es
 
 -- a place's type is that of black tokens or one of eight nets'
 abbrev pub TypesIn : List ℕ → Type 0

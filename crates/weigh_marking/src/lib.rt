@@ -6,7 +6,7 @@ ghost use Rattle.model.specs.Limits.{room_limit};
 ghost use Rattle.marking.specs.Tokens.{OnPlaces};
 ghost use Rattle.weigh.specs.Sums.{token_weight, marking_weight, TypesIn};
 
-use marking::NetToken;
+use marking::{Entry, NetToken};
 use weigh::dot;
 
 // The weight of a net-token: of its place, and of its counts. A black token's counts are 0.
@@ -21,16 +21,16 @@ fn token_weight(weights: &[[i16; 32]; 9], types: &[u8; 32], t: &NetToken) -> i64
     i64::from(weights[0][place]) + counts
 }
 
-// The weight of net-tokens.
-pub fn marking_weight(weights: &[[i16; 32]; 9], types: &[u8; 32], tokens: &[NetToken]) -> i64
-    requires { (length tokens.now ≤ room_limit) × OnPlaces tokens.now × TypesIn types.now }
-    ensures value { result ≡ marking_weight weights.now types.now tokens.now }
-    ensures low { neg_ℤ (pos 17591926259712) ≤ℤ result }
-    ensures high { result ≤ℤ pos 17591926259712 }
+// The weight of entries, each as often as it is counted.
+pub fn marking_weight(weights: &[[i16; 32]; 9], types: &[u8; 32], entries: &[Entry]) -> i64
+    requires { (length entries.now ≤ room_limit) × OnPlaces entries.now × TypesIn types.now }
+    ensures value { result ≡ marking_weight weights.now types.now entries.now }
+    ensures low { neg_ℤ (pos 1152886887430225920) ≤ℤ result }
+    ensures high { result ≤ℤ pos 1152886887430225920 }
 {
     let mut sum: i64 = 0;
-    for t in tokens {
-        sum += token_weight(weights, types, t);
+    for e in entries {
+        sum += i64::from(e.times) * token_weight(weights, types, &e.token);
     }
     sum
 }

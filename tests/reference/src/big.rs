@@ -68,6 +68,21 @@ impl Natural {
         Some(Natural::of_limbs(limbs))
     }
 
+    /// The product: a row of the one's limbs for each limb of the other.
+    pub fn times(&self, other: &Natural) -> Natural {
+        let base = u64::from(BASE);
+        let mut limbs = vec![0; self.limbs.len() + other.limbs.len()];
+        for (at, &limb) in self.limbs.iter().enumerate() {
+            let mut carry = 0;
+            for (to, &by) in limbs[at..].iter_mut().zip(other.limbs.iter().chain([&0])) {
+                let sum = u64::from(*to) + u64::from(limb) * u64::from(by) + carry;
+                *to = (sum % base) as u32;
+                carry = sum / base;
+            }
+        }
+        Natural::of_limbs(limbs)
+    }
+
     /// The number as 64 bits, where it fits.
     pub fn to_u64(&self) -> Option<u64> {
         let step = |value: u64, &limb: &u32| {
@@ -152,6 +167,17 @@ mod tests {
     }
 
     #[test]
+    fn multiplies_with_carries() {
+        assert_eq!(natural("999999999").times(&natural("999999999")), natural("999999998000000001"));
+        assert_eq!(natural("0").times(&natural("12345678901234567890")), Natural::zero());
+        assert_eq!(natural("12345678901234567890").times(&natural("0")), Natural::zero());
+        let square = natural("999999999999999999999999999").times(&natural("999999999999999999999999999"));
+        assert_eq!(square, natural("999999999999999999999999998000000000000000000000000001"));
+        let product = natural("98765432109876543210").times(&natural("1000000000000000000000001"));
+        assert_eq!(product, natural("98765432109876543210000098765432109876543210"));
+    }
+
+    #[test]
     fn compares_by_size() {
         let ascending = [
             "0",
@@ -179,6 +205,8 @@ mod tests {
                 assert_eq!(big_a.plus(&big_b).to_u64(), Some(a + b));
                 assert_eq!(big_a.minus(&big_b).and_then(|d| d.to_u64()), a.checked_sub(b));
                 assert_eq!(big_a.cmp(&big_b), a.cmp(&b));
+                let product = u128::from(a) * u128::from(b);
+                assert_eq!(big_a.times(&big_b).to_string(), product.to_string());
             }
         }
         assert_eq!(natural("18446744073709551615").to_u64(), Some(u64::MAX));

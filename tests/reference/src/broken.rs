@@ -34,7 +34,7 @@ deviations! {
     FreshRackFilled: "a rack of a net that pre lacks arrives with tokens no sync made";
     LeavesWithTokens: "a rack of a net that post lacks leaves with tokens in it";
     LeavesOnlyEmpty: "a rack of a net that post lacks has to be empty before its move";
-    EqualTakenAsOne: "equal taken racks are looked for as one";
+    EqualTakenAsOne: "equal taken lines are looked for as one";
     InnerPreNotTested: "the inner pre is not tested";
     InnerPreNotUsedUp: "the inner pre is not used up";
     InnerTotalsOnly: "inner projections are compared by their totals";
@@ -46,11 +46,23 @@ deviations! {
     AloneAtFirstPlace: "alone fires at its net's first place only";
     AloneGivesElsewhere: "alone gives at another place of its net";
     AloneGiveAtTake: "8 for what alone gives stands beside the take line";
+    AloneOnLikes: "alone fires on likes of one line";
     GivenBeforeTaken: "the outer projection of the given is tested first";
     PreAndPostNetByNet: "9 and 10 are judged net by net";
     GreatestNet: "9 and 10 stand beside the greatest net";
     RoomNotFreed: "12 does not count the room that the take frees";
     RoomBeforeMarking: "12 is judged before 11";
+    RoomByLines: "12 counts token lines";
+    RoomByRacks: "12 counts racks";
+    LikesNotFreed: "12 adds the given likes before the taken ones are away";
+    LikesNotTested: "a step gives more than 65,535 alike";
+    LikesBeforeMarking: "12 for too many alike is judged before 11";
+    NotInMarkingByLines: "11 counts lines, whatever their *n";
+    NotInMarkingAtFirst: "11 stands beside the first of the like lines";
+    LineOnceInOuter: "a line counts once in the outer projection, whatever its *n";
+    LineOnceInInner: "a line counts once in the inner projection, whatever its *n";
+    LikesIn16Bits: "likes are cut to 16 bits in the outer projection";
+    InnerIn32Bits: "the inner projection is kept in 32 bits";
     StepUnsorted: "given racks are appended, not sorted in";
     OldRacksKept: "the room behind the racks is not cleared after a step";
     UsedIsTheText: "a step uses the whole text";
@@ -78,16 +90,18 @@ deviations! {
     SumIn16Bits: "the sum is kept in 16 bits";
     SumIn32Bits: "the sum is kept in 32 bits";
     SumWithoutSign: "the sum loses its sign";
-    SumInvented: "the sum is the number of net-tokens";
+    SumInvented: "the sum is the number of unlike net-tokens";
+    SumOfUnlike: "the sum counts likes once";
     CoverInvented: "cover is 1 whenever weights pass";
     CoverNever: "cover is 0";
     CoverByGreatestOuter: "the sum is divided by the greatest outer weight";
     CoverRoundsUp: "bounds of the sum are rounded up";
+    CoverOfLikes: "cover lets each of 256 net-tokens be there 65,535 times";
     ZeroBeforeBytesAfter: "6 is judged before bytes after the last line";
     CoverWithoutInner: "inner bounds do not count for cover";
     // Reading.
     StagesAbove16Lost: "stages above 16 are lost";
-    EqualTokensOnce: "equal net-tokens are held once";
+    EqualTokensOnce: "of equal token lines only the first is held";
     MarkingUnsorted: "a held marking keeps the order of its lines";
     RangeBeforeLength: "3 is judged before 2";
     PlaceOutOfRangeIsSyntax: "a token's place out of range is 2";
@@ -102,8 +116,18 @@ deviations! {
     LinesFromZero: "lines of a step are counted from 0";
     PlacesOneFewer: "32 places are too many";
     EventsOneFewer: "64 events are too many";
-    TokensOneFewer: "256 net-tokens are too many";
+    TokensOneFewer: "256 token lines are too many";
     CountsOneFewer: "a count of 65,535 is too large";
+    TimesOneFewer: "*65535 is too large";
+    TimesOneRead: "*1 is read";
+    TimesZeroRead: "*0 is read";
+    TimesBeforeCounts: "3 is judged of *n before the counts";
+    StartByRacks: "a start of more than 256 racks is 12";
+    BlockLikesTested: "too many alike in a take or a give are 12, as in a start";
+    StartLikesNotTested: "a start has more than 65,535 alike";
+    StartLikesAfterAll: "12 in a start is judged after its last line";
+    StartLikesLineAfter: "12 in a start stands beside the line after";
+    StartLikesBeforeRange: "12 in a start is judged before its line's 3";
     SliceOneShorter: "1,048,576 bytes are too many";
     SliceOneLonger: "1,048,577 bytes are read";
     LeavingMovesAreFour: "a move that gives none of a net that it takes is 4";
@@ -131,6 +155,10 @@ deviations! {
     ExtraNumberAfterComma: "a list that is too long has the column of the number after its comma";
     ShortListAtItsNumber: "a list that is too short has the column of its last number";
     UnknownPlaceIsBlack: "the list of an unknown place is tested as that of a black one";
+    UnknownPlaceOnce: "no *n can stand behind an unknown place";
+    TimesOneAtItself: "*1 has the column of its 1";
+    TimesZeroBehindIt: "*0 has the column behind its 0";
+    StartLikesColumn: "12 in a start has a column";
     LeadingZeroAtItself: "a leading zero has its own column";
     MinusZeroAtItsSign: "-0 has the column of its sign";
     RangeBeforeSyntax: "3 is judged before the rest of a list is read";
@@ -149,6 +177,11 @@ deviations! {
     UnusedRoomOfMarking: "unused room of a held marking is not tested";
     InsideRoomNotTested: "counts past the net's inner places are not tested";
     OrderNotTested: "the order of a held marking is not tested";
+    EqualNeighboursHeld: "equal net-tokens may stand side by side in a held marking";
+    TimesInOrder: "equal net-tokens may stand side by side in a held marking, ascending by their counts";
+    TimesBeforeInside: "the net-tokens of a place are held in the order of their counts";
+    TimesZeroHeld: "a held net-token may be there 0 times";
+    UnusedTimesNotTested: "counts in the unused room of a held marking are not tested";
     HeldBeforeSlice: "14 is judged before 1";
     // Converting.
     PlaceMissedReplaced: "idle events that miss a place of their net are replaced";
@@ -166,6 +199,9 @@ deviations! {
     RoomAfterTextCleared: "bytes past a written text are cleared";
     WrittenInPart: "a text that does not fit is written in part";
     NeededOneFewer: "13 stands beside one byte too few";
+    TimesOneWritten: "*1 is written";
+    LikesInTwoLines: "likes are written in two lines";
+    RacksWritten: "a written start and held count racks";
     // Spread and listing.
     SpreadInvented: "the spread is a product";
     SpreadIn32Bits: "the spread is kept in 32 bits";

@@ -243,7 +243,7 @@ fn hold_again(held: &mut HeldMarking, marking: &Marking) {
     let after = hold_marking(marking);
     if broken(Broken::OldRacksKept) {
         held.len = after.len;
-        held.rows[..after.len].copy_from_slice(&after.rows[..after.len]);
+        held.entries[..after.len].copy_from_slice(&after.entries[..after.len]);
     } else {
         *held = after;
     }

@@ -18,7 +18,8 @@ pub enum Right<'a> {
     List(&'a str, usize),
     /// A key and a list of so many weights.
     Weights(&'a str, usize),
-    /// A net-token: a place of the model with a list as long as its net has inner places, or another place with any list.
+    /// A net-token, and perhaps how many times: a place of the model with a list as long as its net has inner places, or another
+    /// place with any list.
     Token(&'a Model),
 }
 
@@ -39,7 +40,7 @@ impl Right<'_> {
             Right::Weights(key, length) => of_key(key, list(weight(), length)),
             Right::Token(model) => {
                 let colon = Pattern::bytes(b":");
-                of_key("token", number().then(colon).then(counts(model, place_of(line))))
+                of_key("token", number().then(colon).then(token(model, place_of(line))))
             }
         };
         lines.then(Pattern::bytes(b"\n"))
@@ -86,13 +87,22 @@ fn place_of(line: &[u8]) -> &[u8] {
     before.strip_prefix(b"token=").unwrap_or_default()
 }
 
-/// The lists of counts at the place with these digits.
-fn counts(model: &Model, digits: &[u8]) -> Pattern {
+/// What stands behind the place with these digits.
+fn token(model: &Model, digits: &[u8]) -> Pattern {
     match (1..=model.places()).find(|place| place.to_string().as_bytes() == digits) {
-        Some(place) => list(number(), model.inner_places(place - 1)),
-        None if broken(Broken::UnknownPlaceIsBlack) => Pattern::Empty,
-        None => any_list(number()),
+        Some(place) => list(number(), model.inner_places(place - 1)).then(times()),
+        None if broken(Broken::UnknownPlaceOnce) => any_list(number()),
+        None if broken(Broken::UnknownPlaceIsBlack) => times(),
+        None => any_list(number()).then(times()),
     }
+}
+
+/// Nothing, or a sign and a number from 2 on.
+fn times() -> Pattern {
+    let digit = || Pattern::Byte(b'0', b'9');
+    let ten_or_more = Pattern::bytes(b"1").then(digit());
+    let several = Pattern::Byte(b'2', b'9').or(ten_or_more).then(digit().many());
+    Pattern::Empty.or(Pattern::bytes(b"*").then(several))
 }
 
 /// The column of a 2: the first byte where no right line could go on, at an early end the one after the last. The line has
@@ -108,10 +118,11 @@ pub fn of_syntax(right: Right, line: &[u8]) -> usize {
 }
 
 /// The column of a 3: the first digit or sign of a number of a right line, counted from 0. Each number stands behind a
-/// sign `=`, a colon or a comma.
+/// sign `=` or `*`, a colon or a comma; behind a colon there may be none.
 pub fn of_number(line: &[u8], index: usize) -> usize {
-    let begins = (2..).zip(line).filter(|(_, byte)| b"=:,".contains(byte));
-    let column = begins.map(|(column, _)| column).nth(index).unwrap_or_default();
+    let begins = |&(_, pair): &(usize, &[u8])| b"=:,*".contains(&pair[0]) && pair[1] != b'*';
+    let column =
+        (2..).zip(line.windows(2)).filter(begins).map(|(column, _)| column).nth(index).unwrap_or_default();
     misplaced_number(line, column)
 }
 
@@ -119,11 +130,16 @@ pub fn of_number(line: &[u8], index: usize) -> usize {
 fn misplaced_syntax(right: Right, line: &[u8], column: usize) -> usize {
     let [before, at] = [2, 1].map(|less| column.checked_sub(less).and_then(|at| line.get(at)).copied());
     let value = 2 + line.iter().position(|&byte| byte == b'=').unwrap_or(line.len());
-    let last_number = 2 + line.iter().rposition(|byte| b"=:,".contains(byte)).unwrap_or_default();
+    let last_number = 2 + line.iter().rposition(|byte| b"=:,*".contains(byte)).unwrap_or_default();
+    let several = column.checked_sub(3).and_then(|at| line.get(at)) == Some(&b'*');
     let follows = |first: u8, second: u8| (before, at) == (Some(first), Some(second));
     let digit = at.is_some_and(|byte| byte.is_ascii_digit());
     if line.is_empty() && broken(Broken::MissingLineAtZero) {
         0
+    } else if several && before == Some(b'1') && broken(Broken::TimesOneAtItself) {
+        column - 1
+    } else if follows(b'*', b'0') && broken(Broken::TimesZeroBehindIt) {
+        column + 1
     } else if at.is_none() && broken(Broken::UnendedAtItsLast) {
         line.len().max(1)
     } else if column < value && broken(Broken::WrongKeyAtItsFirst) {
@@ -143,7 +159,7 @@ fn misplaced_syntax(right: Right, line: &[u8], column: usize) -> usize {
 
 /// Broken: other columns of a 3.
 fn misplaced_number(line: &[u8], column: usize) -> usize {
-    let number = || line.iter().skip(column - 1).take_while(|byte| !b",:\n".contains(byte));
+    let number = || line.iter().skip(column - 1).take_while(|byte| !b",:*\n".contains(byte));
     if broken(Broken::KeyNotCounted) {
         column - 1 - line.iter().position(|&byte| byte == b'=').unwrap_or_default()
     } else if broken(Broken::RangeAtItsLastDigit) {

@@ -13,8 +13,7 @@ use std::fmt::Debug;
 use crate::calls::{Answer, Converted, Ran, Spread, Stepped, Weighed, Written};
 use crate::cause::{HELD, NUMBERS};
 use crate::engine::Engine;
-use crate::held::{HeldMarking, HeldModel};
-use crate::marking::Row;
+use crate::held::{HeldEntry, HeldMarking, HeldModel};
 
 /// What a lent buffer is filled with before a call.
 const PATTERN: u8 = 0xa5;
@@ -124,14 +123,14 @@ struct Context<'a> {
     texts: &'a [&'a [u8]],
 }
 
-/// A held marking's numbers, each row up to its last number that is not 0.
+/// A held marking's entries up to the last that is not 0: the place, the counts up to the last that is not 0, and how often.
 fn numbers_of(held: &HeldMarking) -> String {
     let mut words = format!("len {}", held.len);
-    let filled = |row: &Row| row.iter().any(|&number| number != 0);
-    let used = held.rows.iter().rposition(filled).map_or(0, |last| last + 1);
-    for row in &held.rows[..used] {
-        let last = row.iter().rposition(|&number| number != 0).map_or(0, |last| last + 1);
-        words += &format!(" {:?}", &row[..last]);
+    let filled = |entry: &HeldEntry| *entry != HeldEntry::default();
+    let used = held.entries.iter().rposition(filled).map_or(0, |last| last + 1);
+    for HeldEntry { token, times } in &held.entries[..used] {
+        let last = token.counts.iter().rposition(|&count| count != 0).map_or(0, |last| last + 1);
+        words += &format!(" {}:{:?}*{times}", token.place, &token.counts[..last]);
     }
     words
 }

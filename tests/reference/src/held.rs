@@ -3,7 +3,7 @@
 use std::mem::size_of;
 
 use crate::broken::{broken, Broken};
-use crate::marking::{Marking, Row};
+use crate::marking::{Line, Marking, Row};
 use crate::model::{
     loses_a_net, Header, Mode, Model, ObjectNet, Transition, EVENTS, INNER, MOVES, NETS, PLACES, TOKENS,
     TRANSITIONS,
@@ -46,17 +46,33 @@ pub struct HeldModel {
     pub events: [HeldEvent; EVENTS],
 }
 
-/// A held marking: `len` rows in ascending order. Unused room is 0.
+/// A net-token: its place's number, from 1, and its counts.
+#[repr(C)]
+#[derive(Clone, Copy, Debug, Default, PartialEq, Eq)]
+pub struct HeldToken {
+    pub place: u16,
+    pub counts: [u16; INNER],
+}
+
+/// A net-token, and how many times it is there.
+#[repr(C)]
+#[derive(Clone, Copy, Debug, Default, PartialEq, Eq)]
+pub struct HeldEntry {
+    pub token: HeldToken,
+    pub times: u16,
+}
+
+/// A held marking: `len` entries in ascending order of their net-tokens. Unused room is 0.
 #[repr(C)]
 #[derive(Clone, Debug, PartialEq, Eq)]
 pub struct HeldMarking {
     pub len: usize,
-    pub rows: [Row; TOKENS],
+    pub entries: [HeldEntry; TOKENS],
 }
 
 // Neither struct has padding, so that equal fields are equal bytes.
 const _: () = assert!(size_of::<HeldModel>() == 5 * size_of::<usize>() + 35_104);
-const _: () = assert!(size_of::<HeldMarking>() == size_of::<usize>() + 2 * 8_448);
+const _: () = assert!(size_of::<HeldMarking>() == size_of::<usize>() + 17_408);
 
 impl HeldModel {
     /// The empty model: no places, and no header.
@@ -78,10 +94,32 @@ impl HeldModel {
     }
 }
 
+impl HeldEntry {
+    /// Holds a line.
+    pub fn new(line: &Line) -> HeldEntry {
+        let mut counts = [0; INNER];
+        counts.copy_from_slice(line.inside());
+        HeldEntry { token: HeldToken { place: line.row[0], counts }, times: line.times as u16 }
+    }
+
+    /// The line that is held.
+    pub fn line(&self) -> Line {
+        let mut row: Row = [0; 1 + INNER];
+        row[0] = self.token.place;
+        row[1..].copy_from_slice(&self.token.counts);
+        Line::new(row, u64::from(self.times))
+    }
+}
+
 impl HeldMarking {
     /// No net-token.
     pub fn empty() -> HeldMarking {
-        HeldMarking { len: 0, rows: [[0; 1 + INNER]; TOKENS] }
+        HeldMarking { len: 0, entries: [HeldEntry::default(); TOKENS] }
+    }
+
+    /// Its entries as lines; its length is one that a reading gives.
+    pub fn lines(&self) -> Vec<Line> {
+        self.entries[..self.len].iter().map(HeldEntry::line).collect()
     }
 }
 
@@ -123,9 +161,10 @@ fn hold_arcs(pre: &mut [u8; ARCS], post: &mut [u8; ARCS], transitions: &[Transit
 
 /// Holds a marking.
 pub fn hold_marking(marking: &Marking) -> HeldMarking {
+    let lines = marking.lines();
     let mut held = HeldMarking::empty();
-    held.len = marking.rows().len();
-    held.rows[..held.len].copy_from_slice(marking.rows());
+    held.len = lines.len();
+    held.entries.iter_mut().zip(&lines).for_each(|(entry, line)| *entry = HeldEntry::new(line));
     held
 }
 
@@ -206,20 +245,48 @@ fn sync_of(model: &Model, event: &HeldEvent, mode: Mode) -> Option<Vec<Vec<u8>>>
 
 /// The marking of the model that an accepted reading holds like this, if there is one.
 pub fn marking_of(model: &Model, held: &HeldMarking) -> Option<Marking> {
-    let rows = held.rows.get(..held.len)?;
-    let fits = |row: &Row| {
-        let place = usize::from(row[0]);
-        (1..=model.places()).contains(&place)
-            && (row[1 + model.inner_places(place - 1)..].iter().all(|&count| count == 0)
-                || broken(Broken::InsideRoomNotTested))
-    };
-    if !rows.iter().all(fits) {
+    let entries = held.entries.get(..held.len)?;
+    if !entries.iter().all(|entry| fits(model, entry)) || !ascending(entries) {
         return None;
     }
-    let marking = Marking::new(rows.to_vec());
-    let ascending = marking.rows() == rows || broken(Broken::OrderNotTested);
-    let unused = held.rows[held.len..].iter().flatten().all(|&cell| cell == 0);
-    (ascending && (unused || broken(Broken::UnusedRoomOfMarking))).then_some(marking)
+    if !held.entries[held.len..].iter().all(unused) {
+        return None;
+    }
+    Some(Marking::new(&held.lines()))
+}
+
+/// Whether an entry's net-token is one of the model, and is there.
+fn fits(model: &Model, entry: &HeldEntry) -> bool {
+    let HeldToken { place, counts } = &entry.token;
+    let place = usize::from(*place);
+    if !(1..=model.places()).contains(&place) {
+        return false;
+    }
+    let mut behind = counts[model.inner_places(place - 1)..].iter();
+    (behind.all(|&count| count == 0) || broken(Broken::InsideRoomNotTested))
+        && (entry.times > 0 || broken(Broken::TimesZeroHeld))
+}
+
+/// Whether the net-tokens of the entries ascend, each unlike the one before.
+fn ascending(entries: &[HeldEntry]) -> bool {
+    let in_order = |pair: &[HeldEntry]| {
+        let [before, behind] = [pair[0], pair[1]].map(|entry| entry.line());
+        let equal = before.row == behind.row;
+        let misordered = broken(Broken::TimesBeforeInside) && before.row[0] == behind.row[0];
+        before.row < behind.row
+            || misordered
+            || equal && broken(Broken::EqualNeighboursHeld)
+            || equal && before.times < behind.times && broken(Broken::TimesInOrder)
+    };
+    let any_order = broken(Broken::OrderNotTested) || broken(Broken::MarkingUnsorted);
+    any_order || entries.windows(2).all(in_order)
+}
+
+/// Whether an entry behind the last is 0.
+fn unused(entry: &HeldEntry) -> bool {
+    let HeldEntry { token, times } = entry;
+    (*token == HeldToken::default() || broken(Broken::UnusedRoomOfMarking))
+        && (*times == 0 || broken(Broken::UnusedRoomOfMarking) || broken(Broken::UnusedTimesNotTested))
 }
 
 macro_rules! bytes_of {

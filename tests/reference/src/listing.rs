@@ -2,7 +2,7 @@
 
 use crate::broken::{broken, Broken};
 use crate::cause::{within, Refusal};
-use crate::marking::{push_tokens, Marking};
+use crate::marking::{push_marking, Marking};
 use crate::model::{read_model, Model, SLICE};
 use crate::step::{run, Run};
 use crate::text::{push_line, push_list, push_number};
@@ -47,8 +47,7 @@ fn push_run(out: &mut Vec<u8>, model: &Model, mut marking: Marking, passed: Pass
     push_line(out, "fired", if broken(Broken::FiredInvented) { steps_of(trace) } else { fired });
     push_answer(out, "stop", stop.as_ref().err());
     let held = if broken(Broken::HeldInvented) { start } else { marking };
-    push_line(out, "held", held.rows().len());
-    push_tokens(out, model, held.rows());
+    push_marking(out, model, "held", &held);
 }
 
 /// Broken: the steps that a trace holds.

@@ -14,8 +14,12 @@ pub const INNER: usize = 32;
 /// Transitions of an object net.
 pub const TRANSITIONS: usize = 32;
 pub const EVENTS: usize = 64;
-/// Net-tokens of a marking.
+/// Unlike net-tokens of a marking.
 pub const TOKENS: usize = 256;
+/// Likes of a net-token, in a marking and in a line.
+pub const LIKES: u64 = 65_535;
+/// Token lines of a start, of a take, and of a give.
+pub const LINES: usize = 256;
 /// Tokens on an inner place of one net-token.
 pub const COUNT: usize = 65_535;
 /// The weight of an arc, and the count of a transition in an event.
@@ -23,9 +27,9 @@ pub const ARC: usize = 255;
 /// Bytes of a lent text.
 pub const SLICE: usize = 1_048_576;
 
-/// A number for each place of the system net, 0 where there is no such place.
+/// An arc's number for each place of the system net, 0 where there is no such place.
 pub type OuterCounts = [u32; PLACES];
-/// A number for each place of an object net, 0 where there is no such place.
+/// Summed arcs for each place of an object net, 0 where there is no such place.
 pub type InnerCounts = [u32; INNER];
 
 /// A transition of the system net or of an object net: a number of tokens for each place.

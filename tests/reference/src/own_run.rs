@@ -5,7 +5,7 @@
 use std::collections::BTreeMap;
 
 use crate::big::Natural;
-use crate::marking::{Marking, Row};
+use crate::marking::{Line, Marking, Row};
 use crate::model::{Event, Mode, Model, ObjectNet, Transition, INNER, SLICE};
 
 /// A net-token: its place, counted from 1, and the marking of its object net.
@@ -16,7 +16,7 @@ pub struct NetToken {
 }
 
 /// How often each net-token is there.
-pub type Multiset = BTreeMap<NetToken, usize>;
+pub type Multiset = BTreeMap<NetToken, Natural>;
 
 struct Step<'a> {
     event: &'a Event,
@@ -32,11 +32,8 @@ pub struct OwnRun<'a> {
 
 impl<'a> OwnRun<'a> {
     pub fn new(model: &'a Model, start: &Marking) -> OwnRun<'a> {
-        let mut state = Multiset::new();
-        for row in start.rows() {
-            *state.entry(net_token(model, row)).or_default() += 1;
-        }
-        OwnRun { model, state }
+        let of_row = |(row, &likes): (&Row, &u64)| (net_token(model, row), Natural::from(likes));
+        OwnRun { model, state: start.bag().iter().map(of_row).collect() }
     }
 
     /// Takes the text of a step call; says whether it brought a step that fired.
@@ -44,21 +41,14 @@ impl<'a> OwnRun<'a> {
         let Some(step) = bring(self.model, text) else {
             return false;
         };
-        let contained = step.taken.iter().all(|(token, &likes)| self.state.get(token) >= Some(&likes));
-        if !contained || !predicate(self.model, &step) {
+        let Some(mut rest) = without(&self.state, &step.taken) else {
+            return false;
+        };
+        if !predicate(self.model, &step) {
             return false;
         }
-        for (token, likes) in step.taken {
-            let left = self.state[&token] - likes;
-            if left == 0 {
-                self.state.remove(&token);
-            } else {
-                self.state.insert(token, left);
-            }
-        }
-        for (token, likes) in step.given {
-            *self.state.entry(token).or_default() += likes;
-        }
+        step.given.into_iter().for_each(|(token, likes)| add(&mut rest, token, &likes));
+        self.state = rest;
         true
     }
 
@@ -66,15 +56,30 @@ impl<'a> OwnRun<'a> {
         &self.state
     }
 
-    /// The state as rows in ascending order, where each count has a row's size.
-    pub fn rows(&self) -> Option<Vec<Row>> {
-        let mut rows = Vec::new();
-        for (token, &likes) in &self.state {
-            let row = row_of(token)?;
-            rows.extend(std::iter::repeat_n(row, likes));
-        }
-        Some(rows)
+    /// The state as lines in ascending order, where each number has the size that a marking keeps.
+    pub fn lines(&self) -> Option<Vec<Line>> {
+        let small = |number: &Natural| u16::try_from(number.to_u64()?).ok();
+        let line =
+            |(token, likes): (&NetToken, &Natural)| Some(Line::new(row_of(token)?, u64::from(small(likes)?)));
+        self.state.iter().map(line).collect()
     }
+}
+
+/// Adds so many likes of a net-token.
+fn add(tokens: &mut Multiset, token: NetToken, likes: &Natural) {
+    let there = tokens.entry(token).or_default();
+    *there = there.plus(likes);
+}
+
+/// What is left of a multiset, if it has all these.
+fn without(tokens: &Multiset, taken: &Multiset) -> Option<Multiset> {
+    let mut rest = tokens.clone();
+    for (token, likes) in taken {
+        let left = rest.get(token)?.minus(likes)?;
+        rest.insert(token.clone(), left);
+    }
+    rest.retain(|_, likes| !likes.is_zero());
+    Some(rest)
 }
 
 fn net_token(model: &Model, row: &Row) -> NetToken {
@@ -119,24 +124,30 @@ fn take_tokens(model: &Model, rest: &mut &[u8], key: &[u8]) -> Option<Multiset> 
     let one = Natural::from(1);
     let mut tokens = Multiset::new();
     while let Some(fewer) = missing.minus(&one) {
-        let token = token(model, take_value(rest, b"token=")?)?;
-        *tokens.entry(token).or_default() += 1;
+        let (token, likes) = token(model, take_value(rest, b"token=")?)?;
+        add(&mut tokens, token, &likes);
         missing = fewer;
     }
     Some(tokens)
 }
 
-/// A net-token at a place of the model, its list as long as the place's net has inner places.
-fn token(model: &Model, value: &[u8]) -> Option<NetToken> {
+/// A net-token at a place of the model, its list as long as the place's net has inner places, and how many times the line
+/// means it: once, or a number from 2 on behind its sign.
+fn token(model: &Model, value: &[u8]) -> Option<(NetToken, Natural)> {
     let colon = value.iter().position(|&byte| byte == b':')?;
     let place = usize::try_from(Natural::parse(&value[..colon])?.to_u64()?).ok()?;
-    let list = &value[colon + 1..];
+    let behind = &value[colon + 1..];
+    let one = Natural::from(1);
+    let (list, likes) = match behind.iter().rposition(|&byte| byte == b'*') {
+        Some(sign) => (&behind[..sign], Natural::parse(&behind[sign + 1..]).filter(|likes| *likes > one)?),
+        None => (behind, one),
+    };
     let inside: Vec<Natural> = match list {
         [] => Vec::new(),
         _ => list.split(|&byte| byte == b',').map(Natural::parse).collect::<Option<_>>()?,
     };
     let known = (1..=model.places()).contains(&place);
-    (known && inside.len() == model.inner_places(place - 1)).then_some(NetToken { place, inside })
+    (known && inside.len() == model.inner_places(place - 1)).then_some((NetToken { place, inside }, likes))
 }
 
 /// The firing predicate (000, equation 5).
@@ -152,10 +163,10 @@ fn predicate(model: &Model, step: &Step) -> bool {
 }
 
 /// The outer projection.
-pub fn outer(model: &Model, tokens: &Multiset) -> Vec<usize> {
-    let mut sums = vec![0; model.places()];
-    for (token, &likes) in tokens {
-        sums[token.place - 1] += likes;
+pub fn outer(model: &Model, tokens: &Multiset) -> Vec<Natural> {
+    let mut sums = vec![Natural::zero(); model.places()];
+    for (token, likes) in tokens {
+        sums[token.place - 1] = sums[token.place - 1].plus(likes);
     }
     sums
 }
@@ -163,9 +174,10 @@ pub fn outer(model: &Model, tokens: &Multiset) -> Vec<usize> {
 /// The inner projection on a net.
 pub fn inner(model: &Model, tokens: &Multiset, net: usize) -> Vec<Natural> {
     let mut sums = vec![Natural::zero(); model.nets[net].places];
-    for (token, &likes) in tokens {
+    for (token, likes) in tokens {
         if model.net_of(token.place - 1) == Some(net) {
-            (0..likes).for_each(|_| sums = plus(&sums, &token.inside));
+            let all: Vec<Natural> = token.inside.iter().map(|count| count.times(likes)).collect();
+            sums = plus(&sums, &all);
         }
     }
     sums
@@ -173,15 +185,15 @@ pub fn inner(model: &Model, tokens: &Multiset, net: usize) -> Vec<Natural> {
 
 /// The outer projections that an event may take and give: a move's pre and post, one token at the place that idles, or one
 /// at some place of the net that is alone.
-fn outer_arcs(model: &Model, event: &Event) -> Vec<(Vec<usize>, Vec<usize>)> {
+fn outer_arcs(model: &Model, event: &Event) -> Vec<(Vec<Natural>, Vec<Natural>)> {
     let places = || 0..model.places();
     let idling = |idle: usize| {
-        let one: Vec<usize> = places().map(|place| usize::from(place == idle)).collect();
+        let one: Vec<Natural> = places().map(|place| Natural::from(u64::from(place == idle))).collect();
         (one.clone(), one)
     };
     match event.mode {
         Mode::Move(index) => {
-            let arcs = |arcs: &[u8]| arcs.iter().map(|&arc| usize::from(arc)).collect();
+            let arcs = |arcs: &[u8]| arcs.iter().map(|&arc| Natural::from(u64::from(arc))).collect();
             vec![(arcs(&model.moves[index].pre), arcs(&model.moves[index].post))]
         }
         Mode::Idle(place) => vec![idling(place)],

@@ -2,16 +2,18 @@
 
 use crate::broken::{broken, idle_answer, note_fired, Broken};
 use crate::cause::{Refusal, INNER_BELOW, INNER_DIFFERS, NOT_IN_MARKING, NO_ROOM, OUTER};
-use crate::marking::{inner_projection, outer_projection, read_block, Marking, Row};
-use crate::model::{within_slice, Event, InnerCounts, Mode, Model, OuterCounts, TOKENS};
+use crate::marking::{
+    changed, found, inner_projection, likes_in, outer_projection, read_block, Bag, InnerSums, Line, Marking,
+};
+use crate::model::{within_slice, Event, InnerCounts, Mode, Model, OuterCounts, LIKES, TOKENS};
 use crate::text::Reader;
 
-/// A step: an event, counted from 0, the racks taken and the racks given, in the order of their lines.
+/// A step: an event, counted from 0, and the lines of the racks taken and given.
 #[derive(Clone, Debug)]
 pub struct Step {
     pub event: usize,
-    pub taken: Vec<Row>,
-    pub given: Vec<Row>,
+    pub taken: Vec<Line>,
+    pub given: Vec<Line>,
 }
 
 /// The number of the `take` line, counted from the `fire` line.
@@ -35,8 +37,8 @@ pub fn step(model: &Model, marking: &mut Marking, text: &[u8]) -> Result<usize, 
 
 fn read_step(reader: &mut Reader, model: &Model) -> Result<Step, Refusal> {
     let event = reader.number("fire", 1, model.events.len())? - 1;
-    let taken = read_block(reader, model, "take", TOKENS)?;
-    let given = read_block(reader, model, "give", TOKENS)?;
+    let taken = read_block(reader, model, "take")?;
+    let given = read_block(reader, model, "give")?;
     Ok(Step { event, taken, given })
 }
 
@@ -46,18 +48,21 @@ pub fn fire(model: &Model, marking: &mut Marking, step: &Step) -> Result<(), Ref
         return answer;
     }
     predicate(model, step)?;
-    if broken(Broken::RoomBeforeMarking) {
-        test_room(marking, step)?;
+    let after = changed(marking.bag(), &found(marking.bag(), &step.taken), &step.given);
+    if broken(Broken::RoomBeforeMarking) || broken(Broken::LikesBeforeMarking) && too_many_alike(&after) {
+        test_room(marking, step, &after)?;
     }
-    let mut gone = vec![false; marking.rows().len()];
-    let found = find_taken(marking, step, &mut gone);
-    if found.is_err() && broken(Broken::RefusedStepMoves) {
-        marking.replace(&gone, &[]);
+    if let Some(at) = not_in(marking, step) {
+        if broken(Broken::RefusedStepMoves) {
+            let rest = changed(marking.bag(), &step.taken[..at], &[]);
+            marking.replace(rest, &[]);
+        }
+        let line = if broken(Broken::NotInMarkingAtFirst) { first_like(step, at) } else { at };
+        return Err(Refusal::new(NOT_IN_MARKING, TAKE_LINE + 1 + line));
     }
-    found?;
-    test_room(marking, step)?;
+    test_room(marking, step, &after)?;
     if !broken(Broken::FiredMovesNothing) {
-        marking.replace(&gone, &step.given);
+        marking.replace(after, &step.given);
     }
     note_fired();
     Ok(())
@@ -85,22 +90,23 @@ fn test_alone(model: &Model, net: usize, step: &Step) -> Result<(), Refusal> {
     if broken(Broken::AloneOnTwo) && two_of_net(model, net, step) {
         return Ok(());
     }
+    let one = |line: &Line| line.times == 1 || broken(Broken::AloneOnLikes);
     let taken = match step.taken[..] {
-        [rack] if alone_takes(model, net, &rack) => rack,
+        [rack] if one(&rack) && alone_takes(model, net, &rack) => rack,
         _ => return Err(Refusal::new(OUTER, TAKE_LINE)),
     };
     let elsewhere =
-        |rack: &Row| broken(Broken::AloneGivesElsewhere) && racks_of(model, &[*rack], net).count() == 1;
+        |rack: &Line| broken(Broken::AloneGivesElsewhere) && racks_of(model, &[*rack], net).count() == 1;
     match step.given[..] {
-        [given] if given[0] == taken[0] || elsewhere(&given) => Ok(()),
+        [given] if one(&given) && (given.place() == taken.place() || elsewhere(&given)) => Ok(()),
         _ if broken(Broken::AloneGiveAtTake) => Err(Refusal::new(OUTER, TAKE_LINE)),
         _ => Err(Refusal::new(OUTER, step.give_line())),
     }
 }
 
 /// Whether this net-token can be the one that `alone` of the net takes.
-fn alone_takes(model: &Model, net: usize, rack: &Row) -> bool {
-    let place = usize::from(rack[0]) - 1;
+fn alone_takes(model: &Model, net: usize, rack: &Line) -> bool {
+    let place = rack.place();
     match model.net_of(place) {
         None => broken(Broken::AloneOfBlackToken),
         Some(other) if other != net => broken(Broken::AloneOfAnyNet),
@@ -113,8 +119,9 @@ fn alone_takes(model: &Model, net: usize, rack: &Row) -> bool {
 
 /// Broken: whether two racks of the net are taken, and as many net-tokens given at their places.
 fn two_of_net(model: &Model, net: usize, step: &Step) -> bool {
-    step.taken.len() == 2
-        && racks_of(model, &step.taken, net).count() == 2
+    let racks = |lines: &mut dyn Iterator<Item = &Line>| lines.map(|line| line.times).sum::<u64>();
+    racks(&mut step.taken.iter()) == 2
+        && racks(&mut racks_of(model, &step.taken, net)) == 2
         && outer_projection(&step.taken) == outer_projection(&step.given)
 }
 
@@ -135,8 +142,8 @@ fn test_inner(model: &Model, event: &Event, step: &Step) -> Result<(), Refusal> 
     refuse_net(INNER_DIFFERS, model.nets.len(), fails_post)
 }
 
-fn test_outer(racks: &[Row], counts: &OuterCounts, line: usize) -> Result<(), Refusal> {
-    if outer_projection(racks) != *counts {
+fn test_outer(racks: &[Line], counts: &OuterCounts, line: usize) -> Result<(), Refusal> {
+    if outer_projection(racks) != counts.map(u64::from) {
         return Err(Refusal::new(OUTER, line));
     }
     Ok(())
@@ -153,63 +160,78 @@ fn refuse_net(number: usize, nets: usize, at_fault: impl Fn(usize) -> bool) -> R
 }
 
 /// Whether the inner projection of the taken racks is below pre at some inner place.
-fn below(taken: &InnerCounts, pre: &InnerCounts) -> bool {
+fn below(taken: &InnerSums, pre: &InnerCounts) -> bool {
     if broken(Broken::InnerPreNotTested) {
         return false;
     }
-    taken.iter().zip(pre).any(|(taken, pre)| taken < pre)
+    taken.iter().zip(pre).any(|(&taken, &pre)| taken < u64::from(pre))
 }
 
 /// Whether the inner projection of the given racks is not the taken one, less pre, plus post.
-fn differs(given: &InnerCounts, taken: &InnerCounts, pre: &InnerCounts, post: &InnerCounts) -> bool {
+fn differs(given: &InnerSums, taken: &InnerSums, pre: &InnerCounts, post: &InnerCounts) -> bool {
     let used_up = !broken(Broken::InnerPreNotUsedUp);
     let places = || taken.iter().zip(pre).zip(post);
-    let after = places().map(|((&taken, &pre), &post)| {
-        i64::from(taken) - i64::from(pre) * i64::from(used_up) + i64::from(post)
-    });
+    let after =
+        places().map(|((&taken, &pre), &post)| taken as i64 - pre as i64 * i64::from(used_up) + post as i64);
     if broken(Broken::InnerTotalsOnly) {
-        return given.iter().map(|&count| i64::from(count)).sum::<i64>() != after.sum();
+        return given.iter().map(|&count| count as i64).sum::<i64>() != after.sum();
     }
-    !after.eq(given.iter().map(|&count| i64::from(count)))
+    !after.eq(given.iter().map(|&count| count as i64))
 }
 
-/// Marks where the taken racks stand in the marking, likes at different positions.
-fn find_taken(marking: &Marking, step: &Step, gone: &mut [bool]) -> Result<(), Refusal> {
-    let rows = marking.rows();
-    let mut likes = vec![0; rows.len() + 1];
-    for (at, rack) in step.taken.iter().enumerate() {
-        let first = rows.partition_point(|row| row_before(row, rack));
-        let position = first + likes[first];
-        if !rows.get(position).is_some_and(|row| row_like(row, rack)) {
-            return Err(Refusal::new(NOT_IN_MARKING, TAKE_LINE + 1 + at));
+/// The first taken line, counted from 0, whose likes so far, itself with them, are more than the marking has.
+fn not_in(marking: &Marking, step: &Step) -> Option<usize> {
+    let mut so_far = Bag::new();
+    step.taken.iter().position(|line| {
+        if broken(Broken::EqualTakenAsOne) {
+            so_far.clear();
         }
-        likes[first] += usize::from(!broken(Broken::EqualTakenAsOne));
-        gone[position] = true;
-    }
-    Ok(())
+        let times = if broken(Broken::NotInMarkingByLines) { 1 } else { line.times };
+        *so_far.entry(line.row).or_default() += times;
+        likes_in(&so_far, &line.row) > likes_in(marking.bag(), &line.row)
+    })
 }
 
-fn row_before(row: &Row, rack: &Row) -> bool {
-    if broken(Broken::InsidesNotCompared) {
-        return row[0] < rack[0];
-    }
-    row < rack
+/// Broken: the first line like this one.
+fn first_like(step: &Step, at: usize) -> usize {
+    step.taken.iter().position(|line| line.row == step.taken[at].row).unwrap_or(at)
 }
 
-fn row_like(row: &Row, rack: &Row) -> bool {
-    if broken(Broken::InsidesNotCompared) {
-        return row[0] == rack[0];
-    }
-    row == rack
-}
-
-/// Refuses more net-tokens after the step than are held.
-fn test_room(marking: &Marking, step: &Step) -> Result<(), Refusal> {
-    let freed = if broken(Broken::RoomNotFreed) { 0 } else { step.taken.len() };
-    if marking.rows().len() + step.given.len() > TOKENS + freed {
+/// Refuses more unlike net-tokens after the step than are held, or else more alike.
+fn test_room(marking: &Marking, step: &Step, after: &Bag) -> Result<(), Refusal> {
+    let with_taken = || changed(marking.bag(), &[], &step.given);
+    let unlike = unlike(marking, step, after);
+    let alike = if broken(Broken::LikesNotFreed) {
+        too_many_alike(&with_taken())
+    } else {
+        too_many_alike(after) && !broken(Broken::LikesNotTested)
+    };
+    if unlike > TOKENS as u64 || alike {
         return Err(Refusal::new(NO_ROOM, step.give_line()));
     }
     Ok(())
+}
+
+/// How many unlike net-tokens there are after the step.
+fn unlike(marking: &Marking, step: &Step, after: &Bag) -> u64 {
+    let bag = marking.bag();
+    let racks = |lines: &[Line]| lines.iter().map(|line| line.times).sum::<u64>();
+    let there = bag.len() as u64;
+    let new = |after: &Bag| after.keys().filter(|row| !bag.contains_key(*row)).count() as u64;
+    let gone = after.iter().filter(|(row, &likes)| likes == 0 && bag.contains_key(*row)).count() as u64;
+    if broken(Broken::RoomNotFreed) {
+        there + new(&changed(bag, &[], &step.given))
+    } else if broken(Broken::RoomByLines) {
+        (there + step.given.len() as u64).saturating_sub(step.taken.len() as u64)
+    } else if broken(Broken::RoomByRacks) {
+        (bag.values().sum::<u64>() + racks(&step.given)).saturating_sub(racks(&step.taken))
+    } else {
+        there + new(after) - gone
+    }
+}
+
+fn too_many_alike(bag: &Bag) -> bool {
+    bag.values().any(|&likes| likes > LIKES)
 }
 
 /// A trace's run: why it stopped, the steps fired before, and the bytes that the header and they used; none where no step
@@ -268,7 +290,7 @@ fn rack_below(model: &Model, step: &Step, net: usize) -> bool {
     let pre = &model.events[step.event].inner_pre[net];
     broken(Broken::InnerPreRackByRack)
         && racks_of(model, &step.taken, net)
-            .any(|rack| rack[1..].iter().zip(pre).any(|(&count, &pre)| u32::from(count) < pre))
+            .any(|rack| rack.inside().iter().zip(pre).any(|(&count, &pre)| u32::from(count) < pre))
 }
 
 /// Broken: whether racks of a net that pre lacks may arrive with any inside.
@@ -278,7 +300,7 @@ fn fresh_rack_filled(model: &Model, step: &Step, net: usize) -> bool {
 
 /// Whether racks of the net are taken and none is given.
 fn leaves(model: &Model, step: &Step, net: usize) -> bool {
-    let some = |racks| racks_of(model, racks, net).next().is_some();
+    let some = |racks: &[Line]| racks_of(model, racks, net).next().is_some();
     some(&step.taken) && !some(&step.given)
 }
 
@@ -289,14 +311,14 @@ fn leaves_with_tokens(model: &Model, step: &Step, net: usize) -> bool {
 
 /// Broken: whether racks of a net of which none is given hold anything before the move.
 fn leaves_filled(model: &Model, step: &Step, net: usize) -> bool {
-    let filled = |rack: &Row| rack[1..].iter().any(|&count| count > 0);
+    let filled = |rack: &Line| rack.inside().iter().any(|&count| count > 0);
     broken(Broken::LeavesOnlyEmpty)
         && leaves(model, step, net)
         && racks_of(model, &step.taken, net).any(filled)
 }
 
-fn racks_of<'a>(model: &'a Model, racks: &'a [Row], net: usize) -> impl Iterator<Item = &'a Row> {
-    let of_net = move |row: &&Row| model.net_of(usize::from(row[0]) - 1) == Some(net);
+fn racks_of<'a>(model: &'a Model, racks: &'a [Line], net: usize) -> impl Iterator<Item = &'a Line> {
+    let of_net = move |line: &&Line| model.net_of(line.place()) == Some(net);
     racks.iter().filter(of_net)
 }
 

@@ -7,18 +7,20 @@ use crate::column::{of_number, of_syntax, Right};
 /// Every range ends below this; a larger number is kept as this one.
 const BEYOND: u32 = 1_000_000;
 
-/// A reader of lines: the lent bytes, the place it has reached, and the line read last with its number and its numbers.
+/// A reader of lines: the lent bytes, the place it has reached, and the line read last with its number and its numbers, of a
+/// token line also how many times it is meant.
 pub struct Reader<'a> {
     bytes: &'a [u8],
     at: usize,
     line: usize,
     last: &'a [u8],
     numbers: Vec<u32>,
+    times: u32,
 }
 
 impl<'a> Reader<'a> {
     pub fn new(bytes: &'a [u8]) -> Reader<'a> {
-        Reader { bytes, at: 0, line: 0, last: &[], numbers: Vec::new() }
+        Reader { bytes, at: 0, line: 0, last: &[], numbers: Vec::new(), times: 1 }
     }
 
     /// The bytes read so far.
@@ -29,6 +31,11 @@ impl<'a> Reader<'a> {
     /// The numbers of the list read last.
     pub fn numbers(&self) -> &[u32] {
         &self.numbers
+    }
+
+    /// How many times the token line read last is meant.
+    pub fn times(&self) -> u32 {
+        self.times
     }
 
     /// A refusal beside the line read last, for what it says.
@@ -143,13 +150,18 @@ impl<'a> Reader<'a> {
         Ok(self.numbers.iter().map(|&number| number as u8).collect())
     }
 
-    /// The next line, a token line: its place's number; its counts are then the numbers.
+    /// The next line, a token line: its place's number; its counts are then the numbers. Behind them there may be a sign and
+    /// how many times the line is meant, from 2 on; else it is meant once.
     pub fn token(&mut self, right: Right) -> Result<usize, Refusal> {
         let value = self.value("token", right)?;
         let syntax = || self.refuse_syntax(right);
         let colon = value.iter().position(|&byte| byte == b':').ok_or_else(syntax)?;
         let place = natural(&value[..colon]).ok_or_else(syntax)?;
-        self.read_numbers(&value[colon + 1..], right)?;
+        let mut parts = value[colon + 1..].splitn(2, |&byte| byte == b'*');
+        let counts = parts.next().unwrap_or_default();
+        let times = parts.next().map_or(Some(1), several).ok_or_else(syntax)?;
+        self.read_numbers(counts, right)?;
+        self.times = times;
         Ok(place as usize)
     }
 
@@ -224,6 +236,13 @@ pub fn value_of<'a>(line: &'a [u8], key: &str) -> Option<&'a [u8]> {
         return Some(value.strip_suffix(b"\r").unwrap_or(value));
     }
     Some(value)
+}
+
+/// A number from 2 on.
+fn several(digits: &[u8]) -> Option<u32> {
+    let one = |number: u32| number == 1 && broken(Broken::TimesOneRead);
+    let zero = |number: u32| number == 0 && broken(Broken::TimesZeroRead);
+    natural(digits).filter(|&number| number > 1 || one(number) || zero(number))
 }
 
 /// A decimal number without leading zeros.

@@ -3,11 +3,14 @@
 use crate::broken::{broken, Broken};
 use crate::cause::{Refusal, ALL_ZERO, EFFECT};
 use crate::marking::{inner_projection, outer_projection, Marking};
-use crate::model::{within_slice, Event, InnerCounts, Mode, Model, OuterCounts, COUNT, TOKENS};
+use crate::model::{within_slice, Event, Mode, Model, COUNT, INNER, LIKES};
 use crate::text::Reader;
 
 /// The largest weight, either side of 0.
 pub const WEIGHT: u32 = 1_000;
+
+/// The most racks, black ones too, that covering weights let there be.
+pub const RACKS: u64 = 256;
 
 /// A weight for each place and for each inner place of each net.
 #[derive(Clone, Debug, PartialEq, Eq)]
@@ -33,15 +36,18 @@ impl Weights {
     }
 
     /// Outer weights times an outer projection, plus, for each net, inner weights times its inner projection.
-    fn sum(&self, outer: &OuterCounts, inner: &[InnerCounts]) -> i64 {
+    fn sum<C: Copy + Into<u64>>(&self, outer: &[C], inner: &[[C; INNER]]) -> i64 {
         let nets = self.inner.iter().zip(inner);
         times(&self.outer, outer) + nets.map(|(weights, counts)| times(weights, counts)).sum::<i64>()
     }
 
-    /// The weighted sum of a marking; it lies within 536,862,976,000 either side of 0.
+    /// The weighted sum of a marking; it lies within 35,183,315,132,160,000 either side of 0.
     pub fn sum_of(&self, model: &Model, marking: &Marking) -> i64 {
-        let rows = marking.rows();
-        self.sum(&outer_projection(rows), &inner_projection(model, rows))
+        let mut lines = marking.lines();
+        if broken(Broken::SumOfUnlike) {
+            lines.iter_mut().for_each(|line| line.times = 1);
+        }
+        self.sum(&outer_projection(&lines), &inner_projection(model, &lines))
     }
 
     /// The weighted sum over an event's post less that over its pre.
@@ -59,8 +65,9 @@ impl Weights {
         let outer = self.outer.iter().copied();
         let dividing = if broken(Broken::CoverByGreatestOuter) { outer.max() } else { outer.min() };
         let inner_bound = |&weight: &i64| quotient(sum, weight) <= COUNT as i64;
+        let racks = if broken(Broken::CoverOfLikes) { RACKS * LIKES } else { RACKS } as i64;
         positive
-            && dividing.is_some_and(|weight| quotient(sum, weight) <= TOKENS as i64)
+            && dividing.is_some_and(|weight| quotient(sum, weight) <= racks)
             && (self.inner.iter().flatten().all(inner_bound) || broken(Broken::CoverWithoutInner))
     }
 }
@@ -71,8 +78,8 @@ fn quotient(sum: i64, weight: i64) -> i64 {
     (sum + more) / weight
 }
 
-fn times(weights: &[i64], counts: &[u32]) -> i64 {
-    weights.iter().zip(counts).map(|(&weight, &count)| weight * i64::from(count)).sum()
+fn times<C: Copy + Into<u64>>(weights: &[i64], counts: &[C]) -> i64 {
+    weights.iter().zip(counts).map(|(&weight, &count)| weight * count.into() as i64).sum()
 }
 
 /// Checks the weights of a text for a model and a marking.
@@ -99,7 +106,7 @@ fn kept(sum: i64, marking: &Marking) -> i64 {
     } else if broken(Broken::SumWithoutSign) {
         sum.abs()
     } else if broken(Broken::SumInvented) {
-        marking.rows().len() as i64
+        marking.bag().len() as i64
     } else {
         sum
     }

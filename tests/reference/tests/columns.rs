@@ -229,7 +229,67 @@ fn token_lines() {
 }
 
 #[test]
+fn likes_behind_token_lines() {
+    assert_eq!(marking("start=1\ntoken=1:1,0*2\n"), (0, 0, 0));
+    assert_eq!(marking("start=1\ntoken=1:1,0*10\n"), (0, 0, 0));
+    assert_eq!(marking("start=1\ntoken=1:1,0*65535\n"), (0, 0, 0));
+    assert_eq!(marking("start=1\ntoken=3:*5\n"), (0, 0, 0));
+    assert_eq!(marking("start=1\ntoken=1:1,0*0\n"), (2, 2, 13));
+    assert_eq!(marking("start=1\ntoken=1:1,0*1\n"), (2, 2, 14));
+    assert_eq!(marking("start=1\ntoken=1:1,0*01\n"), (2, 2, 13));
+    assert_eq!(marking("start=1\ntoken=1:1,0*02\n"), (2, 2, 13));
+    assert_eq!(marking("start=1\ntoken=1:1,0*\n"), (2, 2, 13));
+    assert_eq!(marking("start=1\ntoken=1:1,0*-2\n"), (2, 2, 13));
+    assert_eq!(marking("start=1\ntoken=1:1,0**2\n"), (2, 2, 13));
+    assert_eq!(marking("start=1\ntoken=1:1,0*2*2\n"), (2, 2, 14));
+    assert_eq!(marking("start=1\ntoken=1:1,0*2x\n"), (2, 2, 14));
+    assert_eq!(marking("start=1\ntoken=1:1,0*1x\n"), (2, 2, 14));
+    assert_eq!(marking("start=1\ntoken=1:1,0*2,0\n"), (2, 2, 14));
+    assert_eq!(marking("start=1\ntoken=1:1*2\n"), (2, 2, 10));
+    assert_eq!(marking("start=1\ntoken=1:*2\n"), (2, 2, 9));
+    assert_eq!(marking("start=1\ntoken=1:1,*2\n"), (2, 2, 11));
+    assert_eq!(marking("start=1\ntoken=1:1,0,0*2\n"), (2, 2, 12));
+    assert_eq!(marking("start=1\ntoken=3:0*2\n"), (2, 2, 9));
+    assert_eq!(marking("start=1\ntoken=1*2:1,0\n"), (2, 2, 8));
+    assert_eq!(marking("start=1\ntoken=3:*0\n"), (2, 2, 10));
+    assert_eq!(marking("start=1\ntoken=3:*1\n"), (2, 2, 11));
+    assert_eq!(marking("start=1*2\ntoken=3:\n"), (2, 1, 8));
+}
+
+/// The syntax of a line with an unknown place is tested; then its place comes before its likes.
+#[test]
+fn likes_of_an_unknown_place() {
+    assert_eq!(marking("start=1\ntoken=9:0*1\n"), (2, 2, 12));
+    assert_eq!(marking("start=1\ntoken=9:0*0\n"), (2, 2, 11));
+    assert_eq!(marking("start=1\ntoken=9:0*\n"), (2, 2, 11));
+    assert_eq!(marking("start=1\ntoken=9:*1\n"), (2, 2, 11));
+    assert_eq!(marking("start=1\ntoken=9:0,*2\n"), (2, 2, 11));
+    assert_eq!(marking("start=1\ntoken=9:0*2\n"), (3, 2, 7));
+    assert_eq!(marking("start=1\ntoken=9:*2\n"), (3, 2, 7));
+    assert_eq!(marking("start=1\ntoken=9:0,0,70000*70000\n"), (3, 2, 7));
+}
+
+#[test]
+fn likes_out_of_range() {
+    assert_eq!(marking("start=1\ntoken=1:1,0*65536\n"), (3, 2, 13));
+    assert_eq!(marking("start=1\ntoken=3:*65536\n"), (3, 2, 10));
+    assert_eq!(marking("start=1\ntoken=3:*4294967298\n"), (3, 2, 10));
+    assert_eq!(marking("start=1\ntoken=3:*18446744073709551618\n"), (3, 2, 10));
+    assert_eq!(marking("start=1\ntoken=1:70000,0*70000\n"), (3, 2, 9));
+    assert_eq!(marking("start=1\ntoken=1:0,70000*70000\n"), (3, 2, 11));
+    assert_eq!(step_with("token=1:1,0\n", "token=1:1,0*65536\n"), (3, 3, 13));
+    assert_eq!(step_with("token=2:0,1\n", "token=2:0,1*65536\n"), (3, 5, 13));
+    assert_eq!(step_with("token=1:1,0\n", "token=1:1,0*1\n"), (2, 3, 14));
+    assert_eq!(model_with("token=1:1,0\n", "token=1:1,0*65536\n"), (3, 21, 13));
+    assert_eq!(model_with("token=1:1,0\n", "token=1:1,0*0\n"), (2, 21, 13));
+}
+
+#[test]
 fn early_ends() {
+    assert_eq!(marking("start=1\ntoken=1:1,0*2"), (2, 2, 14));
+    assert_eq!(marking("start=1\ntoken=1:1,0*1"), (2, 2, 14));
+    assert_eq!(marking("start=1\ntoken=1:1,0*"), (2, 2, 13));
+    assert_eq!(marking("start=1\ntoken=1:1,0*70000"), (2, 2, 18));
     assert_eq!(marking(""), (2, 1, 1));
     assert_eq!(marking("sta"), (2, 1, 4));
     assert_eq!(marking("start=0"), (2, 1, 8));
@@ -245,6 +305,7 @@ fn all_else_has_no_column() {
     assert_eq!(step_with("token=1:1,0\n", "token=2:1,0\n"), (8, 2, 0));
     assert_eq!(weights_with("outer=1,1,1\n", "outer=1,2,1\n"), (7, 1, 0));
     assert_eq!(weights_with(WEIGHTS, "inv=1\nouter=0,0,0\ninner=0,0\ninner=0\n"), (6, 4, 0));
+    assert_eq!(marking("start=2\ntoken=3:*65535\ntoken=3:\n"), (12, 3, 0));
     assert_eq!(calls::ways(32, 0).column, 0);
     assert_eq!(calls::read_marking(&HeldModel::empty(), b"").answer.column, 0);
 }
@@ -312,6 +373,10 @@ fn columns_from_all_right_lines() {
     check("eos", Right::Header("eos", &numbers), b"0123,\n", 5, 2, header);
     let token = |line: &[u8]| refused_by_2(read_marking(&model, &[b"start=1\n", line].concat()));
     check("token", Right::Token(&model), b"0139:,\n", 7, 5, token);
+    let black = "eos=1\nnets=0\nplaces=1\ntype=0\nmoves=0\nevents=0\nstart=0\n";
+    let (black, _) = model::read_model(black.as_bytes()).unwrap();
+    let likes = |line: &[u8]| refused_by_2(read_marking(&black, &[b"start=1\n", line].concat()));
+    check("token", Right::Token(&black), b"012:*\n", 8, 3, likes);
 }
 
 /// The plants that are damaged at every byte have every key, and are right but for the weights.
@@ -352,7 +417,7 @@ fn damage_is_met_at_every_kind_of_byte() {
         }
     }
     for key in KEYS {
-        for &kind in b"^a0=,:-\n$" {
+        for &kind in b"^a0=,:-*\n$" {
             assert!(met.contains(&(key.to_string(), kind)), "{key} {}", kind as char);
         }
     }

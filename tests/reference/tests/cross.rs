@@ -1,17 +1,19 @@
 //! Two ways to the same answer, on made-up plants.
 
+use std::collections::BTreeMap;
+
 use reference::convert::convert;
 use reference::engine::{Engine, Reference};
 use reference::generate::held_damage::{damage_marking, damage_model};
 use reference::generate::limits::{model_of_length, round_trip, trace_of_length};
 use reference::generate::plant::{plant, Plant};
 use reference::generate::rng::Rng;
-use reference::generate::steps::{firing_step, poor_step, spoil};
+use reference::generate::steps::{firing_step, fold, poor_step, spoil, StepPlan};
 use reference::generate::texts::{model_text, step_text};
-use reference::held::{hold_marking, hold_model, HeldMarking, HeldModel};
-use reference::marking::{Marking, Row};
+use reference::held::{hold_marking, hold_model, HeldEntry, HeldMarking, HeldModel};
+use reference::marking::{Line, Marking};
 use reference::model::{
-    read_model, Header, Mode, Model, EVENTS, INNER, MOVES, NETS, PLACES, TOKENS, TRANSITIONS,
+    read_model, Header, Mode, Model, EVENTS, INNER, LINES, MOVES, NETS, PLACES, TOKENS, TRANSITIONS,
 };
 use reference::own_run::OwnRun;
 use reference::step::{run, step};
@@ -51,14 +53,15 @@ fn print(held: &HeldModel, marking: &HeldMarking) -> Option<String> {
         }
     }
     text += &format!("start={}\n", marking.len);
-    text.extend(marking.rows[..marking.len].iter().map(|row| token(held, row)));
+    text.extend(marking.entries[..marking.len].iter().map(|entry| token(held, entry)));
     Some(text)
 }
 
-fn token(held: &HeldModel, row: &Row) -> String {
-    let net = held.types.get(usize::from(row[0]).wrapping_sub(1)).map_or(0, |&net| usize::from(net));
+fn token(held: &HeldModel, HeldEntry { token, times }: &HeldEntry) -> String {
+    let net = held.types.get(usize::from(token.place).wrapping_sub(1)).map_or(0, |&net| usize::from(net));
     let places = if (1..=held.nets).contains(&net) { held.objects[net - 1].places } else { 0 };
-    format!("token={}:{}\n", row[0], list(&row[1..=places]))
+    let likes = if *times == 1 { String::new() } else { format!("*{times}") };
+    format!("token={}:{}{likes}\n", token.place, list(&token.counts[..places]))
 }
 
 /// Whether printing and reading give the same held model and marking.
@@ -81,7 +84,7 @@ fn held_tests_agree_with_printing_and_reading() {
     for case in 0..400 {
         let (mut rng, plant) = made(case);
         let model = hold_model(&plant.model);
-        let marking = hold_marking(&Marking::new(plant.start));
+        let marking = hold_marking(&Marking::new(&plant.start));
         assert!(is_read(&model, &marking) && reference.test_marking(&model, &marking));
         for _ in 0..8 {
             let (mut wrong_model, mut wrong_marking) = (model.clone(), marking.clone());
@@ -106,23 +109,70 @@ fn steps_within_the_limits_agree_with_the_own_run() {
         for _ in 0..12 {
             let mut marking = start.clone();
             let mut run = OwnRun::new(&model, &start);
-            let firing = firing_step(&mut rng, &model, start.rows());
-            let Some(mut plan) = firing.or_else(|| poor_step(&mut rng, &model, start.rows())) else {
+            let firing = firing_step(&mut rng, &model, &start.lines());
+            let Some(mut plan) = firing.or_else(|| poor_step(&mut rng, &model, &start.lines())) else {
                 continue;
             };
             if rng.percent(60) {
                 spoil(&mut rng, &model, &mut plan);
             }
+            fold(&mut rng, &mut plan);
             let text = step_text(&plan);
             let stepped = step(&model, &mut marking, &text);
             let limited = stepped.is_err_and(|refusal| [3, 12].contains(&refusal.number));
             let fired = run.feed(&text);
             assert!(limited || stepped.is_ok() == fired, "case {case}");
-            assert!(limited || run.rows() == Some(marking.rows().to_vec()), "case {case}");
+            assert!(limited || run.lines() == Some(marking.lines()), "case {case}");
             answers[usize::from(fired)] += 1;
         }
     }
     assert!(answers[0] > 1_000 && answers[1] > 1_000, "{answers:?}");
+}
+
+/// What a step says and leaves, but for a line beside it.
+fn answered(model: &Model, start: &Marking, plan: &StepPlan) -> (usize, Option<usize>, Vec<Line>) {
+    let mut marking = start.clone();
+    let (number, beside) = match step(model, &mut marking, &step_text(plan)) {
+        Ok(_) => (0, None),
+        Err(refusal) if refusal.beside_a_line() => (refusal.number, None),
+        Err(refusal) => (refusal.number, Some(refusal.beside)),
+    };
+    (number, beside, marking.lines())
+}
+
+/// A step whose likes are written together says and leaves what it does net-token by net-token, and so does a start.
+#[test]
+fn likes_together_or_line_by_line() {
+    let mut answers = BTreeMap::new();
+    for case in 0..2_000 {
+        let (mut rng, plant) = made(case);
+        let (model, start) = read_model(&model_text(&plant.model, &plant.start)).unwrap();
+        let single = |line: &Line| vec![Line::new(line.row, 1); line.times as usize];
+        let racks: u64 = plant.start.iter().map(|line| line.times).sum();
+        if racks <= LINES as u64 {
+            let lines: Vec<Line> = plant.start.iter().flat_map(single).collect();
+            assert_eq!(read_model(&model_text(&plant.model, &lines)).unwrap().1, start);
+        }
+        for _ in 0..8 {
+            let firing = firing_step(&mut rng, &model, &start.lines());
+            let Some(mut plan) = firing.or_else(|| poor_step(&mut rng, &model, &start.lines())) else {
+                continue;
+            };
+            if rng.percent(50) {
+                spoil(&mut rng, &model, &mut plan);
+            }
+            let mut together = plan.clone();
+            fold(&mut rng, &mut together);
+            let lines = |plan: &StepPlan| plan.taken.len() + plan.given.len();
+            let few = plan.taken.len().max(plan.given.len()) <= LINES;
+            if few && lines(&together) < lines(&plan) {
+                let answer = answered(&model, &start, &plan);
+                assert_eq!(answered(&model, &start, &together), answer, "case {case}");
+                *answers.entry(answer.0).or_insert(0) += 1;
+            }
+        }
+    }
+    assert!([0, 8, 9, 10, 11, 12].iter().all(|number| answers.get(number) > Some(&20)), "{answers:?}");
 }
 
 #[test]
@@ -146,8 +196,8 @@ fn plants_of_every_size_are_right() {
         let (_, plant) = made(case);
         let text = model_text(&plant.model, &plant.start);
         let (model, start) = read_model(&text).unwrap_or_else(|refusal| panic!("case {case}: {refusal:?}"));
-        assert!(model == plant.model && start == Marking::new(plant.start));
-        let sizes = [model.nets.len(), model.places(), model.events.len(), start.rows().len()];
+        assert!(model == plant.model && start == Marking::new(&plant.start));
+        let sizes = [model.nets.len(), model.places(), model.events.len(), start.lines().len()];
         most = std::array::from_fn(|at| most[at].max(sizes[at]));
     }
     assert_eq!(most, [NETS, PLACES, EVENTS, TOKENS]);
@@ -155,7 +205,7 @@ fn plants_of_every_size_are_right() {
 
 /// The text of a model with its idle events as `alone` ones, made line by line, if each stands at every place of its net; of
 /// like ones the first is kept.
-fn alone_text(model: &Model, start: &[Row]) -> Option<String> {
+fn alone_text(model: &Model, start: &[Line]) -> Option<String> {
     let text = String::from_utf8(model_text(model, start)).unwrap();
     let (head, rest) = text.split_once("events=").unwrap();
     let (_, rest) = rest.split_once('\n').unwrap();

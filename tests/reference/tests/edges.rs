@@ -1,6 +1,8 @@
 //! The listing and the edges of the paper.
 
 use reference::calls::{self, Answer, Converted, Spread, Stepped, Weighed, Written};
+use reference::generate::counted::{greatest, start_of, with_start, COUNTED};
+use reference::generate::texts::step_of;
 use reference::held::{HeldMarking, HeldModel};
 use reference::own_run::OwnRun;
 use reference::{listing::listing, model};
@@ -151,14 +153,244 @@ fn a_rack_leaves_only_where_it_is_emptied() {
     assert_eq!(stepped(model, &step(2, "1,1", 7)), (10, 1));
 }
 
+/// One hall with 256 unlike racks, each there once, and a move of 1 to `given`.
+fn unlike_racks(given: usize) -> String {
+    let mut text = format!(
+        "eos=1\nnets=1\nplaces=1\ntype=1\nmoves=1\npre=1\npost={given}\ninner=1\nsteps=0\nevents=1\nevent=1\n\
+        sync=\nstart=256\n"
+    );
+    text.extend((0..256).map(|count| format!("token=1:{}\n", 10 * count)));
+    text
+}
+
 #[test]
-fn room_for_256() {
-    let two = "fire=1\ntake=1\ntoken=1:\ngive=2\ntoken=1:\ntoken=1:\n";
-    let one = "fire=1\ntake=1\ntoken=1:\ngive=1\ntoken=1:\n";
-    assert_eq!(stepped(&black_hall(256, 2), two), (12, 4));
-    assert_eq!(stepped(&black_hall(255, 2), two), (0, 0));
-    assert_eq!(stepped(&black_hall(256, 1), one), (0, 0));
+fn room_for_256_unlike() {
+    let step = |taken: &str, given: &[&str]| String::from_utf8(step_of(1, &[taken], given)).unwrap();
+    assert_eq!(stepped(&unlike_racks(2), &step("1:10", &["1:9", "1:1"])), (12, 4));
+    assert_eq!(stepped(&unlike_racks(1), &step("1:10", &["1:10"])), (0, 0));
+    // One of the given is there, both are, or they are alike.
+    assert_eq!(stepped(&unlike_racks(2), &step("1:30", &["1:29", "1:1"])), (12, 4));
+    assert_eq!(stepped(&unlike_racks(2), &step("1:30", &["1:10", "1:20"])), (0, 0));
+    assert_eq!(stepped(&unlike_racks(2), &step("1:30", &["1:15", "1:15"])), (0, 0));
+    assert_eq!(stepped(&unlike_racks(2), &step("1:30", &["1:15*2"])), (0, 0));
+    // The one taken stays, since there was another like it.
+    let twice = unlike_racks(1).replacen("token=1:30\n", "token=1:30*2\n", 1);
+    assert_eq!(stepped(&twice, &step("1:30", &["1:30"])), (0, 0));
+    let joined = unlike_racks(2).replacen("token=1:30\n", "token=1:30*2\n", 1);
+    assert_eq!(stepped(&joined, &step("1:30", &["1:20", "1:10"])), (0, 0));
+    assert_eq!(stepped(&joined, &step("1:30", &["1:21", "1:9"])), (12, 4));
+    assert_eq!(stepped(&joined, &step("1:30", &["1:15*2"])), (12, 4));
     assert_eq!(refused(&black_hall(257, 1)), (3, 10, 7));
+}
+
+/// A new rack, unlike all, in the place of one that goes.
+#[test]
+fn a_new_rack_among_256() {
+    let model = unlike_racks(1).replacen("steps=0\n", "steps=1\npre=0\npost=1\n", 1);
+    let model = model.replacen("sync=\n", "sync=1\n", 1);
+    let step = |taken: &str, given: &str| String::from_utf8(step_of(1, &[taken], &[given])).unwrap();
+    assert_eq!(stepped(&model, &step("1:30", "1:31")), (0, 0));
+    let twice = model.replacen("token=1:30\n", "token=1:30*2\n", 1);
+    assert_eq!(stepped(&twice, &step("1:30", "1:31")), (12, 4));
+}
+
+/// The answer to `COUNTED` with this start.
+fn counted(tokens: &[&str]) -> (usize, usize, usize) {
+    let text = with_start(&start_of(tokens));
+    let Answer { number, beside, column } = calls::read_model(&text).answer;
+    let (model, _) = read(&String::from_utf8(with_start(b"start=0\n")).unwrap());
+    let alone = calls::read_marking(&model, &start_of(tokens)).answer;
+    let before = if number == 0 { 0 } else { COUNTED.lines().count() };
+    assert_eq!((alone.number, alone.beside + before, alone.column), (number, beside, column));
+    (number, alone.beside, column)
+}
+
+#[test]
+fn likes_of_a_start() {
+    assert_eq!(counted(&["3:*65535"]), (0, 0, 0));
+    assert_eq!(counted(&["3:*65534", "3:"]), (0, 0, 0));
+    assert_eq!(counted(&["3:*65536"]), (3, 2, 10));
+    assert_eq!(counted(&["3:*65535", "3:"]), (12, 3, 0));
+    assert_eq!(counted(&["3:", "3:*65535"]), (12, 3, 0));
+    assert_eq!(counted(&["3:*40000", "1:0,0", "3:*25535"]), (0, 0, 0));
+    assert_eq!(counted(&["3:*40000", "1:0,0", "3:*25536"]), (12, 4, 0));
+    assert_eq!(counted(&["1:7,0*65535", "1:0,7", "2:7,0"]), (0, 0, 0));
+    assert_eq!(counted(&["1:7,0*65535", "1:0,7", "1:7,0"]), (12, 4, 0));
+    // After the 2 and 3 of its own line, before those of a later one.
+    assert_eq!(counted(&["3:*65535", "3:*65536"]), (3, 3, 10));
+    assert_eq!(counted(&["3:*65535", "3:*1"]), (2, 3, 11));
+    assert_eq!(counted(&["1:7,0*65535", "1:7,70000"]), (3, 3, 11));
+    assert_eq!(counted(&["3:*65535", "3:", "9:"]), (12, 3, 0));
+    assert_eq!(counted(&["3:*65535", "3:", "x"]), (12, 3, 0));
+    assert_eq!(counted(&["3:*65535", "9:", "3:"]), (3, 3, 7));
+    let (model, _) = read(&String::from_utf8(with_start(b"start=0\n")).unwrap());
+    for rest in ["", "x", "token=3:\ntoken=3:\ntoken=3:\n"] {
+        let text = format!("start=3\ntoken=3:*65535\ntoken=3:\n{rest}");
+        let answer = calls::read_marking(&model, text.as_bytes()).answer;
+        assert_eq!(answer, Answer { number: 12, beside: 3, column: 0 });
+    }
+}
+
+/// Lines are counted, whatever they mean.
+#[test]
+fn lines_of_likes() {
+    assert_eq!(counted(&["1:0,0*255"; 256]), (0, 0, 0));
+    assert_eq!(counted(&["1:0,0"; 257]), (3, 1, 7));
+    assert_eq!(counted(&["1:0,0*257"; 256]), (12, 257, 0));
+    let mut lines = vec!["1:0,0*256"; 255];
+    assert_eq!(counted(&lines), (0, 0, 0));
+    lines.push("1:0,0*255");
+    assert_eq!(counted(&lines), (0, 0, 0));
+    lines[255] = "1:0,0*256";
+    assert_eq!(counted(&lines), (12, 257, 0));
+}
+
+/// The answer to a step of `COUNTED` on this start.
+fn step_on(start: &[&str], event: usize, taken: &[&str], given: &[&str]) -> (usize, usize) {
+    let text = String::from_utf8(with_start(&start_of(start))).unwrap();
+    stepped(&text, &String::from_utf8(step_of(event, taken, given)).unwrap())
+}
+
+#[test]
+fn no_more_than_65_535_alike() {
+    assert_eq!(step_on(&["1:0,0*65534"], 2, &[], &["1:0,0"]), (0, 0));
+    assert_eq!(step_on(&["1:0,0*65535"], 2, &[], &["1:0,0"]), (12, 3));
+    assert_eq!(step_on(&["3:*65535"], 5, &["3:"], &["3:"]), (0, 0));
+    assert_eq!(step_on(&["3:*65535"], 4, &[], &["3:"]), (12, 3));
+    assert_eq!(step_on(&["3:*65282"], 6, &["3:*2"], &["3:*255"]), (0, 0));
+    assert_eq!(step_on(&["3:*65283"], 6, &["3:*2"], &["3:*255"]), (12, 4));
+    assert_eq!(step_on(&["3:*65283"], 6, &["3:", "3:"], &["3:*200", "3:*55"]), (12, 5));
+    // 11 comes before it.
+    assert_eq!(step_on(&["1:1,0*65535"], 7, &["2:1,0"], &["1:1,0"]), (11, 3));
+    assert_eq!(step_on(&["1:1,0*65535", "2:1,0"], 7, &["2:1,0"], &["1:1,0"]), (12, 4));
+}
+
+#[test]
+fn likes_taken() {
+    let start = ["1:0,0*3", "1:1,0"];
+    assert_eq!(step_on(&start, 3, &["1:0,0*4"], &["2:0,0*4"]), (11, 3));
+    assert_eq!(step_on(&start, 3, &["1:0,0*3", "1:0,0"], &["2:0,0*4"]), (11, 4));
+    assert_eq!(step_on(&start, 3, &["1:0,0*2", "1:0,0*2"], &["2:0,0*4"]), (11, 4));
+    assert_eq!(step_on(&start, 3, &["1:0,0*2", "1:1,0", "1:0,0"], &["2:1,0", "2:0,0*3"]), (0, 0));
+    assert_eq!(step_on(&start, 3, &["1:1,0*2", "1:0,0*2"], &["2:1,0*2", "2:0,0*2"]), (11, 3));
+    assert_eq!(step_on(&["1:0,0*4"], 3, &["1:0,0", "1:0,0*3"], &["2:0,0*4"]), (0, 0));
+    assert_eq!(step_on(&["1:65535,0*4"], 3, &["1:65535,0*4"], &["2:65535,0*4"]), (0, 0));
+    assert_eq!(step_on(&["1:65535,0*4"], 3, &["1:65535,0*4"], &["2:65535,0*3", "2:65534,0"]), (10, 1));
+}
+
+/// As many as arcs say, all likes counted; `give` stands behind the lines of the take.
+#[test]
+fn likes_in_projections() {
+    let start = ["1:0,0*4", "2:0,0"];
+    assert_eq!(step_on(&start, 1, &["1:0,0*2"], &["2:0,0"]), (8, 2));
+    assert_eq!(step_on(&start, 1, &["1:0,0"], &["2:0,0*2"]), (8, 4));
+    assert_eq!(step_on(&start, 3, &["1:0,0*3", "1:0,0"], &["2:0,0*3"]), (8, 5));
+    assert_eq!(step_on(&start, 1, &["1:0,0*65535", "1:0,0*2"], &["2:0,0"]), (8, 2));
+    assert_eq!(step_on(&start, 2, &["3:*65535", "3:"], &["1:0,0"]), (8, 2));
+    let four = ["1:0,2*4"];
+    assert_eq!(step_on(&four, 3, &["1:0,2*4"], &["2:0,4*2", "2:0,0*2"]), (0, 0));
+    assert_eq!(step_on(&four, 3, &["1:0,2*4"], &["2:0,2*3", "2:0,3"]), (10, 1));
+}
+
+#[test]
+fn blocks_of_256_lines() {
+    let likes = |lines: usize| vec!["3:"; lines];
+    assert_eq!(step_on(&["3:*300"], 6, &["3:*2"], &likes(255)), (0, 0));
+    assert_eq!(step_on(&["3:*300"], 6, &["3:*2"], &likes(256)), (8, 4));
+    assert_eq!(step_on(&["3:*300"], 6, &["3:*2"], &likes(257)), (3, 4));
+    assert_eq!(step_on(&["3:*300"], 5, &likes(256), &["3:"]), (8, 2));
+    assert_eq!(step_on(&["3:*300"], 5, &likes(257), &["3:"]), (3, 2));
+}
+
+#[test]
+fn likes_of_a_rack_that_is_alone() {
+    let twice = ALONE.replacen("token=1:1,0\n", "token=1:1,0*2\n", 1);
+    let step = |taken: &str, given: &str| {
+        stepped(&twice, &format!("fire=2\ntake=1\ntoken={taken}\ngive=1\ntoken={given}\n"))
+    };
+    assert_eq!(step("1:1,0", "1:1,0"), (0, 0));
+    assert_eq!(step("1:1,0*2", "1:1,0*2"), (8, 2));
+    assert_eq!(step("1:1,0*2", "1:1,0"), (8, 2));
+    assert_eq!(step("1:1,0", "1:1,0*2"), (8, 4));
+}
+
+/// The text that is written of a marking of `COUNTED`.
+fn written(start: &[&str]) -> String {
+    let (model, start) = read(&String::from_utf8(with_start(&start_of(start))).unwrap());
+    let mut out = [0; 400];
+    let Written { number, bytes, .. } = calls::write_marking(&model, &start, &mut out);
+    assert_eq!(number, 0);
+    String::from_utf8(out[..bytes].to_vec()).unwrap()
+}
+
+#[test]
+fn written_lines_do_not_repeat() {
+    assert_eq!(written(&["3:", "3:"]), "start=1\ntoken=3:*2\n");
+    assert_eq!(written(&["3:*5"]), "start=1\ntoken=3:*5\n");
+    assert_eq!(written(&["3:*65534", "3:"]), "start=1\ntoken=3:*65535\n");
+    assert_eq!(
+        written(&["2:0,0*2", "1:1,0", "1:0,9*7", "3:", "1:0,10", "1:1,0*2"]),
+        "start=5\ntoken=1:0,9*7\ntoken=1:0,10\ntoken=1:1,0*3\ntoken=2:0,0*2\ntoken=3:\n"
+    );
+    let model = String::from_utf8(with_start(&start_of(&["1:0,0*2", "3:", "1:0,0"]))).unwrap();
+    let trace = "run=1\nfire=4\ntake=0\ngive=1\ntoken=3:\nfire=1\ntake=1\ntoken=1:0,0\ngive=1\ntoken=2:0,0\n";
+    let out = listing(model.as_bytes(), b"inv=1\nouter=0,0,0\ninner=0,0\n", trace.as_bytes());
+    assert_eq!(String::from_utf8(out).unwrap(), "model=0,0,0\nweights=6,3,0\n");
+    let out = listing(model.as_bytes(), b"inv=1\nouter=1,1,1\ninner=0,0\n", trace.as_bytes());
+    assert_eq!(String::from_utf8(out).unwrap(), "model=0,0,0\nweights=7,2,0\n");
+}
+
+#[test]
+fn likes_in_a_listing() {
+    let [model, weights] = two_black_halls();
+    let trace = "run=1\nfire=1\ntake=2\ntoken=1:\ntoken=1:*2\ngive=1\ntoken=2:*3\n";
+    let trace = format!("{trace}fire=1\ntake=1\ntoken=1:*3\ngive=1\ntoken=2:*3\n");
+    let printed = "model=0,0,0\nweights=0,0,0\nsum=65537\ncover=0\nfired=1\nstop=12,4,0\nheld=2\n\
+        token=1:*3\ntoken=2:*65534\n";
+    let out = listing(model.as_bytes(), weights.as_bytes(), trace.as_bytes());
+    assert_eq!(String::from_utf8(out).unwrap(), printed);
+}
+
+/// Two black halls with a move of 3 from the one to the other, and weights that count.
+fn two_black_halls() -> [String; 2] {
+    let model = "eos=1\nnets=0\nplaces=2\ntype=0,0\nmoves=1\npre=3,0\npost=0,3\nevents=1\nevent=1\n\
+        start=3\ntoken=2:*65531\ntoken=1:*2\ntoken=1:*4\n";
+    [model.to_string(), "inv=1\nouter=1,1\n".to_string()]
+}
+
+#[test]
+fn held_likes() {
+    let (model, start) =
+        read(&String::from_utf8(with_start(&start_of(&["1:0,1*9", "1:0,2*3", "3:"]))).unwrap());
+    let entry = |at: usize| (start.entries[at].token.place, start.entries[at].times);
+    assert_eq!((start.len, [0, 1, 2, 3].map(entry)), (3, [(1, 9), (1, 3), (3, 1), (0, 0)]));
+    let test = |change: &dyn Fn(&mut HeldMarking)| {
+        let mut held = start.clone();
+        change(&mut held);
+        calls::test_marking(&model, &held)
+    };
+    assert!(test(&|_| ()));
+    assert!(test(&|held| held.entries[0].times = 65_535));
+    assert!(!test(&|held| held.entries[0].times = 0));
+    assert!(!test(&|held| held.entries[2].times = 0));
+    assert!(!test(&|held| held.entries[3].times = 1));
+    assert!(!test(&|held| held.entries[255].times = 65_535));
+    assert!(!test(&|held| held.entries.swap(0, 1)));
+    for (before, behind) in [(1, 1), (1, 2), (2, 1)] {
+        assert!(!test(&|held| {
+            held.entries[1].token = held.entries[0].token;
+            (held.entries[0].times, held.entries[1].times) = (before, behind);
+        }));
+        assert!(test(&|held| (held.entries[0].times, held.entries[1].times) = (before, behind)));
+    }
+    let mut full = HeldMarking::empty();
+    full.len = 256;
+    for (at, entry) in full.entries.iter_mut().enumerate() {
+        (entry.token.place, entry.token.counts[0], entry.times) = (1, at as u16, 65_535);
+    }
+    assert!(calls::test_marking(&model, &full));
+    full.len = 257;
+    assert!(!calls::test_marking(&model, &full));
 }
 
 #[test]
@@ -166,6 +398,24 @@ fn cover_of_256_racks() {
     assert_eq!(weighed(&full_hall(256), "inv=1\nouter=1\ninner=1\n"), passed(257, 0));
     assert_eq!(weighed(&full_hall(256), "inv=1\nouter=2\ninner=1\n"), passed(513, 1));
     assert_eq!(weighed(&full_hall(255), "inv=1\nouter=1\ninner=1\n"), passed(256, 1));
+}
+
+/// Racks are bounded as before, whether they are alike or not.
+#[test]
+fn cover_of_likes() {
+    let hall = |start: &str| {
+        format!(
+            "eos=1\nnets=1\nplaces=1\ntype=1\nmoves=0\ninner=1\nsteps=0\nevents=0\nstart=1\ntoken={start}\n"
+        )
+    };
+    let [one, two] = ["inv=1\nouter=1\ninner=1\n", "inv=1\nouter=2\ninner=1\n"];
+    assert_eq!(weighed(&hall("1:0*256"), one), passed(256, 1));
+    assert_eq!(weighed(&hall("1:0*257"), one), passed(257, 0));
+    assert_eq!(weighed(&hall("1:1*128"), one), passed(256, 1));
+    assert_eq!(weighed(&hall("1:1*129"), one), passed(258, 0));
+    assert_eq!(weighed(&hall("1:0*256"), two), passed(512, 1));
+    assert_eq!(weighed(&hall("1:0*257"), two), passed(514, 0));
+    assert_eq!(weighed(&hall("1:65535*65535"), one), passed(65_535 * 65_536, 0));
 }
 
 #[test]
@@ -202,25 +452,26 @@ fn stages_17_to_25_are_kept() {
     let text =
         format!("eos=1\nnets=1\nplaces=1\ntype=1\nmoves=0\ninner=25\nsteps=0\nevents=0\nstart=1\n{token}");
     let (model, start) = read(&text);
-    assert_eq!(start.rows[0][1..=25], std::array::from_fn::<u16, 25, _>(|stage| stage as u16 + 1));
+    let counts = start.entries[0].token.counts;
+    assert_eq!(counts[..25], std::array::from_fn::<u16, 25, _>(|stage| stage as u16 + 1));
     let mut out = [0; 200];
     let Written { bytes, .. } = calls::write_marking(&model, &start, &mut out);
     assert_eq!(out[..bytes], *format!("start=1\n{token}").as_bytes());
 }
 
+/// No marking has the same full rack 256 times side by side, so the bound itself is not reached.
 #[test]
-fn sums_at_their_bound() {
-    let counts = vec!["65535"; 32].join(",");
-    let weights = |sign: &str| {
-        let inner = vec![format!("{sign}1000"); 32].join(",");
-        format!("inv=1\nouter={sign}1000\ninner={inner}\n")
-    };
-    let mut text =
-        String::from("eos=1\nnets=1\nplaces=1\ntype=1\nmoves=0\ninner=32\nsteps=0\nevents=0\nstart=256\n");
-    text += &format!("token=1:{counts}\n").repeat(256);
-    assert_eq!(weighed(&text, &weights("")), passed(536_862_976_000, 0));
-    let below = Weighed { below: 536_862_976_000, ..Weighed::default() };
-    assert_eq!(weighed(&text, &weights("-")), below);
+fn sums_near_their_bound() {
+    let (model, weights) = greatest();
+    let [above, below, ones] = weights.map(|text| {
+        let weights = String::from_utf8(text).unwrap();
+        weighed(&String::from_utf8(model.clone()).unwrap(), &weights)
+    });
+    let inside = 256 * 32 * 65_535 - 32 * (1 + 2 + 3 + 4 + 5 + 6 + 7);
+    let sum = 65_535 * (256 + inside);
+    assert_eq!((above, ones), (passed(1_000 * sum, 0), passed(sum, 0)));
+    assert_eq!(below, Weighed { below: 1_000 * sum, ..Weighed::default() });
+    assert!(1_000 * sum < 35_183_315_132_160_000 && 1_000 * sum > 35_183_200_000_000_000);
 }
 
 #[test]
@@ -303,8 +554,8 @@ fn the_rules_own_run() {
     assert!(run.feed(format!("{FIRST}what follows").as_bytes()));
     assert!(!run.feed(SECOND.as_bytes()));
     assert!(!run.feed(b""));
-    let rows = run.rows().unwrap();
-    assert_eq!(rows.iter().map(|row| row[..3].to_vec()).collect::<Vec<_>>(), [[1, 0, 0], [2, 0, 1]]);
+    let lines = run.lines().unwrap();
+    assert_eq!(lines.iter().map(|line| line.row[..3].to_vec()).collect::<Vec<_>>(), [[1, 0, 0], [2, 0, 1]]);
 }
 
 #[test]
@@ -316,9 +567,36 @@ fn the_rules_own_run_has_no_limits() {
     let beyond = "fire=1\ntake=1\ntoken=1:65535\ngive=1\ntoken=1:65536\n";
     assert_eq!(stepped(text, beyond), (3, 5));
     assert!(run.feed(beyond.as_bytes()));
-    assert_eq!(run.rows(), None);
+    assert_eq!(run.lines(), None);
     let (token, likes) = run.state().first_key_value().unwrap();
-    assert_eq!((token.inside[0].to_string(), *likes), ("65536".to_string(), 1));
+    assert_eq!([token.inside[0].to_string(), likes.to_string()], ["65536", "1"]);
+}
+
+/// The text's number of likes may be of any size from 2 on; the state's, too.
+#[test]
+fn likes_in_the_rules_own_run() {
+    let text = String::from_utf8(with_start(&start_of(&["3:*65535", "1:0,0*2", "1:0,0"]))).unwrap();
+    let (model, start) = model::read_model(text.as_bytes()).unwrap();
+    let mut run = OwnRun::new(&model, &start);
+    assert!(!run.feed(&step_of(5, &["3:*1"], &["3:"])));
+    assert!(!run.feed(&step_of(5, &["3:"], &["3:*1"])));
+    assert!(!run.feed(&step_of(5, &["3:*0"], &["3:"])));
+    assert!(!run.feed(&step_of(5, &["3:*01"], &["3:"])));
+    assert!(!run.feed(&step_of(5, &["3:*"], &["3:"])));
+    assert!(!run.feed(&step_of(5, &["3:*2*2"], &["3:"])));
+    assert!(!run.feed(&step_of(5, &["3:*18446744073709551617"], &["3:"])));
+    assert!(!run.feed(&step_of(5, &["3:*2"], &["3:*2"])));
+    assert!(!run.feed(&step_of(3, &["1:0,0*4"], &["2:0,0*4"])));
+    assert_eq!(run.lines(), Some(start.lines()));
+    for _ in 0..3 {
+        assert!(run.feed(&step_of(6, &["3:", "3:"], &["3:*254", "3:"])));
+    }
+    assert_eq!(run.lines(), None);
+    let black = run.state().last_key_value().unwrap();
+    assert_eq!((black.0.place, black.1.to_string()), (3, (65_535 + 3 * 253).to_string()));
+    assert!(run.feed(&step_of(2, &[], &["1:0,0"])));
+    assert!(run.feed(&step_of(3, &["1:0,0*2", "1:0,0*2"], &["2:0,0*3", "2:0,0"])));
+    assert_eq!(run.state().len(), 2);
 }
 
 /// Two halls of a net, one of another with as many inner places, and a black one. The first event moves a token within, the

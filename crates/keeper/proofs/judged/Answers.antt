@@ -15,7 +15,7 @@ use Rattle.marking.proofs.SizeLaws.{nets-small, type-few}
 use Rattle.keeper.specs.declared.HeldWeights.{HeldWeights}
 use Rattle.keeper.proofs.HeldRows.{Kept}
 use Rattle.keeper.proofs.ZeroLaws.{zero_is}
-use Rattle.keeper.proofs.JudgeLaws.{model-held, marking_held, tokens-few, places_in, turned_zero, turned-event, none_turned, passed_is}
+use Rattle.keeper.proofs.JudgeLaws.{model-held, marking_held, entries_few, places_in, turned_zero, turned-event, none_turned, passed_is}
 use Rattle.std.specs.Prelude.{Ok}
 use Rattle.keeper.proofs.judged.Goals as goal
 
@@ -34,14 +34,14 @@ returns-then-all_zero c =
     turned_zero _ _ w _ (zero ∙ c.if-all_zero.true)
 
 pub held-requires : goal.held-requires
-held-requires c = tokens-few _ _ c.requires.both
+held-requires c = entries_few _ _ c.requires.both
 
 pub marking_weight-sum-requires : goal.marking_weight-sum-requires
 marking_weight-sum-requires c =
-    let few = tokens-few _ _ c.requires.both in
+    let few = entries_few _ _ c.requires.both in
     let k = c.args.k.now in
-    rw c.held.ensures.tokens
-    (omega (arith, few, length-take k.len k.tokens), places_in _ _ c.requires.both, type-few _ (model-held _ _ c.requires.both))
+    rw c.held.ensures.entries
+    (omega (arith, few, length-take k.len k.entries), places_in _ _ c.requires.both, type-few _ (model-held _ _ c.requires.both))
 
 pub covers-cover-requires : goal.covers-cover-requires
 covers-cover-requires c =
@@ -64,6 +64,6 @@ returns c =
     let kept : Kept m w = record { held = model-held _ _ c.requires.both; types = search rules; objects = c.requires.room.0; shaped = h.shaped } in
     let zero = zero_is m w kept ∙ sym (ap (λ (x : HeldWeights). every (every is_zero) x.rows) h.is) ∙ sym c.all_zero.ensures in
     let sum : to_z w64 (of_z w64 c.marking_weight-sum.result) ≡ c.marking_weight-sum.result = omega (arith, ints) in
-    ap Ok (passed_is m w kept c.args.k.now (marking_held _ _ c.requires.both) c.args.held.now h.is c.marking_weight-sum.result (rw c.held.ensures.tokens at c.marking_weight-sum.ensures.value) _ sum _ _
+    ap Ok (passed_is m w kept c.args.k.now (marking_held _ _ c.requires.both) c.args.held.now h.is c.marking_weight-sum.result (rw c.held.ensures.entries at c.marking_weight-sum.ensures.value) _ sum _ _
     (c.covers-cover.ensures ∙ ap (covered c.args.most m.places m.nets m.objects c.args.held.now.rows) (c.unsigned_abs.ensures.value ∙ ap nat_abs sum)))
     ∙ none_turned _ _ w _ (zero ∙ c.if-all_zero.false) _ (c.unbalanced.ensures.first w h) c.in_default.is

@@ -22,7 +22,7 @@ use Rattle.listing.proofs.after_weights.Goals.{After-put_triple, After-trace_fil
 -- the marking that the run leaves is held
 held : (c : After-trace_file-ran) → held_both c.args.m c.trace_file-ran.new.k ≡ true
 held c =
-    let long : length c.args.k.tokens ≡ 256 = (marking_sized c.args.k _ c.well_formed.1.0).long in
+    let long : length c.args.k.entries ≡ 256 = (marking_sized c.args.k _ c.well_formed.1.0).long in
     subst (λ (r : Ran). held_both c.args.m r.marking ≡ true) (sym c.trace_file-ran.ensures)
     (trace_held c.args.m c.args.k c.args.trace.now (record { held = c.requires.0; long = long }))
 

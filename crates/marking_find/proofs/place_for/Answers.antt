@@ -8,8 +8,8 @@ use Rattle.marking_find.proofs.place_for.Goals as goal
 pub returns : goal.returns
 returns c =
     let t = c.args.t.now in
-    let ts = c.args.tokens.now in
-    let e = place_is t ts _ c.requires c.partition_point.ensures.bound
-    (IsPartitionPoint-from_clause (λ s. not (before t s)) ts _ c.partition_point.ensures.partitioned (parted t ts c.requires)
+    let es = c.args.entries.now in
+    let e = place_is t es _ c.requires c.partition_point.ensures.bound
+    (IsPartitionPoint-from_clause (λ e. not (before t e.token)) es _ c.partition_point.ensures.partitioned (parted t es c.requires)
     (λ a r f e. search (rules, lt_before))) in
     (e, c.partition_point.ensures.bound)

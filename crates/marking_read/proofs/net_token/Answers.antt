@@ -1,4 +1,4 @@
--- `net_token` reads the line of a net-token, which may be refused.
+-- `net_token` reads the line of net-tokens, which may be refused.
 use Rattle.text.proofs.Basics.{handed_on}
 use Rattle.marking.specs.Held.{as_sizes}
 use Rattle.marking.specs.Reading.{limits}

@@ -10,4 +10,4 @@ new-stepper-requires c = (both_model _ _ c.requires.0, omega (arith, c.room.ensu
 pub steps-fired-requires : goal.steps-fired-requires
 steps-fired-requires c =
     rw c.new-stepper.ensures.0
-    (record { held = c.requires.0; within = c.requires.1; long = c.room.ensures.tokens; room_is = c.new-stepper.ensures.1 ∙ c.room.ensures.value }, c.requires.2)
+    (record { held = c.requires.0; within = c.requires.1; long = c.room.ensures.entries; room_is = c.new-stepper.ensures.1 ∙ c.room.ensures.value }, c.requires.2)

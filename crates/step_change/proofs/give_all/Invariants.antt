@@ -1,6 +1,7 @@
--- `give_all` puts net-tokens in one by one. The loop's invariant: so many are put in, and the others are to come.
-use Rattle.step.proofs.MoveLaws.{Giving}
+-- `give_all` gives the lines in one by one. The loop's invariant: so many are given.
+use Rattle.marking.specs.Tokens.{tokens_in}
+use Rattle.step_change.proofs.LineLaws.{Giving}
 use Rattle.step_change.proofs.give_all.Given as goal
 
-abbrev pub invariant-loop-t : goal.invariant-loop-t
-invariant-loop-t l = Giving l.initial.k l.given l.t-index l.k
+abbrev pub invariant-loop-i : goal.invariant-loop-i
+invariant-loop-i l = Giving l.room (tokens_in l.initial.k) l.lines l.i l.k

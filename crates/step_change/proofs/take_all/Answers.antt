@@ -1,18 +1,17 @@
-use native.Mathlib.Omega.{arith}
-use Rattle.marking.proofs.TokenOrder.{outside}
-use Rattle.step.proofs.MoveLaws.{taking-start, taking_turn, taking_done}
+-- `take_all` takes the lines out one by one, up to the first that takes more than there is.
+use Rattle.marking_edit.proofs.Change.{past}
+use Rattle.step_change.proofs.LineLaws.{line_times, taking_turn, taking_stop}
 use Rattle.step_change.proofs.take_all.Goals as goal
 
-pub loop-t-init : goal.loop-t-init
-loop-t-init c = taking-start _ _ c.requires.0 c.requires.1
-
 pub take_out-requires : goal.take_out-requires
-take_out-requires c = c.loop-t.invariant.kept
+take_out-requires c =
+    let p = line_times c.args.lines.now c.loop-i.i past c.requires.1 c.loop-i-test.true in
+    (p.0, c.loop-i.invariant.kept)
 
-pub loop-t-preserved : goal.loop-t-preserved
-loop-t-preserved c = taking_turn _ _ _ _ c.loop-t.invariant outside _ _ c.loop-t-test.true c.take_out.ensures
+pub returns-then-not-take_out : goal.returns-then-not-take_out
+returns-then-not-take_out c =
+    taking_stop _ c.args.lines.now _ _ past c.loop-i-test.true c.loop-i.invariant c.if-not-take_out.ensures
 
-pub returns : goal.returns
-returns c =
-    let g = c.loop-t.invariant in
-    (g.kept, omega (arith, g.len), taking_done _ _ _ _ g c.loop-t-test.false)
+pub loop-i-preserved : goal.loop-i-preserved
+loop-i-preserved c =
+    taking_turn _ c.args.lines.now _ _ past c.loop-i-test.true c.loop-i.invariant c.if-not-take_out.ensures

@@ -1,6 +1,7 @@
--- `take_all` takes net-tokens out one by one. The loop's invariant: so many are taken, and the others are still there.
-use Rattle.step.proofs.MoveLaws.{Taking}
+-- `take_all` takes the lines out one by one. The loop's invariant: so many are taken.
+use Rattle.marking.specs.Tokens.{tokens_in}
+use Rattle.step_change.proofs.LineLaws.{Taking}
 use Rattle.step_change.proofs.take_all.Given as goal
 
-abbrev pub invariant-loop-t : goal.invariant-loop-t
-invariant-loop-t l = Taking l.initial.k l.taken l.t-index l.k
+abbrev pub invariant-loop-i : goal.invariant-loop-i
+invariant-loop-i l = Taking (tokens_in l.initial.k) l.lines l.i l.k

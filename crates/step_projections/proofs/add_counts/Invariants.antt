@@ -2,9 +2,9 @@
 use Prim.Native.Nat.{ℕ, ◌≤◌}
 use mathlib.Core.Path.{◌≡◌}
 use lib.ListN.{length, take, get_or}
-use Rattle.eos.specs.Vector.{◌⊕◌}
+use Rattle.eos.specs.Vector.{◌⊕◌, times}
 use Rattle.step_projections.proofs.add_counts.Given as goal
 
 abbrev pub invariant-loop-k : goal.invariant-loop-k
 invariant-loop-k l =
-    (length l.row ≡ 32) × (l.row ≡ l.initial.row ⊕ take l.k l.counts) × ((i : ℕ) → get_or l.counts i 0 ≤ 65535)
+    (length l.row ≡ 32) × (l.row ≡ l.initial.row ⊕ take l.k (times l.n l.counts)) × ((i : ℕ) → get_or l.counts i 0 ≤ 65535)

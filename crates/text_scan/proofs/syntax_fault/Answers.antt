@@ -1,5 +1,4 @@
 -- `syntax_fault` meets its contract.
-use mathlib.Core.Path.{◌∙◌}
 use Rattle.text.specs.Answers.{syntax_fault}
 use Rattle.text_scan.proofs.syntax_fault.Goals as goal
 

@@ -45,18 +45,18 @@ pub returns-in_default-try_from : goal.returns-in_default-try_from
 returns-in_default-try_from c =
     let f = c.ranges in
     let high : c.args.places < c.in-Ok.field-0.value = omega (arith, f.places.fits, c.in_default-try_from.ensures) in
-    token_high _ _ _ _ _ _ f.places.fits _ _ (read (goal.at.returns-in_default-try_from c).In-Ok) high _ c.out_of_range.ensures
+    token_high _ _ _ _ _ _ _ f.places.fits _ _ (read (goal.at.returns-in_default-try_from c).In-Ok) high _ c.out_of_range.ensures
 
 pub returns-then-place-eq0 : goal.returns-then-place-eq0
 returns-then-place-eq0 c =
-    token_low _ _ _ _ _ _ c.ranges.places.fits _ _ (held (goal.at.returns-then-place-eq0 c).In-Ok-try_from) c.if-place-eq0.true _ c.out_of_range-then-place-eq0.ensures
+    token_low _ _ _ _ _ _ _ c.ranges.places.fits _ _ (held (goal.at.returns-then-place-eq0 c).In-Ok-try_from) c.if-place-eq0.true _ c.out_of_range-then-place-eq0.ensures
 
 pub returns-then-places-place : goal.returns-then-places-place
 returns-then-places-place c =
-    token_high _ _ _ _ _ _ c.ranges.places.fits _ _ (held (goal.at.returns-then-places-place c).In-Ok-try_from) c.if-places-place.true _
+    token_high _ _ _ _ _ _ _ c.ranges.places.fits _ _ (held (goal.at.returns-then-places-place c).In-Ok-try_from) c.if-places-place.true _
     c.out_of_range-then-places-place.ensures
 
 pub returns : goal.returns
 returns c =
     (rw (c.from-2.ensures, c.byte_at-n.ensures, c.from.ensures) at c.counted.ensures)
-    ∙ ap parsed (token_in _ _ _ _ _ _ c.ranges.places.fits _ _ (held (goal.at.returns c).In-Ok-try_from) c.if-place-eq0.false c.if-places-place.false)
+    ∙ ap parsed (token_in _ _ _ _ _ _ _ c.ranges.places.fits _ _ (held (goal.at.returns c).In-Ok-try_from) c.if-place-eq0.false c.if-places-place.false)

@@ -7,8 +7,8 @@ use lib.Signed.{◌≤ℤ◌}
 use Rattle.weigh.specs.Sums.{marking_weight}
 use Rattle.weigh_marking.proofs.marking_weight.Given as goal
 
-abbrev pub invariant-loop-t : goal.invariant-loop-t
-invariant-loop-t l =
-    (marking_weight l.weights l.types l.tokens ≡ l.sum +ℤ marking_weight l.weights l.types (drop l.t-index l.tokens))
-    × (neg_ℤ (pos (l.t-index * 68718461952)) ≤ℤ l.sum)
-    × (l.sum ≤ℤ pos (l.t-index * 68718461952))
+abbrev pub invariant-loop-e : goal.invariant-loop-e
+invariant-loop-e l =
+    (marking_weight l.weights l.types l.entries ≡ l.sum +ℤ marking_weight l.weights l.types (drop l.e-index l.entries))
+    × (neg_ℤ (pos (l.e-index * 4503464404024320)) ≤ℤ l.sum)
+    × (l.sum ≤ℤ pos (l.e-index * 4503464404024320))

@@ -3,7 +3,7 @@
 
 use reference::calls::{read_model, Converted, Spread, Weighed, Written};
 use reference::ffi::{MarkingRead, ModelRead, RunDone, StepDone};
-use reference::held::{HeldEvent, HeldMarking, HeldModel, HeldObjectNet};
+use reference::held::{HeldEntry, HeldEvent, HeldMarking, HeldModel, HeldObjectNet, HeldToken};
 use std::mem::{offset_of, size_of};
 
 macro_rules! size {
@@ -40,9 +40,15 @@ fn structs() {
     field!("fp_model.post", HeldModel, post, [u8; 1024]);
     field!("fp_model.objects", HeldModel, objects, [HeldObjectNet; 8]);
     field!("fp_model.events", HeldModel, events, [HeldEvent; 64]);
+    size!("fp_token", HeldToken);
+    field!("fp_token.place", HeldToken, place, u16);
+    field!("fp_token.counts", HeldToken, counts, [u16; 32]);
+    size!("fp_entry", HeldEntry);
+    field!("fp_entry.token", HeldEntry, token, HeldToken);
+    field!("fp_entry.times", HeldEntry, times, u16);
     size!("fp_marking", HeldMarking);
     field!("fp_marking.len", HeldMarking, len, usize);
-    field!("fp_marking.rows", HeldMarking, rows, [u16; 8448]);
+    field!("fp_marking.entries", HeldMarking, entries, [HeldEntry; 256]);
 }
 
 fn answers() {
@@ -84,8 +90,8 @@ fn answers() {
 }
 
 /// Each part of the model by a sum in which every place counts differently.
-fn mixed(v: &[u8]) -> usize {
-    v.iter().fold(0, |sum: usize, &b| sum.wrapping_mul(31).wrapping_add(b as usize))
+fn mixed<T: Copy + Into<usize>>(v: &[T]) -> usize {
+    v.iter().fold(0, |sum: usize, &number| sum.wrapping_mul(31).wrapping_add(number.into()))
 }
 
 fn model(path: &str) {
@@ -102,8 +108,8 @@ fn model(path: &str) {
         println!("event {} {} {}", event.kind, event.index, mixed(&event.sync));
     }
     println!("start {}", read.start.len);
-    for (i, v) in read.start.rows.iter().flatten().enumerate().filter(|(_, &v)| v > 0) {
-        println!("row {i} {v}");
+    for HeldEntry { token, times } in &read.start.entries {
+        println!("entry {} {} {times}", token.place, mixed(&token.counts));
     }
 }
 

@@ -8,12 +8,12 @@ use crate::generate::limits;
 use crate::generate::line_damage::damage_line;
 use crate::generate::plant::{plant, Kind, Plant};
 use crate::generate::rng::Rng;
-use crate::generate::steps::{firing_step, overdo, poor_step, spoil, token_of, StepPlan, Token};
+use crate::generate::steps::{firing_step, fold, overdo, poor_step, spoil, token_of, StepPlan, Token};
 use crate::generate::texts::{marking_text, model_text, step_text, trace_text, weights_text};
 use crate::held::{HeldMarking, HeldModel};
 use crate::listing::FILE;
-use crate::marking::{Marking, Row};
-use crate::model::{Header, Mode, Model, INNER, SLICE};
+use crate::marking::{Line, Marking};
+use crate::model::{Header, Mode, Model, LIKES, LINES, SLICE};
 use crate::weights::{check_weights, Weights, WEIGHT};
 
 use super::whole_list::WholeList;
@@ -137,9 +137,9 @@ impl Batch<'_, '_> {
     }
 
     fn markings(&mut self) -> Compared {
-        let mut rows = self.plant.start.clone();
-        self.rng.shuffle(&mut rows);
-        let text = marking_text(&self.plant.model, &rows);
+        let mut lines = self.plant.start.clone();
+        self.rng.shuffle(&mut lines);
+        let text = marking_text(&self.plant.model, &lines);
         self.comparer.read_marking(&self.model, &text)?;
         for _ in 0..5 {
             let text = self.damaged(&text);
@@ -147,12 +147,39 @@ impl Batch<'_, '_> {
         }
         let wrong = self.damaged_model();
         self.comparer.read_marking(&wrong, &text)?;
-        let room = marking_text(&self.plant.model, &rows).len();
+        self.too_many_alike()?;
+        let room = marking_text(&self.plant.model, &self.start.lines()).len();
         for room in [room, room - 1, room + 7, 0] {
             self.comparer.write_marking(&self.model, &self.start, room)?;
         }
         let wrong = self.damaged_marking(&self.start.clone());
         self.comparer.write_marking(&self.model, &wrong, room)?;
+        Ok(())
+    }
+
+    /// Markings with many likes of a net-token in one line or in some, just as many as can be or too many, now and then with a
+    /// damaged line.
+    fn too_many_alike(&mut self) -> Compared {
+        let mut lines = self.plant.start.clone();
+        let Some(row) = self.rng.pick_some(&lines).map(|line| line.row) else {
+            return Ok(());
+        };
+        lines.truncate(LINES - 2);
+        let there: u64 = lines.iter().filter(|line| line.row == row).map(|line| line.times).sum();
+        for _ in 0..2 {
+            let more = LIKES.saturating_sub(there) + *self.rng.pick(&[0, 0, 1, 1, 2]);
+            let part = self.rng.below(more as usize + 1) as u64;
+            let mut lines = lines.clone();
+            let parts = [part, more - part].into_iter().filter(|&times| times > 0);
+            lines.extend(parts.map(|times| Line::new(row, times)));
+            self.rng.shuffle(&mut lines);
+            let text = marking_text(&self.plant.model, &lines);
+            self.comparer.read_marking(&self.model, &text)?;
+            let text = self.damaged(&text);
+            self.comparer.read_marking(&self.model, &text)?;
+            let model = model_text(&self.plant.model, &lines);
+            self.comparer.read_model(&model)?;
+        }
         Ok(())
     }
 
@@ -227,13 +254,13 @@ impl Batch<'_, '_> {
         let mut marking = self.start.clone();
         for _ in 0..6 {
             for _ in 0..3 {
-                let text = self.some_step(&marking.rows[..marking.len]);
+                let text = self.some_step(&marking.lines());
                 self.step(&mut marking, &text)?;
             }
             self.fire(&mut marking)?;
         }
         let wrong = self.damaged_marking(&marking);
-        let text = self.some_step(&marking.rows[..marking.len]);
+        let text = self.some_step(&marking.lines());
         self.comparer.step(&self.model, &mut wrong.clone(), &text)?;
         self.comparer.run(&self.model, &wrong, &trace_text(&[text]))?;
         Ok(())
@@ -241,10 +268,11 @@ impl Batch<'_, '_> {
 
     /// A step that fires by construction, where there is one, with bytes behind it.
     fn fire(&mut self, marking: &mut HeldMarking) -> Compared {
-        let rows = marking.rows[..marking.len].to_vec();
-        let Some(plan) = firing_step(&mut self.rng, &self.plant.model, &rows) else {
+        let lines = marking.lines();
+        let Some(mut plan) = firing_step(&mut self.rng, &self.plant.model, &lines) else {
             return Ok(());
         };
+        fold(&mut self.rng, &mut plan);
         let mut text = step_text(&plan);
         let used = text.len();
         if self.rng.percent(30) {
@@ -252,51 +280,51 @@ impl Batch<'_, '_> {
         }
         let stepped = self.step(marking, &text)?;
         let context = Context { call: "step", texts: &[&self.model_text, &text] };
-        if plan.within_limits(rows.len()) {
+        if let Some(next) = plan.next(&lines) {
             context.same("a step that the rule allows fires", &(stepped.number, stepped.used), &(0, used))?;
+            context.same("the marking after it", &marking.lines(), &next)?;
         }
         Ok(())
     }
 
     /// The text of a step that fires or does not.
-    fn some_step(&mut self, rows: &[Row]) -> Vec<u8> {
+    fn some_step(&mut self, lines: &[Line]) -> Vec<u8> {
         let rng = &mut self.rng;
         let model = &self.plant.model;
         let poor = rng.percent(20);
-        let firing = if poor { None } else { firing_step(rng, model, rows) };
-        let plan = firing.or_else(|| poor_step(rng, model, rows));
-        let mut plan = plan.unwrap_or_else(|| any_step(rng, model, rows));
+        let firing = if poor { None } else { firing_step(rng, model, lines) };
+        let plan = firing.or_else(|| poor_step(rng, model, lines));
+        let mut plan = plan.unwrap_or_else(|| any_step(rng, model, lines));
+        let way = rng.below(10);
         if let Some(net) = alone_net(model, &plan).filter(|_| rng.percent(40)) {
-            spoil_alone(rng, model, rows, net, &mut plan);
+            spoil_alone(rng, model, lines, net, &mut plan);
+            fold(rng, &mut plan);
             return step_text(&plan);
         }
-        match rng.below(10) {
-            0..=5 => spoil(rng, model, &mut plan),
-            6 => overdo(rng, model, &mut plan),
-            7 => {
-                spoil(rng, model, &mut plan);
-                spoil(rng, model, &mut plan);
-            }
-            8 => {
-                let text = step_text(&plan);
-                return self.damaged(&text);
-            }
-            _ => {}
+        for _ in 0..[1, 1, 1, 1, 1, 1, 0, 2, 0, 0][way] {
+            spoil(rng, model, &mut plan);
         }
-        step_text(&plan)
+        fold(rng, &mut plan);
+        if way == 6 {
+            overdo(rng, model, &mut plan);
+        }
+        let text = step_text(&plan);
+        if way == 8 {
+            return self.damaged(&text);
+        }
+        text
     }
 
     /// Texts of steps that follow one another, most of which fire.
     fn some_steps(&mut self, most: usize, refused: usize) -> Vec<Vec<u8>> {
-        let mut rows = self.start.rows[..self.start.len].to_vec();
+        let mut lines = self.start.lines();
         let mut steps = Vec::new();
         for _ in 0..self.rng.between(0, most) {
             if self.rng.percent(refused) {
-                steps.push(self.some_step(&rows));
-            } else if let Some(plan) = firing_step(&mut self.rng, &self.plant.model, &rows) {
-                if plan.within_limits(rows.len()) {
-                    advance(&mut rows, &plan);
-                }
+                steps.push(self.some_step(&lines));
+            } else if let Some(mut plan) = firing_step(&mut self.rng, &self.plant.model, &lines) {
+                fold(&mut self.rng, &mut plan);
+                lines = plan.next(&lines).unwrap_or(lines);
                 steps.push(step_text(&plan));
             }
         }
@@ -346,10 +374,12 @@ impl Batch<'_, '_> {
     /// A text of each kind with one line damaged, several times.
     fn lines(&mut self) -> Compared {
         let start = self.start.clone();
-        let rows = start.rows[..start.len].to_vec();
-        let marking = marking_text(&self.plant.model, &rows);
-        let step = firing_step(&mut self.rng, &self.plant.model, &rows);
-        let step = step_text(&step.unwrap_or_else(|| any_step(&mut self.rng, &self.plant.model, &rows)));
+        let held = start.lines();
+        let marking = marking_text(&self.plant.model, &held);
+        let step = firing_step(&mut self.rng, &self.plant.model, &held);
+        let mut step = step.unwrap_or_else(|| any_step(&mut self.rng, &self.plant.model, &held));
+        fold(&mut self.rng, &mut step);
+        let step = step_text(&step);
         let [model, weights] = [self.model_text.clone(), self.weights_text.clone()];
         for _ in 0..3 {
             let text = self.damaged_line(&model);
@@ -388,7 +418,7 @@ impl Batch<'_, '_> {
 
     /// Lists of step calls with any texts, where the weights cover.
     fn whole_lists(&mut self) -> Compared {
-        let start = Marking::new(self.plant.start.clone());
+        let start = Marking::new(&self.plant.start);
         let checked = check_weights(&self.plant.model, &start, &self.weights_text);
         if !checked.is_ok_and(|passed| passed.cover) {
             return Ok(());
@@ -430,12 +460,12 @@ impl Batch<'_, '_> {
 }
 
 /// A step of any event with racks of the marking taken and given.
-fn any_step(rng: &mut Rng, model: &Model, rows: &[Row]) -> StepPlan {
+fn any_step(rng: &mut Rng, model: &Model, lines: &[Line]) -> StepPlan {
     let least = usize::from(rng.percent(90));
     let event = rng.between(least, model.events.len().max(1));
     let mut racks = || -> Vec<Token> {
-        let rows = (0..rng.below(3)).filter_map(|_| rng.pick_some(rows));
-        rows.map(|row| token_of(model, &row)).collect()
+        let some = (0..rng.below(3)).filter_map(|_| rng.pick_some(lines));
+        some.map(|line| token_of(model, &line.row)).collect()
     };
     StepPlan { event, taken: racks(), given: racks() }
 }
@@ -446,22 +476,4 @@ fn alone_net(model: &Model, plan: &StepPlan) -> Option<usize> {
         Mode::Alone(net) => Some(net),
         Mode::Move(_) | Mode::Idle(_) => None,
     }
-}
-
-/// The marking after a step within the limits that the rule allows.
-fn advance(rows: &mut Vec<Row>, plan: &StepPlan) {
-    let row = |place: u64, inside: &[u64]| {
-        let mut row: Row = [0; 1 + INNER];
-        row[0] = place as u16;
-        row[1..].iter_mut().zip(inside).for_each(|(cell, &count)| *cell = count as u16);
-        row
-    };
-    for token in &plan.taken {
-        let taken = row(token.place, &token.inside);
-        if let Some(at) = rows.iter().position(|row| *row == taken) {
-            rows.remove(at);
-        }
-    }
-    rows.extend(plan.given.iter().map(|token| row(token.place, &token.inside)));
-    rows.sort();
 }

@@ -4,15 +4,17 @@ use crate::generate::alone::{
     alone_steps, held_otherwise, idlers, with_first_line, with_line, ALONE, ALONE_WEIGHTS, EVENT_LINES,
     HEADERS,
 };
+use crate::generate::counted;
 use crate::generate::limits;
 use crate::generate::line_damage::damaged_everywhere;
 use crate::held::{HeldMarking, HeldModel};
 use crate::listing::FILE;
 use crate::model::SLICE;
 
+use super::whole_list::WholeList;
 use super::{Compared, Comparer};
 
-/// Every spread, accepted texts of exact lengths, damage at every byte, and racks that are alone.
+/// Every spread, accepted texts of exact lengths, damage at every byte, racks that are alone, and likes.
 pub fn fixed(comparer: &mut Comparer) -> Compared {
     for tokens in 0..=33 {
         for racks in 0..=18 {
@@ -40,7 +42,8 @@ pub fn fixed(comparer: &mut Comparer) -> Compared {
     long_lines(comparer, &model, &start)?;
     full_halls(comparer)?;
     every_byte(comparer)?;
-    alone(comparer)
+    alone(comparer)?;
+    likes(comparer)
 }
 
 /// Lines as long as a slice, unended, ended, and at fault in the last byte.
@@ -148,6 +151,76 @@ fn alone_racks(comparer: &mut Comparer) -> Compared {
     for step in alone_steps() {
         comparer.step(&model, &mut start.clone(), &step)?;
         comparer.run(&model, &start, &[b"run=1\n", &step[..], &step].concat())?;
+    }
+    Ok(())
+}
+
+/// Likes: in starts and steps, in held markings, weighed, and in a list of step calls.
+pub fn likes(comparer: &mut Comparer) -> Compared {
+    starts(comparer)?;
+    for start in [counted::full_of_likes(), counted::full_of_unlike(), counted::few()] {
+        steps_on(comparer, &counted::with_start(&start))?;
+    }
+    for (model, weights) in counted::weighed() {
+        let Some((held, start)) = comparer.read_model(&model)? else {
+            continue;
+        };
+        for weights in weights {
+            comparer.check_weights(&held, &start, &weights)?;
+            comparer.listing([&model, &weights, b"run=1\n"], 1 << 17)?;
+        }
+    }
+    let [model, weights] = counted::COVERED;
+    comparer.whole_list(&WholeList { model, weights, steps: &counted::listed() })
+}
+
+/// Starts of likes, read with the model and alone, and written again.
+fn starts(comparer: &mut Comparer) -> Compared {
+    let Some((model, _)) = comparer.read_model(&counted::with_start(b"start=0\n"))? else {
+        return Ok(());
+    };
+    for text in counted::starts() {
+        comparer.read_marking(&model, &text)?;
+        let whole = counted::with_start(&text);
+        comparer.listing([&whole, b"inv=1\nouter=0,0,0\ninner=0,0\n", b"run=1\n"], 1 << 17)?;
+        if let Some((model, start)) = comparer.read_model(&whole)? {
+            comparer.write_marking(&model, &start, 1 << 17)?;
+            held_markings(comparer, &model, &start)?;
+        }
+    }
+    Ok(())
+}
+
+/// A held marking, and what comes of it by one change; each is tested, and lent to each call.
+fn held_markings(comparer: &mut Comparer, model: &HeldModel, start: &HeldMarking) -> Compared {
+    for other in &counted::held_otherwise(start) {
+        if comparer.test_marking(model, other)? {
+            comparer.write_marking(model, other, 1 << 17)?;
+            comparer.check_weights(model, other, b"inv=1\nouter=0,0,1\ninner=0,0\n")?;
+        }
+        comparer.step(model, &mut other.clone(), b"fire=4\ntake=0\ngive=1\ntoken=3:\n")?;
+        comparer.run(model, other, b"run=1\n")?;
+    }
+    Ok(())
+}
+
+/// Steps on a start of likes, each by itself and in a run, and one after the other.
+fn steps_on(comparer: &mut Comparer, model: &[u8]) -> Compared {
+    let weights = b"inv=1\nouter=0,0,0\ninner=0,1\n";
+    let Some((held, start)) = comparer.read_model(model)? else {
+        return Ok(());
+    };
+    held_markings(comparer, &held, &start)?;
+    for step in counted::steps() {
+        comparer.step(&held, &mut start.clone(), &step)?;
+        let trace = [b"run=1\n", &step[..], &step].concat();
+        comparer.run(&held, &start, &trace)?;
+        comparer.listing([model, weights, &trace], 1 << 17)?;
+    }
+    let mut marking = start.clone();
+    for step in counted::filling().iter().cloned().chain(counted::steps()) {
+        comparer.step(&held, &mut marking, &step)?;
+        comparer.write_marking(&held, &marking, 1 << 17)?;
     }
     Ok(())
 }

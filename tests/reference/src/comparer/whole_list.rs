@@ -2,7 +2,7 @@
 
 use crate::calls::Weighed;
 use crate::engine::Engine;
-use crate::held::{HeldMarking, HeldModel};
+use crate::held::{HeldEntry, HeldMarking, HeldModel};
 use crate::marking::{inner_projection, outer_projection, Marking};
 use crate::model::{read_model, Model, COUNT};
 use crate::own_run::OwnRun;
@@ -71,14 +71,12 @@ fn follow_call(
     if (stepped.number == 0) != fired {
         return Err(list.fault(at, "fired", format!("{stepped:?}"), format!("the rule: {fired}")));
     }
-    let rows = run.rows().unwrap_or_default();
+    let lines = run.lines().unwrap_or_default();
     let mut expected = Box::new(HeldMarking::empty());
-    expected.len = run.state().values().sum();
-    if expected.len == rows.len() && rows.len() <= expected.rows.len() {
-        expected.rows[..rows.len()].copy_from_slice(&rows);
-    }
+    expected.len = run.state().len();
+    expected.entries.iter_mut().zip(&lines).for_each(|(entry, line)| *entry = HeldEntry::new(line));
     if *held != *expected {
-        let words = |m: &HeldMarking| format!("{:?}", m.rows.get(..m.len));
+        let words = |m: &HeldMarking| format!("{:?}", m.entries.get(..m.len));
         return Err(list.fault(at, "the run's marking", words(held), words(&expected)));
     }
     Ok(fired)
@@ -94,19 +92,20 @@ fn bounded(
 ) -> Compared {
     let end = list.steps.len();
     let fault = |what, words: String| Err(list.fault(end, what, words, format!("{weighed:?}")));
-    let marking = Marking::new(held.rows[..held.len].to_vec());
+    let marking = Marking::new(&held.lines());
     let sum = weights.sum_of(model, &marking);
     if weighed.below != 0 || i128::from(sum) != i128::from(weighed.above) {
         return fault("the sum", sum.to_string());
     }
-    let within = |count: u32, weight: i64| i64::from(count) <= sum / weight;
-    let outer = outer_projection(marking.rows());
+    let within = |count: u64, weight: i64| count as i64 <= sum / weight;
+    let lines = marking.lines();
+    let outer = outer_projection(&lines);
     if !weights.outer.iter().zip(outer).all(|(&weight, count)| within(count, weight)) {
         return fault("a hall's bound", format!("{outer:?}"));
     }
-    let inner = inner_projection(model, marking.rows());
+    let inner = inner_projection(model, &lines);
     for (weights, counts) in weights.inner.iter().zip(inner) {
-        let bound = |(&weight, count): (&i64, u32)| within(count, weight) && count as usize <= COUNT;
+        let bound = |(&weight, count): (&i64, u64)| within(count, weight) && count as usize <= COUNT;
         if !weights.iter().zip(counts).all(bound) {
             return fault("an inner place's bound", format!("{counts:?}"));
         }

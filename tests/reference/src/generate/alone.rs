@@ -1,11 +1,12 @@
 //! Racks that idle or are alone: idle events changed, steps spoiled in one point, and cases that need no made-up plant.
 
 use crate::held::HeldModel;
-use crate::marking::Row;
+use crate::marking::Line;
 use crate::model::{Event, Mode, Model, EVENTS};
 
 use super::rng::Rng;
 use super::steps::{token_of, StepPlan, Token};
+use super::texts::step_of;
 
 /// The idle events of a model, counted from 0.
 fn idles(model: &Model) -> Vec<usize> {
@@ -52,17 +53,17 @@ fn insert(rng: &mut Rng, model: &mut Model, event: Event) {
 }
 
 /// Spoils a step of an event in which a rack of the net is alone; insides still fit where racks are given.
-pub fn spoil_alone(rng: &mut Rng, model: &Model, rows: &[Row], net: usize, step: &mut StepPlan) {
-    match rng.below(8) {
-        0 => add_idler(rng, model, rows, step, |of| of == Some(net)),
-        1 => add_idler(rng, model, rows, step, |of| of != Some(net)),
+pub fn spoil_alone(rng: &mut Rng, model: &Model, lines: &[Line], net: usize, step: &mut StepPlan) {
+    match rng.below(9) {
+        0 => add_idler(rng, model, lines, step, |of| of == Some(net)),
+        1 => add_idler(rng, model, lines, step, |of| of != Some(net)),
         2 => {
             take_none(step);
-            add_idler(rng, model, rows, step, |of| of.is_some_and(|other| other != net));
+            add_idler(rng, model, lines, step, |of| of.is_some_and(|other| other != net));
         }
         3 => {
             take_none(step);
-            add_idler(rng, model, rows, step, |of| of.is_none());
+            add_idler(rng, model, lines, step, |of| of.is_none());
         }
         4 => take_none(step),
         5 => {
@@ -70,6 +71,10 @@ pub fn spoil_alone(rng: &mut Rng, model: &Model, rows: &[Row], net: usize, step:
             step.given.extend(step.given.first().map(empty));
         }
         6 => step.given.clear(),
+        7 => {
+            let blocks = [&mut step.taken, &mut step.given].into_iter().skip(rng.below(2));
+            blocks.flatten().for_each(|token| token.times = 2);
+        }
         _ => give_elsewhere(rng, model, net, step),
     }
 }
@@ -83,14 +88,14 @@ fn take_none(step: &mut StepPlan) {
 fn add_idler(
     rng: &mut Rng,
     model: &Model,
-    rows: &[Row],
+    lines: &[Line],
     step: &mut StepPlan,
     stands: impl Fn(Option<usize>) -> bool,
 ) {
-    let there = |row: &&Row| stands(model.net_of(usize::from(row[0]) - 1));
-    let racks: Vec<Row> = rows.iter().filter(there).copied().collect();
-    if let Some(row) = rng.pick_some(&racks) {
-        let rack = token_of(model, &row);
+    let there = |line: &&Line| stands(model.net_of(line.place()));
+    let racks: Vec<Line> = lines.iter().filter(there).copied().collect();
+    if let Some(line) = rng.pick_some(&racks) {
+        let rack = token_of(model, &line.row);
         step.taken.push(rack.clone());
         step.given.push(rack);
     }
@@ -111,8 +116,8 @@ pub const ALONE: &[u8] =
     pre=1,0\npost=0,1\npre=0,0\npost=0,0\ninner=2\nsteps=2\npre=1,0\npost=0,1\npre=0,0\npost=0,0\ninner=1\n\
     steps=1\npre=1\npost=1\nevents=6\nalone=2\nsync=0,0\nsync=1,0\nsync=0\nalone=2\nsync=0,0\nsync=0,1\n\
     sync=0\nevent=1\nsync=0,0\nsync=0,0\nsync=0\nalone=2\nsync=0,0\nsync=0,1\nsync=0\nalone=3\nsync=0,0\n\
-    sync=0,0\nsync=1\nalone=1\nsync=1,0\nsync=0,0\nsync=0\nstart=5\ntoken=1:1,0\ntoken=1:2,0\ntoken=2:1,0\n\
-    token=3:1,0\ntoken=4:\n";
+    sync=0,0\nsync=1\nalone=1\nsync=1,0\nsync=0,0\nsync=0\nstart=5\ntoken=1:1,0*2\ntoken=1:2,0\ntoken=2:1,0\n\
+    token=3:1,0*3\ntoken=4:\n";
 
 /// Weights that pass for it, its halls weighing differently, and weights that do not balance its first event.
 pub const ALONE_WEIGHTS: [&[u8]; 2] = [
@@ -136,6 +141,13 @@ const STEPS: &[(usize, &[&str], &[&str])] = &[
     (2, &["1:1,0"], &[]),
     (2, &[], &["1:0,0"]),
     (2, &[], &[]),
+    // Likes.
+    (2, &["1:1,0*2"], &["1:1,0*2"]),
+    (2, &["1:1,0", "1:1,0"], &["1:1,0*2"]),
+    (1, &["1:1,0*2"], &["1:1,0", "1:0,1"]),
+    (2, &["1:1,0"], &["1:1,0*2"]),
+    (2, &["3:1,0"], &["3:1,0*65536"]),
+    (2, &["3:1,0*65535"], &["3:1,0*65535"]),
     // Another place.
     (1, &["1:1,0"], &["3:0,1"]),
     (2, &["1:1,0"], &["2:1,0"]),
@@ -153,13 +165,7 @@ const STEPS: &[(usize, &[&str], &[&str])] = &[
 
 /// Texts of steps of `ALONE`.
 pub fn alone_steps() -> impl Iterator<Item = Vec<u8>> {
-    let block = |key: &str, tokens: &[&str]| {
-        let lines: Vec<String> = tokens.iter().map(|token| format!("token={token}\n")).collect();
-        format!("{key}={}\n{}", tokens.len(), lines.concat())
-    };
-    STEPS.iter().map(move |(event, taken, given)| {
-        format!("fire={event}\n{}{}", block("take", taken), block("give", given)).into_bytes()
-    })
+    STEPS.iter().map(|(event, taken, given)| step_of(*event, taken, given))
 }
 
 /// Events of a plant whose first two places are of net 1, with two transitions, and whose third is of net 2, with one:

@@ -4,7 +4,7 @@ use std::ops::Range;
 
 use super::rng::Rng;
 
-const BYTES: &[u8] = b"0123456789,,,===:::---+\n\n\r \0aetZ.;_\xff";
+const BYTES: &[u8] = b"0123456789,,,===:::***---+\n\n\r \0aetZ.;_\xff";
 
 /// A short text of odd bytes.
 pub fn noise(rng: &mut Rng) -> Vec<u8> {
@@ -17,7 +17,7 @@ pub fn damage(rng: &mut Rng, text: &mut Vec<u8>) {
         text.push(*rng.pick(BYTES));
         return;
     }
-    match rng.below(24) {
+    match rng.below(26) {
         0 => {
             let at = rng.below(text.len());
             text[at] = *rng.pick(BYTES);
@@ -32,6 +32,7 @@ pub fn damage(rng: &mut Rng, text: &mut Vec<u8>) {
         14..=17 => change_short_line(rng, text),
         18..=21 => change_list(rng, text),
         22 => change_key(rng, text),
+        23 | 24 => change_times(rng, text),
         _ => {
             let line = some_line(rng, text);
             text.insert(line.end - 1, b'\r');
@@ -146,6 +147,27 @@ fn change_list(rng: &mut Rng, text: &mut Vec<u8>) {
         (6, Some(comma)) => drop(text.splice(comma..comma, *b",0")),
         _ => change_number_from(rng, text, line.start),
     }
+}
+
+/// What stands behind a token line's counts: right, out of range, and of no sense.
+#[rustfmt::skip]
+pub const TIMES: &[&str] = &[
+    "", "*2", "*10", "*65534", "*65535", "*65536", "*65537", "*131072", "*4294967298", "*18446744073709551618",
+    "*99999999999999999999999", "*0", "*1", "*01", "*02", "*00", "*", "**2", "*2*2", "*2x", "*x", "*-2", "*+2", "* 2",
+    "*2 ", "*2,0", ",*2", "*2:", "*1*2",
+];
+
+/// Puts other likes behind a token line's counts.
+fn change_times(rng: &mut Rng, text: &mut Vec<u8>) {
+    let tokens = |line: &Range<usize>| text[line.clone()].starts_with(b"token=");
+    let tokens: Vec<Range<usize>> = lines(text).into_iter().filter(tokens).collect();
+    if tokens.is_empty() {
+        return;
+    }
+    let line = rng.pick(&tokens).clone();
+    let end = if text[line.end - 1] == b'\n' { line.end - 1 } else { line.end };
+    let sign = line.clone().find(|&at| text[at] == b'*').unwrap_or(end).min(end);
+    text.splice(sign..end, rng.pick(TIMES).bytes());
 }
 
 /// Changes a key.

@@ -103,19 +103,36 @@ fn damage_kind(rng: &mut Rng, held: &mut HeldModel) {
 /// Damages a held marking at one point; now and then it stays right.
 pub fn damage_marking(rng: &mut Rng, held: &mut HeldMarking) {
     let len = held.len.clamp(1, TOKENS);
-    let row = rng.below(len);
-    match rng.below(9) {
+    let at = rng.below(len);
+    let behind = rng.between(len.min(TOKENS - 1), TOKENS - 1);
+    match rng.below(14) {
         0 => held.len = odd_size(rng, held.len, TOKENS),
-        1 => held.rows[row][0] = *rng.pick(&[0, 1, 2, 32, 33, 255, 256, 65_535]),
-        2 => held.rows.swap(row, rng.below(len)),
-        3 => held.rows[row] = held.rows[rng.below(len)],
-        4 => held.rows[row][1 + rng.below(INNER)] = *rng.pick(&[0, 1, 2, 65_535]),
-        5 => held.rows[rng.between(len.min(TOKENS - 1), TOKENS - 1)][rng.below(1 + INNER)] = 1,
-        6 => held.rows[row][INNER] = 1,
-        7 => held.rows[..len].rotate_left(row),
+        1 => held.entries[at].token.place = *rng.pick(&[0, 1, 2, 32, 33, 255, 256, 65_535]),
+        2 => held.entries.swap(at, rng.below(len)),
+        3 => held.entries[at] = held.entries[rng.below(len)],
+        4 => held.entries[at].token.counts[rng.below(INNER)] = *rng.pick(&[0, 1, 2, 65_535]),
+        5 => held.entries[behind].token.counts[rng.below(INNER)] = 1,
+        6 => held.entries[at].token.counts[INNER - 1] = 1,
+        7 => held.entries[..len].rotate_left(at),
+        8 => held.entries[behind].times = *rng.pick(&[1, 65_535]),
+        9 => held.entries[at].times = 0,
+        10 => held.entries[at].times = *rng.pick(&[1, 2, 255, 256, 65_535]),
+        11 | 12 => repeat(rng, held, at),
         _ => {
             let bytes = held.bytes_mut();
             bytes[rng.below(bytes.len())] = odd_byte(rng);
         }
     }
+}
+
+/// Puts a net-token beside itself, there once or a few times more.
+fn repeat(rng: &mut Rng, held: &mut HeldMarking, at: usize) {
+    if held.len < TOKENS {
+        held.entries[at..].rotate_right(1);
+        held.entries[at] = held.entries[at + 1];
+        held.len += 1;
+    } else if at > 0 {
+        held.entries[at].token = held.entries[at - 1].token;
+    }
+    held.entries[at].times = held.entries[at].times.saturating_add(*rng.pick(&[0, 0, 1, 2]));
 }

@@ -6,7 +6,7 @@ use super::damage::lines;
 use super::rng::Rng;
 
 /// What is put in a byte's place or before it.
-const BYTES: &[u8] = b"0123456789,,,==::--\n\n\r eivdtxaln+. \0\xff";
+const BYTES: &[u8] = b"0123456789,,,==::--**\n\n\r eivdtxaln+. \0\xff";
 
 /// Damages one line of a text.
 pub fn damage_line(rng: &mut Rng, text: &mut Vec<u8>) {
@@ -41,7 +41,7 @@ fn some<'t>(rng: &mut Rng, texts: &[&'t [u8]]) -> &'t [u8] {
 }
 
 /// What each byte of a text is replaced by, and what is put before it, in turn.
-const IN_TURN: &[u8] = b"01239,:=-\neia\xff";
+const IN_TURN: &[u8] = b"01239,:=-*\neia\xff";
 
 /// Every text that comes of a byte replaced, put in or taken out, or of a cut, at each byte.
 pub fn damaged_everywhere(text: &[u8]) -> impl Iterator<Item = Vec<u8>> + '_ {
@@ -115,7 +115,7 @@ fn end_of(text: &[u8], line: &Range<usize>) -> usize {
 
 /// Adds a number, behind a comma, at the end of a line or before another number.
 fn lengthen(rng: &mut Rng, text: &mut Vec<u8>, line: &Range<usize>) {
-    let more = some(rng, &[b",0", b",", b",99999", b",01", b",-1", b",x"]);
+    let more = some(rng, &[b",0", b",", b",99999", b",01", b",-1", b",x", b"*2", b"*1"]);
     let end = end_of(text, line);
     let behind = numbers(text, line).iter().map(|number| number.end).collect::<Vec<_>>();
     let at = if rng.percent(60) { end } else { rng.pick_some(&behind).unwrap_or(end) };

@@ -1,12 +1,14 @@
 //! Plants: a model, a start, and weights. Most are balanced by construction, and many of these are covered.
 
-use crate::marking::{Marking, Row};
-use crate::model::{Event, Mode, Model, COUNT, EVENTS, INNER, MOVES, NETS, PLACES, TOKENS, TRANSITIONS};
+use crate::marking::{Bag, Line, Marking, Row};
+use crate::model::{
+    Event, Mode, Model, COUNT, EVENTS, INNER, LIKES, LINES, MOVES, NETS, PLACES, TRANSITIONS,
+};
 use crate::weights::{Weights, WEIGHT};
 
 use super::maker::Maker;
 use super::rng::Rng;
-use super::special::{crowded, edge, idling, leaving};
+use super::special::{alike, crowded, edge, idling, leaving};
 
 /// What a plant is made for.
 #[derive(Clone, Copy, Debug, PartialEq, Eq)]
@@ -17,9 +19,11 @@ pub enum Kind {
     Fresh,
     /// Any moves and events; the weights seldom pass.
     Free,
-    /// Nearly 256 net-tokens, and moves that add some.
+    /// Nearly 256 unlike net-tokens, and moves that add some.
     Crowded,
-    /// Large counts and large weights that pass.
+    /// Nearly 65,535 alike, and moves that add some.
+    Alike,
+    /// Large counts, many likes, and large weights that pass.
     Heavy,
     /// A sum at the edge of covering.
     Edge,
@@ -29,11 +33,11 @@ pub enum Kind {
     Idling,
 }
 
-/// A plant; `separate` where moves and transitions are balanced each for itself.
+/// A plant, its start of these lines; `separate` where moves and transitions are balanced each for itself.
 pub struct Plant {
     pub kind: Kind,
     pub model: Model,
-    pub start: Vec<Row>,
+    pub start: Vec<Line>,
     pub weights: Weights,
     pub separate: bool,
 }
@@ -48,7 +52,7 @@ pub struct Sizes {
     pub inner: usize,
     pub transitions: usize,
     pub events: usize,
-    pub tokens: usize,
+    pub lines: usize,
     pub exact: bool,
 }
 
@@ -57,7 +61,8 @@ pub fn plant(rng: &mut Rng) -> Plant {
         0..=39 => Kind::Covered,
         40..=53 => Kind::Fresh,
         54..=66 => Kind::Free,
-        67..=74 => Kind::Crowded,
+        67..=71 => Kind::Crowded,
+        72..=74 => Kind::Alike,
         75..=78 => Kind::Heavy,
         79..=83 => Kind::Edge,
         84..=89 => Kind::Leaving,
@@ -67,6 +72,7 @@ pub fn plant(rng: &mut Rng) -> Plant {
         Kind::Edge => edge(rng),
         Kind::Leaving => leaving(rng),
         Kind::Crowded => crowded(rng),
+        Kind::Alike => alike(rng),
         Kind::Idling => idling(rng),
         _ => balanced_or_free(rng, kind),
     }
@@ -89,7 +95,7 @@ fn small(rng: &mut Rng) -> Sizes {
         inner: rng.between(1, 4),
         transitions: *rng.pick(&[0, 1, 2, 3, 3]),
         events: *rng.pick(&[0, 1, 2, 3, 4, 5, 6, 7, 8]),
-        tokens: rng.between(0, 10),
+        lines: rng.between(0, 10),
         exact: false,
     }
 }
@@ -102,7 +108,7 @@ fn middle(rng: &mut Rng) -> Sizes {
         inner: rng.between(1, 32),
         transitions: rng.between(0, 6),
         events: rng.between(1, 16),
-        tokens: rng.between(0, 40),
+        lines: rng.between(0, 40),
         exact: rng.percent(30),
     }
 }
@@ -118,7 +124,7 @@ fn wide(rng: &mut Rng) -> Sizes {
             3 => sizes.inner = *rng.pick(&[17, 25, INNER]),
             4 => sizes.transitions = TRANSITIONS,
             5 => sizes.events = EVENTS,
-            _ => sizes.tokens = rng.between(TOKENS - 1, TOKENS),
+            _ => sizes.lines = rng.between(LINES - 1, LINES),
         }
     }
     sizes.exact = true;
@@ -133,7 +139,7 @@ fn full(rng: &mut Rng) -> Sizes {
         inner: INNER,
         transitions: TRANSITIONS,
         events: EVENTS,
-        tokens: rng.between(TOKENS - 1, TOKENS),
+        lines: rng.between(LINES - 1, LINES),
         exact: true,
     }
 }
@@ -142,7 +148,7 @@ fn balanced_or_free(rng: &mut Rng, kind: Kind) -> Plant {
     let sizes = sizes(rng);
     let types: Vec<u8> = (0..sizes.places).map(|_| some_type(rng, sizes.nets)).collect();
     let (model, weights, separate) = Maker::new(rng, kind, sizes, &types).make_model(types);
-    let start = start(rng, &model, kind, sizes.tokens);
+    let start = start(rng, &model, kind, sizes.lines);
     let mut plant = Plant { kind, model, start, weights, separate };
     match kind {
         Kind::Covered => make_covered(rng, &mut plant),
@@ -159,22 +165,41 @@ fn some_type(rng: &mut Rng, nets: usize) -> u8 {
     rng.between(usize::from(nets > 0), nets) as u8
 }
 
-/// Net-tokens, more often where events take them.
-pub fn start(rng: &mut Rng, model: &Model, kind: Kind, tokens: usize) -> Vec<Row> {
+/// So many lines of net-tokens, more often where events take them, some of them like others; fewer lines where there would be
+/// too many alike.
+pub fn start(rng: &mut Rng, model: &Model, kind: Kind, lines: usize) -> Vec<Line> {
     let takes = |event: &Event, place: usize| match event.mode {
         Mode::Alone(net) => model.net_of(place) == Some(net),
         Mode::Move(_) | Mode::Idle(_) => event.outer_pre[place] > 0,
     };
     let wanted: Vec<usize> =
         (0..model.places()).filter(|&place| model.events.iter().any(|event| takes(event, place))).collect();
-    let mut rows: Vec<Row> = Vec::with_capacity(tokens);
-    for _ in 0..tokens {
+    let mut rows: Vec<Row> = Vec::with_capacity(lines);
+    for _ in 0..lines {
         let like = rng.pick_some(&rows).filter(|_| rng.percent(15));
         let anywhere = rng.below(model.places());
         let place = rng.pick_some(&wanted).filter(|_| rng.percent(75)).unwrap_or(anywhere);
         rows.push(like.unwrap_or_else(|| some_row(rng, model, kind, place)));
     }
-    rows
+    let mut likes = Bag::new();
+    let lines = rows.into_iter().map(|row| Line::new(row, some_times(rng, kind)));
+    let fits = |line: &Line| {
+        let there = likes.entry(line.row).or_default();
+        *there += line.times;
+        *there <= LIKES
+    };
+    lines.filter(fits).collect()
+}
+
+/// How many times a line is meant, mostly once.
+fn some_times(rng: &mut Rng, kind: Kind) -> u64 {
+    match (kind, rng.below(20)) {
+        (Kind::Heavy, 0..=9) => *rng.pick(&[LIKES, LIKES, LIKES - 1, 60_000]),
+        (_, 0..=13) => 1,
+        (_, 14..=18) => rng.between(2, 5) as u64,
+        (Kind::Free, _) => *rng.pick(&[255, 256, 1_000, LIKES - 1, LIKES]),
+        _ => rng.between(2, 60) as u64,
+    }
 }
 
 fn some_row(rng: &mut Rng, model: &Model, kind: Kind, place: usize) -> Row {
@@ -206,16 +231,19 @@ fn make_covered(rng: &mut Rng, plant: &mut Plant) {
     let factor = factor.unwrap_or(1);
     plant.weights.outer.iter_mut().for_each(|weight| *weight *= factor);
     while !covers(&plant.model, &plant.start, &plant.weights) {
-        if rng.percent(50) && plant.start.iter().any(|row| row[1..].iter().any(|&count| count > 0)) {
-            plant.start.iter_mut().flat_map(|row| &mut row[1..]).for_each(|count| *count /= 2);
+        let filled = plant.start.iter().any(|line| line.inside().iter().any(|&count| count > 0));
+        if rng.percent(50) && filled {
+            plant.start.iter_mut().flat_map(|line| &mut line.row[1..]).for_each(|count| *count /= 2);
+        } else if rng.percent(50) && plant.start.iter().any(|line| line.times > 1) {
+            plant.start.iter_mut().for_each(|line| line.times = line.times.div_ceil(2));
         } else {
             plant.start.truncate(plant.start.len() * 3 / 4);
         }
     }
 }
 
-fn covers(model: &Model, start: &[Row], weights: &Weights) -> bool {
-    weights.cover(weights.sum_of(model, &Marking::new(start.to_vec())))
+fn covers(model: &Model, start: &[Line], weights: &Weights) -> bool {
+    weights.cover(weights.sum_of(model, &Marking::new(start)))
 }
 
 /// Raises all weights as far as they go.

@@ -1,15 +1,18 @@
 //! Steps that fire by construction, and steps spoiled in one point.
 
-use crate::marking::Row;
-use crate::model::{Event, InnerCounts, Mode, Model, COUNT, INNER, TOKENS};
+use std::collections::BTreeMap;
+
+use crate::marking::{Line, Row};
+use crate::model::{Event, InnerCounts, Mode, Model, COUNT, INNER, LIKES, LINES, TOKENS};
 
 use super::rng::Rng;
 
-/// A net-token as it is written, of any size.
+/// A token line as it is written, its numbers of any size; while a step is made, a line for each net-token.
 #[derive(Clone, Debug, PartialEq, Eq)]
 pub struct Token {
     pub place: u64,
     pub inside: Vec<u64>,
+    pub times: u64,
 }
 
 /// A step as it is written: an event, counted from 1, and net-tokens.
@@ -21,18 +24,53 @@ pub struct StepPlan {
 }
 
 impl StepPlan {
-    /// Whether the step is within the limits of reading, and the marking after within its own.
-    pub fn within_limits(&self, held: usize) -> bool {
-        let small = |token: &Token| token.inside.iter().all(|&count| count <= COUNT as u64);
-        let given = self.given.len();
-        given <= TOKENS
-            && held - self.taken.len() + given <= TOKENS
-            && self.taken.iter().chain(&self.given).all(small)
+    /// The marking after a step that the rule allows, if the step is within the limits of reading, and the marking within its
+    /// own.
+    pub fn next(&self, held: &[Line]) -> Option<Vec<Line>> {
+        let small =
+            |token: &Token| token.times <= LIKES && token.inside.iter().all(|&count| count <= COUNT as u64);
+        let blocks = [&self.taken, &self.given];
+        if !blocks.iter().all(|block| block.len() <= LINES && block.iter().all(small)) {
+            return None;
+        }
+        let mut likes: BTreeMap<Row, i64> = BTreeMap::new();
+        let there = held.iter().map(|line| (line.row, line.times as i64));
+        let taken = self.taken.iter().map(|token| (row_of(token), -(token.times as i64)));
+        let given = self.given.iter().map(|token| (row_of(token), token.times as i64));
+        there.chain(taken).chain(given).for_each(|(row, times)| *likes.entry(row).or_default() += times);
+        likes.retain(|_, times| *times != 0);
+        let room = likes.len() <= TOKENS && likes.values().all(|times| (1..=LIKES as i64).contains(times));
+        room.then(|| likes.into_iter().map(|(row, times)| Line::new(row, times as u64)).collect())
+    }
+}
+
+fn row_of(token: &Token) -> Row {
+    let mut row = [0; 1 + INNER];
+    row[0] = token.place as u16;
+    row[1..].iter_mut().zip(&token.inside).for_each(|(cell, &count)| *cell = count as u16);
+    row
+}
+
+/// Writes likes together, all of them, some or none; of a block with more net-tokens than lines, mostly all.
+pub fn fold(rng: &mut Rng, step: &mut StepPlan) {
+    for block in [&mut step.taken, &mut step.given] {
+        let many = block.len() > LINES && rng.percent(90);
+        let percent = if many { 100 } else { *rng.pick(&[100, 100, 0, 50]) };
+        let mut lines: Vec<Token> = Vec::new();
+        for token in block.drain(..) {
+            let like = |line: &&mut Token| line.place == token.place && line.inside == token.inside;
+            match lines.iter_mut().rev().find(like).filter(|_| rng.percent(percent)) {
+                Some(line) => line.times += token.times,
+                None => lines.push(token),
+            }
+        }
+        rng.shuffle(&mut lines);
+        *block = lines;
     }
 }
 
 /// A step that the rule allows on this marking, if some tries find one.
-pub fn firing_step(rng: &mut Rng, model: &Model, marking: &[Row]) -> Option<StepPlan> {
+pub fn firing_step(rng: &mut Rng, model: &Model, marking: &[Line]) -> Option<StepPlan> {
     (0..12).find_map(|_| {
         let event = rng.below(model.events.len().max(1));
         attempt(rng, model, marking, event, true)
@@ -40,18 +78,22 @@ pub fn firing_step(rng: &mut Rng, model: &Model, marking: &[Row]) -> Option<Step
 }
 
 /// A step whose taken racks may hold too little.
-pub fn poor_step(rng: &mut Rng, model: &Model, marking: &[Row]) -> Option<StepPlan> {
+pub fn poor_step(rng: &mut Rng, model: &Model, marking: &[Line]) -> Option<StepPlan> {
     (0..6).find_map(|_| {
         let event = rng.below(model.events.len().max(1));
         attempt(rng, model, marking, event, false)
     })
 }
 
-fn attempt(rng: &mut Rng, model: &Model, marking: &[Row], index: usize, enough: bool) -> Option<StepPlan> {
+fn attempt(rng: &mut Rng, model: &Model, marking: &[Line], index: usize, enough: bool) -> Option<StepPlan> {
     let event = model.events.get(index)?;
     let racks = choose_racks(rng, model, marking, event)?;
     let mut taken: Vec<Token> = racks.iter().map(|row| token_of(model, row)).collect();
-    let empty = |place: usize| Token { place: place as u64 + 1, inside: vec![0; model.inner_places(place)] };
+    let empty = |place: usize| Token {
+        place: place as u64 + 1,
+        inside: vec![0; model.inner_places(place)],
+        times: 1,
+    };
     let mut given: Vec<Token> = places_given(event, &racks).into_iter().map(empty).collect();
     for net in 0..model.nets.len() {
         let sums = sums_of(model, &taken, net);
@@ -71,7 +113,7 @@ fn attempt(rng: &mut Rng, model: &Model, marking: &[Row], index: usize, enough: 
 }
 
 /// Racks of the marking that the event takes in the system net; the fuller ones in some cases.
-fn choose_racks(rng: &mut Rng, model: &Model, marking: &[Row], event: &Event) -> Option<Vec<Row>> {
+fn choose_racks(rng: &mut Rng, model: &Model, marking: &[Line], event: &Event) -> Option<Vec<Row>> {
     let fuller = rng.percent(40);
     if let Mode::Alone(net) = event.mode {
         return choose(rng, marking, |place| model.net_of(place) == Some(net), 1, fuller);
@@ -86,13 +128,14 @@ fn choose_racks(rng: &mut Rng, model: &Model, marking: &[Row], event: &Event) ->
 /// So many racks of the marking that stand at such places.
 fn choose(
     rng: &mut Rng,
-    marking: &[Row],
+    marking: &[Line],
     stands: impl Fn(usize) -> bool,
     number: usize,
     fuller: bool,
 ) -> Option<Vec<Row>> {
-    let there = |row: &&Row| stands(usize::from(row[0]) - 1);
-    let mut racks: Vec<Row> = marking.iter().filter(there).copied().collect();
+    let there = marking.iter().filter(|line| stands(line.place()));
+    let likes = |line: &Line| std::iter::repeat_n(line.row, line.times.min(number as u64) as usize);
+    let mut racks: Vec<Row> = there.flat_map(likes).collect();
     rng.shuffle(&mut racks);
     if fuller {
         racks.sort_by_key(|row| {
@@ -115,7 +158,7 @@ fn places_given(event: &Event, racks: &[Row]) -> Vec<usize> {
 pub fn token_of(model: &Model, row: &Row) -> Token {
     let places = model.inner_places(usize::from(row[0]) - 1);
     let inside = row[1..=places].iter().map(|&count| u64::from(count)).collect();
-    Token { place: u64::from(row[0]), inside }
+    Token { place: u64::from(row[0]), inside, times: 1 }
 }
 
 fn is_of(model: &Model, token: &Token, net: usize) -> bool {
@@ -126,7 +169,7 @@ fn sums_of(model: &Model, tokens: &[Token], net: usize) -> [u64; INNER] {
     let mut sums = [0; INNER];
     for token in tokens.iter().filter(|token| is_of(model, token, net)) {
         for (sum, &count) in sums.iter_mut().zip(&token.inside) {
-            *sum += count;
+            *sum += token.times * count;
         }
     }
     sums
@@ -190,10 +233,16 @@ pub fn spoil(rng: &mut Rng, model: &Model, step: &mut StepPlan) {
 pub fn overdo(rng: &mut Rng, model: &Model, step: &mut StepPlan) {
     let tokens = if rng.percent(50) { &mut step.taken } else { &mut step.given };
     if tokens.is_empty() {
-        tokens.push(Token { place: 1, inside: vec![0; model.inner_places(0)] });
+        tokens.push(Token { place: 1, inside: vec![0; model.inner_places(0)], times: 1 });
     }
     let at = rng.below(tokens.len());
-    match rng.below(4) {
+    match rng.below(6) {
+        4 => tokens[at].times = *rng.pick(&[65_535, 65_536, 65_537, 65_538, (1 << 32) + 2, u64::MAX]),
+        5 => {
+            let mut token = tokens[at].clone();
+            token.times = *rng.pick(&[2, 255, 65_535, 65_534]);
+            tokens.push(token);
+        }
         0 => tokens[at].place = *rng.pick(&[0, model.places() as u64 + 1, 33, 65_537]),
         1 | 2 => {
             let number = *rng.pick(&[65_535, 65_536, 65_537, 1 << 32, (1 << 32) + 1, u64::MAX]);

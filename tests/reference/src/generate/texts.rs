@@ -1,6 +1,6 @@
 //! The texts of models, weights, steps and traces.
 
-use crate::marking::{push_tokens, Row};
+use crate::marking::{push_tokens, Line};
 use crate::model::{Event, Mode, Model, Transition};
 use crate::text::{push_line, push_list};
 use crate::weights::Weights;
@@ -32,8 +32,8 @@ fn push_event(out: &mut Vec<u8>, event: &Event) {
     }
 }
 
-/// A model's text, its start in this order.
-pub fn model_text(model: &Model, start: &[Row]) -> Vec<u8> {
+/// A model's text, its start of these lines.
+pub fn model_text(model: &Model, start: &[Line]) -> Vec<u8> {
     let mut out = Vec::new();
     push_line(&mut out, "eos", model.header.number());
     push_line(&mut out, "nets", model.nets.len());
@@ -52,11 +52,11 @@ pub fn model_text(model: &Model, start: &[Row]) -> Vec<u8> {
     out
 }
 
-/// A marking's text, its tokens in this order.
-pub fn marking_text(model: &Model, rows: &[Row]) -> Vec<u8> {
+/// A marking's text of these lines.
+pub fn marking_text(model: &Model, lines: &[Line]) -> Vec<u8> {
     let mut out = Vec::new();
-    push_line(&mut out, "start", rows.len());
-    push_tokens(&mut out, model, rows);
+    push_line(&mut out, "start", lines.len());
+    push_tokens(&mut out, model, lines);
     out
 }
 
@@ -84,8 +84,22 @@ fn push_block(out: &mut Vec<u8>, key: &str, tokens: &[Token]) {
     for token in tokens {
         out.extend_from_slice(format!("token={}:", token.place).as_bytes());
         push_list(out, token.inside.iter().map(|&count| count as usize));
+        if token.times > 1 {
+            out.extend_from_slice(format!("*{}", token.times).as_bytes());
+        }
         out.push(b'\n');
     }
+}
+
+/// The text of a step with these token lines, each from behind its sign on.
+pub fn step_of(event: usize, taken: &[&str], given: &[&str]) -> Vec<u8> {
+    let block = |key: &str, tokens: &[&str]| format!("{key}={}\n{}", tokens.len(), token_lines(tokens));
+    format!("fire={event}\n{}{}", block("take", taken), block("give", given)).into_bytes()
+}
+
+/// Token lines, each from behind its sign on.
+pub fn token_lines(tokens: &[&str]) -> String {
+    tokens.iter().map(|token| format!("token={token}\n")).collect()
 }
 
 /// A trace of these steps' texts.

@@ -3,9 +3,9 @@ use Rattle.text.proofs.Basics.{handed_on}
 use Rattle.reader.proofs.LineLaws.{tokens_refused, tokens-to_end}
 use Rattle.reader.proofs.lines.start_lines.Goals as goal
 
-pub returns-in_err-block : goal.returns-in_err-block
-returns-in_err-block c =
-    rw (handed_on _ c.from_residual.ensures.1) (tokens_refused _ c.args.r.now _ _ c.in_err-block.ensures.read)
+pub returns-in_err-start : goal.returns-in_err-start
+returns-in_err-start c =
+    rw (handed_on _ c.from_residual.ensures.1) (tokens_refused _ c.args.r.now _ _ c.in_err-start.ensures.read)
 
 pub returns : goal.returns
-returns c = tokens-to_end _ c.args.r.now _ _ c.in_ok-block.ensures.read _ c.close.ensures
+returns c = tokens-to_end _ c.args.r.now _ _ c.in_ok-start.ensures.read _ c.close.ensures

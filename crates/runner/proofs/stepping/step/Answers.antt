@@ -3,7 +3,7 @@ use mathlib.Core.Path.{◌∙◌}
 use native.Mathlib.Omega.{arith}
 use Rattle.text.proofs.Basics.{handed_on}
 use Rattle.reader.proofs.ReadingLaws.{admitted_ok, both_model}
-use Rattle.runner.proofs.StepAnswers.{step-unread, step-held}
+use Rattle.runner.proofs.StepAnswers.{both_few, step-unread, step-held}
 use Rattle.runner.proofs.stepping.step.Goals as goal
 
 pub returns-in_err-admitted : goal.returns-in_err-admitted
@@ -16,7 +16,7 @@ new-stepper-requires c = (both_model _ _ (admitted_ok _ _ _ c.in_ok-admitted.ens
 pub step_on-requires : goal.step_on-requires
 step_on-requires c =
     let a = admitted_ok _ _ _ c.in_ok-admitted.ensures in
-    rw c.new-stepper.ensures.0 (a.1, a.0, c.room.ensures.tokens)
+    rw (c.new-stepper.ensures.0, c.new-stepper.ensures.1, c.room.ensures.value) (a.1, a.0, c.room.ensures.entries, both_few _ _ a.1)
 
 pub returns : goal.returns
 returns c =

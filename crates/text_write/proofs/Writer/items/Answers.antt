@@ -16,10 +16,10 @@ laid c = rw c.from.ensures at c.number.ensures
 -- one number further
 further : (c : After-number) →
     let v = c.args.values.now in
-    (c.number.new.self.at + 1 + length (items_text decimal (drop (c.loop-i.i + 1) v)) ≡ c.args.self.now.at + length (items_text decimal v))
+    (c.number.new.self.at + 1 + length (items_text decimal c.args.last (drop (c.loop-i.i + 1) v)) ≡ c.args.self.now.at + length (items_text decimal c.args.last v))
 further c =
     let l = c.loop-i in
-    omega (arith, length-items c.args.values.now l.i (omega arith), (laid c).place, l.invariant.0)
+    omega (arith, length-items c.args.last c.args.values.now l.i (omega arith), (laid c).place, l.invariant.0)
 
 -- in as many bytes
 room : (c : After-number) → length c.number.new.self.out.now ≡ length c.args.self.now.out.now
@@ -28,7 +28,7 @@ room c = lays_room _ (laid c) ∙ c.loop-i.invariant.1
 pub number-requires : goal.number-requires
 number-requires c =
     let l = c.loop-i in
-    rw c.from.ensures (omega (arith, length-items c.args.values.now l.i (omega arith), l.invariant.0, l.invariant.1))
+    rw c.from.ensures (omega (arith, length-items c.args.last c.args.values.now l.i (omega arith), l.invariant.0, l.invariant.1))
 
 pub bounds-self-self : goal.bounds-self-self
 bounds-self-self c = let n = (goal.at.bounds-self-self c).After-number in omega (arith, further n, room n)
@@ -44,12 +44,12 @@ loop-i-preserved c =
     let d = laid n in (
       further n,
       length-set w.out.now w.at c.stop_of.result ∙ room n,
-      rw d.place (lay-item c.args.values.now l.self.out.now l.i l.self.at (omega arith) refl d.bytes c.stop_of.ensures) ∙ l.invariant.2,
+      rw d.place (lay-item c.args.last c.args.values.now l.self.out.now l.i l.self.at (omega arith) refl d.bytes c.stop_of.ensures) ∙ l.invariant.2,
       d.lent ∙ l.invariant.3,
     )
 
 pub returns : goal.returns
 returns c =
     let l = c.loop-i in
-    let e = items_over c.args.values.now l.i (omega arith) in
+    let e = items_over c.args.last c.args.values.now l.i (omega arith) in
     record { place = omega (arith, ap length e, l.invariant.0); bytes = rw e at l.invariant.2; lent = l.invariant.3 }

@@ -5,7 +5,7 @@ use Rattle.text.specs.Answers.{kept}
 use Rattle.text_reader.specs.Place.{Reads}
 use Rattle.text.proofs.Basics.{handed_on}
 use Rattle.text_reader.proofs.ReadsLaws.{refused_of}
-use Rattle.eos.specs.Firing.{Step}
+use Rattle.eos.specs.Firing.{Written}
 use native.Mathlib.Omega.{arith}
 use Rattle.model.proofs.HeldTests.{held-is, most-events}
 use Rattle.marking.specs.Sizes.{sizes_for}
@@ -14,7 +14,7 @@ use Rattle.std.specs.declared.result.Result.TheVariants.{Ok}
 use Rattle.text_reader.specs.declared.Reader.{Reader}
 use Rattle.step.specs.Answers.{hold_step, step_lent}
 use Rattle.runner.specs.Answers.{stays}
-use Rattle.runner.proofs.ReadLaws.{ReadTokens, lines-got}
+use Rattle.runner.proofs.ReadLaws.{ReadLines, lines-got}
 use Rattle.runner.proofs.RuledLaws.{RightStep, read_right, rule_is_sound, read_placed}
 use Rattle.runner.proofs.StepAnswers.{both_stands, reading, reading_is, step-refused, step-ruled}
 use Rattle.runner.proofs.lent.Stepper.step_on.Goals as goal
@@ -27,14 +27,14 @@ lines-read : (c : In_ok-lines) → c.read_step-read.result ≡ Ok c.in_ok-lines.
 lines-read c = named_ok c.args.s.now c.read_step-read.result c.in_ok-lines.ensures
 
 -- the step that was read
-read : (c : In_ok-lines) → let a = c.args in ReadTokens c.in_ok-lines.lines (reading a.self.now.model.now a.k.now a.s.now) c.read_step-read.new.r.at
+read : (c : In_ok-lines) → let a = c.args in ReadLines c.in_ok-lines.lines (reading a.self.now.model.now a.k.now a.s.now) c.read_step-read.new.r.at
 read c =
     let a = c.args in
     let r = c.read_step-read in
     let l = c.in_ok-lines.lines in
     let begun : Reader = record { src = a.s; at = 0 } in
     lines-got l _ begun r.new.r
-    (subst (λ (o : Outcome Step). Reads (kept hold_step o) begun r.new.r (step_lent (Ok l))) (reading_is a.self.now.model.now a.k.now a.s.now a.self.now.sizes a.self.now.sized) (rw (lines-read c) at r.ensures))
+    (subst (λ (o : Outcome Written). Reads (kept hold_step o) begun r.new.r (step_lent (Ok l))) (reading_is a.self.now.model.now a.k.now a.s.now a.self.now.sizes a.self.now.sized) (rw (lines-read c) at r.ensures))
 
 right : (c : In_ok-lines) → RightStep (sizes_for c.args.self.now.model.now) c.args.self.now.model.now.listed (read c).step
 right c = read_right _ _ c.args.s.now _ _ (read c).is
@@ -66,6 +66,7 @@ fire-requires c =
     let sized = c.rule_of.ensures.sized in
     let held = c.args.self.now.held in (
       c.args.self.now.bounded,
+      c.requires.3,
       rule_is_sound m sized held t r _ _ c.rule_of.ensures.made (read p).event-is,
       read_placed m sized held t.taken r.taken r.take-few _ (read p).taken_are,
       read_placed m sized held t.given r.given r.give_few _ (read p).given_are,

@@ -1,0 +1,3 @@
+pub mod AfterLaws
+pub mod LineLaws
+pub mod ChangeLaws
