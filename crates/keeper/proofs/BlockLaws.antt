@@ -86,7 +86,7 @@ module _ (m : Model) where
 
   module _ (row : List ℤ) (o : Outcome (List (List ℤ))) {old new : Reader} where
     pub nets_refused : (e : Fault) → Reads (kept (in-rows row) o) old new (Err e) → Reads (kept (behind_outer row) o) old new (Err e)
-    nets_refused e h = let r = refused_of (in-rows row) o e h in fails (behind_outer row) o e r.is r.same
+    nets_refused e h = let r = refused_of (in-rows row) o e h in fails (behind_outer row) o e r.is r.stands
 
     pub nets_read : (rows : List (List ℤ)) → Reads (kept (in-rows row) o) old new (Ok rows) → Reads (kept (behind_outer row) o) old new (Ok (record { rows = rows }))
     unfolding behind_outer

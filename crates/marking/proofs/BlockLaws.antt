@@ -19,9 +19,9 @@ use Rattle.text.specs.Answers.{kept, padded}
 use Rattle.text.specs.declared.TokenLine.{TokenLine}
 use Rattle.text.specs.declared.Cause.TheVariants.{Crowded}
 use Rattle.text.proofs.Loops.{within_turn, within_bad, within_out, within_done}
-use Rattle.text_reader.specs.Place.{Reads}
+use Rattle.text_reader.specs.Place.{placed, Reads}
 use Rattle.text_reader.specs.declared.Reader.{Reader}
-use Rattle.text_reader.proofs.ReadsLaws.{itself, plainly, read_of, refused_of, first_refused, followed, passes, fails}
+use Rattle.text_reader.proofs.ReadsLaws.{placed_same, itself, plainly, read_of, refused_of, first_refused, followed, passes, fails}
 use Rattle.marking.specs.Answers.{entry_line, hold_block}
 use Rattle.text.specs.Token.{Token}
 use Rattle.text.specs.TokenLine.{read_token, right_token}
@@ -198,13 +198,13 @@ module _ (lim : Limits) (z : Sizes) (room n : ℕ) (old : Reader) where
     going_bad new e h r =
         let q = refused_of hold_line (reads now.src.now now.at) e r in
         let is : reads old.src.now now.at ≡ bad e = subst (λ (x : _). reads x.now now.at ≡ bad e) g.same q.is in
-        fails hold_block whole e (bad_filled whole e (g.left ∙ within_bad put fit Crowded (reads old.src.now) g.lines i n now.at g.lines h e is)) (q.same ∙ g.same)
+        fails hold_block whole e (bad_filled whole e (g.left ∙ within_bad put fit Crowded (reads old.src.now) g.lines i n now.at g.lines h e is)) (q.stands ∙ placed_same now old g.same e.at)
 
     -- and so does one whose net-tokens have no room
-    pub going_out : (new : Reader) (e : Entry) (after : Marking) → i < n → Roomy z
+    pub going_out : (new last : Reader) → last ≡ placed new now.at → (e : Entry) (after : Marking) → i < n → Roomy z
         → Reads (kept hold_line (reads now.src.now now.at)) now new (Ok e) → record { done = false; marking = after } ≡ put_in room e k
-        → Reads (kept hold_block whole) old new (Err (fault Crowded now.at))
-    going_out new e after h roomy r f =
+        → Reads (kept hold_block whole) old last (Err (fault Crowded now.at))
+    going_out new last back e after h roomy r f =
         let q = read_of hold_line (reads now.src.now now.at) e r in
         let l = q.value in
         let is : reads old.src.now now.at ≡ got l new.at = subst (λ (x : _). reads x.now now.at ≡ got l new.at) g.same q.is in
@@ -213,7 +213,7 @@ module _ (lim : Limits) (z : Sizes) (room n : ℕ) (old : Reader) where
         let out : fit (g.lines ++ (l ∷ [])) ≡ false = sym (fits_held z room (spelt (g.lines ++ (l ∷ []))) (all_next l t)) ∙ (held_left room k (map hold_token (spelt (g.lines ++ (l ∷ [])))) p).0 in
         fails hold_block whole (fault Crowded now.at)
         (bad_filled whole (fault Crowded now.at) (g.left ∙ within_out put fit Crowded (reads old.src.now) g.lines i n now.at g.lines h l new.at is out))
-        (ap (λ (x : Reader). x.src) q.moved ∙ g.same)
+        (back ∙ placed_same new old (ap (λ (x : Reader). x.src) q.moved ∙ g.same) now.at)
 
     -- after n lines they are those of the canonical list
     pub going_done : n ≤ i → Reads (kept hold_block whole) old now (Ok k)

@@ -15,7 +15,6 @@ use marking_edit::insert;
 use model::Model;
 use text::{Cause, Fault};
 use text_reader::Reader;
-use text_scan::fault_at;
 
 // The line of net-tokens.
 pub fn net_token(r: &mut Reader, z: &PlaceSizes) -> Result<Entry, Fault>
@@ -42,7 +41,7 @@ fn net_tokens(
         let at = r.at;
         let entry = net_token(r, z)?;
         if !insert(marking, &entry, room) {
-            return Err(fault_at(Cause::Crowded, at, at));
+            return Err(r.refuse(Cause::Crowded, at));
         }
     }
     Ok(())

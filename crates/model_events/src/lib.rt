@@ -16,7 +16,6 @@ use model_acts::own_net;
 use model_rules::takes_part;
 use text::{Cause, Fault, Keyed};
 use text_reader::Reader;
-use text_scan::fault_at;
 
 // How many transitions net n has.
 fn transitions(objects: &[ObjectNet; 8], n: usize) -> usize
@@ -62,7 +61,7 @@ impl Frame<'_> {
                     return Ok(Act::Alone { net: index });
                 }
                 if m.types[index] == 0 {
-                    return Err(fault_at(Cause::Idling, line, line));
+                    return Err(r.refuse(Cause::Idling, line));
                 }
                 Ok(Act::Idle { place: index })
             }
@@ -78,7 +77,7 @@ impl Frame<'_> {
         let line = r.at;
         let counts = r.list(b"sync=", transitions(&self.model.objects, n), Model::ARC)?;
         if !takes_part(own, n, &counts) {
-            return Err(fault_at(Cause::Idling, line, line));
+            return Err(r.refuse(Cause::Idling, line));
         }
         Ok(counts)
     }

@@ -15,7 +15,7 @@ use Rattle.text.specs.declared.Keyed.TheVariants.{Former, Latter}
 use Rattle.text.specs.Answers.{kept}
 use Rattle.text.specs.declared.Fault.{Fault}
 use Rattle.text.proofs.LineLaws.{need_met, need_unmet}
-use Rattle.text_reader.specs.Place.{Reads}
+use Rattle.text_reader.specs.Place.{placed, Reads}
 use Rattle.text_reader.specs.declared.Reader.{Reader}
 use Rattle.text_reader.proofs.ReadsLaws.{itself, plainly, read_of, first_refused, followed, passes, fails}
 use Rattle.text.proofs.Exactly.{then-got, need-got, got-is}
@@ -71,7 +71,7 @@ module _ (f : Frame) (old : Reader) where
   line_refused e k = first_refused itself hold_act line (λ _. judge) e (plainly k)
 
   module _ {new : Reader} where
-    judged : (a : Keyed) → Reads line old new (Ok a) → (r : Result held.Act Fault) → Reads (kept hold_act (judge a new.at)) new new r → Reads (kept hold_act whole) old new r
+    judged : {last : Reader} (a : Keyed) → Reads line old new (Ok a) → (r : Result held.Act Fault) → Reads (kept hold_act (judge a new.at)) new last r → Reads (kept hold_act whole) old last r
     unfolding read_act
     judged a read r k = followed itself hold_act line (λ _. judge) a r (plainly read) (λ v is same. rw (← same) k)
 
@@ -98,8 +98,8 @@ module _ (f : Frame) (old : Reader) where
           (rw (sub-one n) (passes hold_act (judge (Latter n) new.at) (alone (pred n)) (rw b (need_met _ _ _ _ refl)) refl))
 
       module _ (b : f.alone ≡ false) where
-        pub idle_black : f.type (n - 1) ≡ 0 → Reads (kept hold_act whole) old new (Err (fault Idling old.at))
-        idle_black h = judged (Latter n) read _ (fails hold_act _ _ (need_unmet _ _ _ _ (rw (b, ← sub-one n, h) refl)) refl)
+        pub idle_black : {last : Reader} → last ≡ placed new old.at → f.type (n - 1) ≡ 0 → Reads (kept hold_act whole) old last (Err (fault Idling old.at))
+        idle_black back h = judged (Latter n) read _ (fails hold_act _ _ (need_unmet _ _ _ _ (rw (b, ← sub-one n, h) refl)) back)
 
         pub idle_read : (f.type (n - 1) ≡ 0 → ⊥) → Reads (kept hold_act whole) old new (Ok (Idle (n - 1)))
         idle_read h =

@@ -14,7 +14,7 @@ use Rattle.text.specs.Answers.{kept, padded}
 use Rattle.text.specs.declared.Cause.TheVariants.{Idling}
 use Rattle.text.specs.declared.Fault.{Fault}
 use Rattle.text.proofs.LineLaws.{need_met, need_unmet}
-use Rattle.text_reader.specs.Place.{Reads}
+use Rattle.text_reader.specs.Place.{placed, Reads}
 use Rattle.text_reader.specs.declared.Reader.{Reader}
 use Rattle.text_reader.proofs.ReadsLaws.{read_of, refused_of, first_refused, followed, passes, fails}
 use Rattle.text_reader.proofs.LoopLaws.{filling}
@@ -45,17 +45,18 @@ module _ (f : Frame) (own n : ℕ) (few : f.steps n ≤ 32) (old : Reader) where
   sync_refused e k = first_refused padded padded line (λ _. judge) e k
 
   module _ {new : Reader} (counts : List ℕ) (read : Reads (kept padded line) old new (Ok counts)) where
-    judged : (r : Result (List ℕ) Fault)
-        → ((v : List ℕ) → counts ≡ padded v → takes_part own n counts ≡ takes_part own n v → Reads (kept padded (judge v new.at)) new new r)
-        → Reads (kept padded (read_sync f own old.src.now n old.at)) old new r
+    judged : {last : Reader} (r : Result (List ℕ) Fault)
+        → ((v : List ℕ) → counts ≡ padded v → takes_part own n counts ≡ takes_part own n v → Reads (kept padded (judge v new.at)) new last r)
+        → Reads (kept padded (read_sync f own old.src.now n old.at)) old last r
     unfolding read_sync
     judged r next =
         followed padded padded line (λ _. judge) counts r read
         (λ v is held. next v held
         (rw held (part_padded own n v (omega (arith, few, (list_in (bytes "sync=") (f.steps n) 255 old.src.now old.at v new.at is).0)))))
 
-    pub no_part : takes_part own n counts ≡ false → Reads (kept padded (read_sync f own old.src.now n old.at)) old new (Err (fault Idling old.at))
-    no_part h = judged _ (λ v held same. fails padded _ _ (need_unmet _ _ _ _ (sym same ∙ h)) refl)
+    pub no_part : {last : Reader} → last ≡ placed new old.at → takes_part own n counts ≡ false
+        → Reads (kept padded (read_sync f own old.src.now n old.at)) old last (Err (fault Idling old.at))
+    no_part back h = judged _ (λ v held same. fails padded _ _ (need_unmet _ _ _ _ (sym same ∙ h)) back)
 
     pub sync_read : takes_part own n counts ≡ true → Reads (kept padded (read_sync f own old.src.now n old.at)) old new (Ok counts)
     sync_read h = judged _ (λ v held same. rw held (passes padded _ v (need_met _ _ _ _ (sym same ∙ h)) refl))
@@ -171,4 +172,4 @@ events_held m f n at old new t k =
 -- or one of them is refused
 pub events_bad : (m : Model) (f : ℕ → Outcome Event) (n at : ℕ) (old new : Reader) (e : Fault)
     → Reads (kept (filling hold_event lay_event (emptied m)) (many f n at)) old new (Err e) → Reads (kept (with_events m) (many f n at)) old new (Err e)
-events_bad m f n at old new e k = let r = refused_of (filling hold_event lay_event (emptied m)) (many f n at) e k in fails (with_events m) (many f n at) e r.is r.same
+events_bad m f n at old new e k = let r = refused_of (filling hold_event lay_event (emptied m)) (many f n at) e k in fails (with_events m) (many f n at) e r.is r.stands

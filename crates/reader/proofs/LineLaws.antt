@@ -35,15 +35,16 @@ use Rattle.reader.proofs.EndLaws.{refused_to_end, read_to_end}
 
 -- ---- net-tokens to the end of the text
 
-module _ (o : Outcome eos.Lines) (old new : Reader) where
-  -- a line of them is refused
-  pub tokens_refused : (e : Fault) → Reads (kept hold_block o) old new (Err e) → Err e ≡ accepted (kept hold_block (then o (read_end old.src.now)))
-  tokens_refused = refused_to_end hold_block o old new
+-- what was read of them, if nothing stands behind it
+abbrev pub to_end : Result Marking Fault → Result (Unit {0}) Fault → Result Marking Fault
+to_end (Ok k) end = lent k end
+to_end (Err e) end = Err e
 
-  -- behind lines that ended where they did, it is the reading of the whole text
-  pub tokens-to_end : (k : Marking) → Reads (kept hold_block o) old new (Ok k) → (end : Result (Unit {0}) Fault) → end ≡ accepted (closed new.src.now new.at)
-      → lent k end ≡ accepted (kept hold_block (then o (read_end old.src.now)))
-  tokens-to_end = read_to_end hold_block o old new
+-- whatever is read of them, behind lines that ended where they did it is the reading of the whole text
+pub tokens-to_end : (o : Outcome eos.Lines) (old new : Reader) (read : Result Marking Fault) → Reads (kept hold_block o) old new read
+    → (end : Result (Unit {0}) Fault) → end ≡ accepted (closed new.src.now new.at) → to_end read end ≡ accepted (kept hold_block (then o (read_end old.src.now)))
+tokens-to_end o old new (Ok k) h end e = read_to_end hold_block o old new k h end e
+tokens-to_end o old new (Err d) h end e = refused_to_end hold_block o old new d h
 
 -- ---- a model with its start
 
@@ -63,6 +64,15 @@ abbrev pub beside : Model → Result Marking Fault → Result (Model × Marking)
 beside m (Ok k) = Ok (m, k)
 beside m (Err e) = Err e
 
+-- the start that stands at the place of a reader, of a held model
+abbrev pub start_of : Model → Reader → Result Marking Fault
+start_of m r = accepted (kept hold_block (read_marking_at (as_sizes (place_sizes m)) r.src.now r.at))
+
+-- a model that was read, beside the start behind it
+abbrev pub joined : Result Model Fault → Reader → Result (Model × Marking) Fault
+joined (Ok m) r = beside m (start_of m r)
+joined (Err e) r = Err e
+
 beside_with : (d : Plant) (o : Outcome eos.Lines) → beside (hold_plant d) (accepted (kept hold_block o)) ≡ accepted (kept hold_loaded (then o (with d)))
 unfolding accepted kept then
 beside_with d (got μ y) = refl
@@ -78,7 +88,7 @@ module _ (old mid : Reader) where
   plant = read_plant old.src.now old.at
 
   -- the model is refused
-  pub plant_refused : (e : Fault) → Reads (kept hold_plant plant) old mid (Err e) → Err e ≡ accepted (kept hold_loaded (read_model_at old.src.now old.at))
+  plant_refused : (e : Fault) → Reads (kept hold_plant plant) old mid (Err e) → Err e ≡ accepted (kept hold_loaded (read_model_at old.src.now old.at))
   unfolding read_model_at read_lines then accepted kept
   plant_refused e k = rw (refused_of hold_plant plant e k).is
 
@@ -90,16 +100,20 @@ module _ (old mid : Reader) where
     pub plant_held : held_model m ≡ true
     plant_held = let q = read_of hold_plant plant m first in rw q.held (hold_held q.value (right q.value q.is))
 
-    -- the lines of a model and the start behind them, joined, are what the text says of both
-    pub lines-joined : (start : Result Marking Fault) → start ≡ accepted (kept hold_block (read_marking_at (as_sizes (place_sizes m)) mid.src.now mid.at))
-        → beside m start ≡ accepted (kept hold_loaded (read_model_at old.src.now old.at))
-    lines-joined start e =
+    -- the model is read, and its start stands behind it
+    plant_read : beside m (start_of m mid) ≡ accepted (kept hold_loaded (read_model_at old.src.now old.at))
+    plant_read =
         let q = read_of hold_plant plant m first in
         let same : mid.src.now ≡ old.src.now = ap (λ (x : Reader). x.src.now) q.moved in
         let sizes : as_sizes (place_sizes m) ≡ sizes_of q.value.model = ap (λ (x : Model). as_sizes (place_sizes x)) q.held ∙ sizes_same _ q.value.model (right q.value q.is) in
-        let begun : start ≡ accepted (kept hold_block (read_marking_at (sizes_of q.value.model) old.src.now mid.at)) =
-        e ∙ ap (λ (z : Sizes). accepted (kept hold_block (read_marking_at z mid.src.now mid.at))) sizes ∙ ap (λ (s : Text). accepted (kept hold_block (read_marking_at (sizes_of q.value.model) s mid.at))) same in
-        ap (λ (x : Model). beside x start) q.held
+        let begun : start_of m mid ≡ accepted (kept hold_block (read_marking_at (sizes_of q.value.model) old.src.now mid.at)) =
+        ap (λ (z : Sizes). accepted (kept hold_block (read_marking_at z mid.src.now mid.at))) sizes ∙ ap (λ (s : Text). accepted (kept hold_block (read_marking_at (sizes_of q.value.model) s mid.at))) same in
+        ap (λ (x : Model). beside x (start_of m mid)) q.held
         ∙ ap (beside (hold_plant q.value)) begun
         ∙ beside_with q.value (read_marking_at (sizes_of q.value.model) old.src.now mid.at)
         ∙ ap (λ (o : Outcome Loaded). accepted (kept hold_loaded o)) (sym (behind_plant old.src.now old.at q.value mid.at q.is))
+
+  -- whatever is read of a model, its lines and the start behind them, joined, are what the text says of both
+  pub lines-joined : (read : Result Model Fault) → Reads (kept hold_plant plant) old mid read → joined read mid ≡ accepted (kept hold_loaded (read_model_at old.src.now old.at))
+  lines-joined (Ok m) first = plant_read m first
+  lines-joined (Err e) first = plant_refused e first

@@ -45,4 +45,4 @@ first_held start f n at old new room few k =
 
 -- a refusal is one whatever is held
 pub still_refused : {A B C : Type 0} (f : A → B) (g : A → C) (o : Outcome A) (e : Fault) {old new : Reader} → Reads (kept f o) old new (Err e) → Reads (kept g o) old new (Err e)
-still_refused f g o e k = let r = refused_of f o e k in fails g o e r.is r.same
+still_refused f g o e k = let r = refused_of f o e k in fails g o e r.is r.stands

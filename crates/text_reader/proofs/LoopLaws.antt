@@ -13,7 +13,7 @@ use Rattle.text.specs.declared.Fault.{Fault}
 use Rattle.text.proofs.Loops.{turn_at_lem, bad-at, done_at}
 use Rattle.text_reader.specs.Place.{Reads}
 use Rattle.text_reader.specs.declared.Reader.{Reader}
-use Rattle.text_reader.proofs.ReadsLaws.{at_got, at_bad, read_of, refused_of}
+use Rattle.text_reader.proofs.ReadsLaws.{placed_same, at_got, at_bad, read_of, refused_of}
 
 module _ {A B T : Type 0} (held : A → B) (store : ℕ → B → T → T) where
   -- what is read, put as it is held
@@ -54,7 +54,7 @@ module _ {A B T : Type 0} (held : A → B) (store : ℕ → B → T → T) where
             at_bad _ e
             (sym (filled_kept start _) ∙ going.is
             ∙ bad-at put (f old.src.now) i n now.at t below e (subst (λ (x : _). f x.now i now.at ≡ bad e) going.same r.is))
-            (r.same ∙ going.same)
+            (r.stands ∙ placed_same now old going.same e.at)
 
         pub turns : (b : B) (u : T) → Reads (kept held (f now.src.now i now.at)) now new (Ok b) → u ≡ store i b t → Going (i + 1) u new
         turns b u h p =

@@ -22,6 +22,12 @@ use Rattle.text.specs.declared.Parsed.{Parsed}
 use Rattle.text_reader.specs.Place.{placed, Reads}
 use Rattle.text_reader.specs.declared.Reader.{Reader}
 
+-- ---- a place
+
+-- in the same bytes a place is the same
+pub placed_same : (a b : Reader) → a.src ≡ b.src → (x : ℕ) → placed a x ≡ placed b x
+placed_same a b same x = ap (λ (s : _). record { src = s; at = x }) same
+
 -- ---- an outcome
 
 module _ {A : Type 0} {old new : Reader} (o : Outcome A) where
@@ -29,9 +35,9 @@ module _ {A : Type 0} {old new : Reader} (o : Outcome A) where
   unfolding accepted
   at_got a e same = rw e (record { answers = refl; stands = ap (λ (s : _). record { src = s; at = new.at }) same })
 
-  pub at_bad : (e : Fault) → o ≡ bad e → new.src ≡ old.src → Reads o old new (Err e)
+  pub at_bad : (e : Fault) → o ≡ bad e → new ≡ placed old e.at → Reads o old new (Err e)
   unfolding accepted
-  at_bad e is same = rw is (record { answers = refl; stands = same })
+  at_bad e is stands = rw is (record { answers = refl; stands = stands })
 
 -- ---- one reading
 
@@ -42,10 +48,10 @@ pub record Read {A B : Type 0} (f : A → B) (o : Outcome A) (old new : Reader) 
   pub held : b ≡ f value
   pub moved : new ≡ placed old new.at
 
--- a reading that is refused, in the same bytes
+-- a reading that is refused: the reader stands at the line at fault
 pub record Refused {A : Type 0} (o : Outcome A) (old new : Reader) (e : Fault) : Type 0 where
   pub is : o ≡ bad e
-  pub same : new.src ≡ old.src
+  pub stands : new ≡ placed old e.at
 
 module _ {A B : Type 0} (f : A → B) {old new : Reader} where
   pub read_of : (o : Outcome A) (b : B) → Reads (kept f o) old new (Ok b) → Read f o old new b
@@ -62,15 +68,15 @@ module _ {A B : Type 0} (f : A → B) {old new : Reader} where
   pub refused_of : (o : Outcome A) (e : Fault) → Reads (kept f o) old new (Err e) → Refused o old new e
   unfolding kept accepted
   refused_of (got a next) e h = let k = h.answers in let z : ◌≡◌ {A = ℕ} 0 1 = cc in absurd (omega arith)
-  refused_of (bad d) e h = let k = h.answers in record { is = (cc); same = h.stands }
+  refused_of (bad d) e h = let k = h.answers in let p : d ≡ e = cc in record { is = ap bad p; stands = h.stands ∙ ap (λ (c : Fault). placed old c.at) p }
 
   pub passes : (o : Outcome A) (a : A) → o ≡ got a new.at → new ≡ placed old new.at → Reads (kept f o) old new (Ok (f a))
   unfolding kept accepted
   passes o a e m = rw e (record { answers = refl; stands = m })
 
-  pub fails : (o : Outcome A) (e : Fault) → o ≡ bad e → new.src ≡ old.src → Reads (kept f o) old new (Err e)
+  pub fails : (o : Outcome A) (e : Fault) → o ≡ bad e → new ≡ placed old e.at → Reads (kept f o) old new (Err e)
   unfolding kept accepted
-  fails o e is same = rw is (record { answers = refl; stands = same })
+  fails o e is stands = rw is (record { answers = refl; stands = stands })
 
 -- a value that is held as it is
 module _ {A : Type 0} where
@@ -89,13 +95,13 @@ module _ {A : Type 0} where
 -- ---- from what stands in the text
 
 module _ {A : Type 0} {old : Reader} (o : Outcome A) (read : Result (Parsed A) Fault) where
-  pub take_refused : (e : Fault) → read ≡ parsed o → read ≡ Err e → Reads o old old (Err e)
+  pub take_refused : (e : Fault) → read ≡ parsed o → read ≡ Err e → Reads o old (placed old e.at) (Err e)
   unfolding parsed accepted
   take_refused e is was = go o (sym is ∙ was)
     where
-      go : (o : Outcome A) → parsed o ≡ Err e → Reads o old old (Err e)
+      go : (o : Outcome A) → parsed o ≡ Err e → Reads o old (placed old e.at) (Err e)
       go (got a next) k = let z : ◌≡◌ {A = ℕ} 0 1 = cc in absurd (omega arith)
-      go (bad d) k = record { answers = cc; stands = refl }
+      go (bad d) k = let z : d ≡ e = cc in rw z (record { answers = refl; stands = refl })
 
   pub take_read : (p : Parsed A) → read ≡ parsed o → read ≡ Ok p → Reads o old (placed old p.end) (Ok p.value)
   unfolding parsed accepted
@@ -116,13 +122,13 @@ list_read most hi key n s at {old} {new} {r} h k = subst (λ (o : Outcome (List 
 -- the same bytes, read from a place that was reached
 module _ {A : Type 0} {old mid new : Reader} (same : mid.src ≡ old.src) where
   pub from_same : (o : Outcome A) (r : Result A Fault) → Reads o mid new r → Reads o old new r
-  from_same (got a next) r h = record { answers = h.answers; stands = h.stands ∙ ap (λ (s : _). record { src = s; at = next }) same }
-  from_same (bad e) r h = record { answers = h.answers; stands = h.stands ∙ same }
+  from_same (got a next) r h = record { answers = h.answers; stands = h.stands ∙ placed_same mid old same next }
+  from_same (bad e) r h = record { answers = h.answers; stands = h.stands ∙ placed_same mid old same e.at }
 
 module _ {A B C D : Type 0} (f : A → B) (h : C → D) (o : Outcome A) (g : Text → A → ℕ → Outcome C) {old : Reader} where
   pub first_refused : {new : Reader} (e : Fault) → Reads (kept f o) old new (Err e) → Reads (kept h (then o (g old.src.now))) old new (Err e)
   unfolding then
-  first_refused e k = let r = refused_of f o e k in fails h _ e (rw r.is) r.same
+  first_refused e k = let r = refused_of f o e k in fails h _ e (rw r.is) r.stands
 
   pub followed : {mid new : Reader} (b : B) (r : Result D Fault) → Reads (kept f o) old mid (Ok b)
       → ((a : A) → o ≡ got a mid.at → b ≡ f a → Reads (kept h (g mid.src.now a mid.at)) mid new r) → Reads (kept h (then o (g old.src.now))) old new r

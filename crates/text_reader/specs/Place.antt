@@ -12,10 +12,10 @@ use Rattle.text_reader.specs.declared.Reader.{Reader}
 abbrev pub placed : Reader → ℕ → Reader
 placed r at = record { src = r.src; at = at }
 
--- where the reader stands after a reading: behind what was read; where that is refused, the place in the same bytes is left open
+-- where the reader stands after a reading: behind what was read, or at the line at fault
 abbrev pub Stands : {A : Type 0} → Outcome A → Reader → Reader → Type 0
 Stands (got a next) old new = new ≡ placed old next
-Stands (bad e) old new = new.src ≡ old.src
+Stands (bad e) old new = new ≡ placed old e.at
 
 -- what a reading answers, and where the reader stands after it
 pub record Reads {A : Type 0} (o : Outcome A) (old new : Reader) (answer : Result A Fault) : Type 0 where

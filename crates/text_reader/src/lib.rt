@@ -1,4 +1,5 @@
-// The reader of a file: the bytes that are lent, and the place that it has reached. Each reading moves it behind what was read.
+// The reader of a file: the bytes that are lent, and the place that it has reached. Each reading moves it behind what was read, or to the line
+// at fault.
 #![tactic(auto)]
 
 ghost use Rattle.std.specs.Prelude.{◌≡◌, ◌-◌, leb, get_or, ℤ};
@@ -8,7 +9,8 @@ ghost use Rattle.text.specs.Lines.{Outcome, modest, in_range, read_number, read_
 ghost use Rattle.text.specs.Keyed.{read_keyed};
 ghost use Rattle.text.specs.TokenLine.{read_token};
 ghost use Rattle.text.specs.Answers.{kept, parsed, accepted, row, token_line};
-ghost use Rattle.text_reader.specs.Place.{Reads, closed};
+ghost use Rattle.text.specs.Lines as lines;
+ghost use Rattle.text_reader.specs.Place.{Reads, closed, placed};
 
 use text::{Cause, Fault, Keyed, Parsed, TokenLine, Value};
 use text_lines::{head_line, heads_line, keyed_line, number_line};
@@ -23,13 +25,29 @@ pub struct Reader<'a> {
 }
 
 impl<'a> Reader<'a> {
-    // What was read from the place reached: the reader moves behind it.
+    // What was read from the place reached: the reader moves behind it, or to the line at fault.
     fn take<T: Copy>(&mut self, read: Result<Parsed<T>, Fault>) -> Result<T, Fault>
         ensures { (o : Outcome T) → read ≡ parsed o → Reads o self.old self.new result }
     {
-        let Parsed { value, end } = read?;
-        self.at = end;
-        Ok(value)
+        match read {
+            Ok(parsed) => {
+                self.at = parsed.end;
+                Ok(parsed.value)
+            }
+            Err(fault) => {
+                self.at = fault.at;
+                Err(fault)
+            }
+        }
+    }
+
+    // The fault of a line that was read, to which the reader goes back.
+    pub fn refuse(&mut self, cause: Cause, line: usize) -> Fault
+        ensures told { result ≡ lines.fault cause line }
+        ensures stands { self.new ≡ placed self.old line }
+    {
+        self.at = line;
+        fault_at(cause, line, line)
     }
 
     // The first line of a file.

@@ -27,8 +27,8 @@ pub returns-then-not-insert : goal.returns-then-not-insert
 returns-then-not-insert c =
     let a = c.args in
     let l = c.loop in
-    rw c.fault_at.ensures
-    (going_out (limits 256 65535) (as_sizes a.z.now) a.room a.n a.r.now _ _ _ l.invariant _ _ _ (omega arith) c.requires.1 c.in_ok-entry.ensures c.if-not-insert.ensures)
+    rw c.refuse.ensures.told
+    (going_out (limits 256 65535) (as_sizes a.z.now) a.room a.n a.r.now _ _ _ l.invariant _ _ c.refuse.ensures.stands _ _ (omega arith) c.requires.1 c.in_ok-entry.ensures c.if-not-insert.ensures)
 
 pub loop-preserved : goal.loop-preserved
 loop-preserved c =

@@ -30,8 +30,8 @@ returns-in_err-named c =
     let held = passed (goal.at.returns-in_err-named c).Else-not-is_held in
     rw (handed_on _ c.from_residual-in_err-named.ensures.1)
     (named_err _ _ c.in_err-named.ensures
-    (λ d is e. ap Err e ∙ marking_refused _ _ (short_ok _ _ c.in_ok-short.ensures) held _ c.place_sizes.ensures d (rw is at c.marking_lines.ensures)))
+    (λ d is e. ap Err e ∙ marking_refused _ _ (short_ok _ _ c.in_ok-short.ensures) held _ c.place_sizes.ensures d (rw is at c.marking_lines.ensures.read)))
 
 pub returns : goal.returns
 returns c =
-    marking_accepted _ _ (short_ok _ _ c.in_ok-short.ensures) (passed (goal.at.returns c).Else-not-is_held) _ c.place_sizes.ensures _ (rw (named_ok _ _ c.in_ok-named.ensures) at c.marking_lines.ensures)
+    marking_accepted _ _ (short_ok _ _ c.in_ok-short.ensures) (passed (goal.at.returns c).Else-not-is_held) _ c.place_sizes.ensures _ (rw (named_ok _ _ c.in_ok-named.ensures) at c.marking_lines.ensures.read)

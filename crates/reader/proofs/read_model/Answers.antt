@@ -12,7 +12,7 @@ returns-in_err-short c =
 pub returns-in_err-named : goal.returns-in_err-named
 returns-in_err-named c =
     rw (handed_on _ c.from_residual-in_err-named.ensures.1)
-    (named_err _ _ c.in_err-named.ensures (λ d is e. ap Err e ∙ model_refused _ (short_ok _ _ c.in_ok-short.ensures) d (rw is at c.model_lines.ensures)))
+    (named_err _ _ c.in_err-named.ensures (λ d is e. ap Err e ∙ model_refused _ (short_ok _ _ c.in_ok-short.ensures) d (rw is at c.model_lines.ensures.read)))
 
 pub returns : goal.returns
-returns c = model_accepted _ (short_ok _ _ c.in_ok-short.ensures) _ _ (rw (named_ok _ _ c.in_ok-named.ensures) at c.model_lines.ensures)
+returns c = model_accepted _ (short_ok _ _ c.in_ok-short.ensures) _ _ (rw (named_ok _ _ c.in_ok-named.ensures) at c.model_lines.ensures.read)

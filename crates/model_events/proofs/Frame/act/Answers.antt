@@ -54,8 +54,8 @@ bounds-m-index c =
 pub returns-then-m-index-eq0 : goal.returns-then-m-index-eq0
 returns-then-m-index-eq0 c =
     let i = (goal.at.returns-then-m-index-eq0 c).In-Latter in
-    rw c.fault_at.ensures
-    (idle_black (frame_in c.args.self.now.model.now) c.args.r.now _ (idled i) (ne_eqb _ _ c.if-m-eq-WITH_ALONE.false) (rw c.from-index.ensures at c.if-m-index-eq0.true))
+    rw c.refuse.ensures.told
+    (idle_black (frame_in c.args.self.now.model.now) c.args.r.now _ (idled i) (ne_eqb _ _ c.if-m-eq-WITH_ALONE.false) c.refuse.ensures.stands (rw c.from-index.ensures at c.if-m-index-eq0.true))
 
 pub returns-else-m-index-eq0 : goal.returns-else-m-index-eq0
 returns-else-m-index-eq0 c =

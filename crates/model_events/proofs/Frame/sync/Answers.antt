@@ -23,9 +23,9 @@ pub returns-then-not-takes_part : goal.returns-then-not-takes_part
 returns-then-not-takes_part c =
     let a = c.args in
     let m = a.self.now.model.now in
-    rw c.fault_at.ensures
+    rw c.refuse.ensures.told
     (no_part (frame_in m) a.own a.n (a.self.now.fitting.steps a.n) a.r.now _ (rw c.transitions.ensures at (list_read 255 255 (bytes "sync=") _ _ _ (lit≤ tt) c.in_ok-counts.ensures))
-    (sym c.takes_part.ensures ∙ c.if-not-takes_part.true))
+    c.refuse.ensures.stands (sym c.takes_part.ensures ∙ c.if-not-takes_part.true))
 
 pub returns : goal.returns
 returns c =
