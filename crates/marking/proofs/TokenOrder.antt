@@ -1,8 +1,8 @@
 -- Held net-tokens that are like are equal, and the derived order is their canonical order.
-use Rattle.std.proofs.Common.{◌≡◌, ℕ, Bool, true, false, not, List, [], ◌∷◌, Some, refl, sym, ◌∙◌, arith}
+use Rattle.std.proofs.Common.{◌≡◌, Ordering, ℕ, Bool, true, false, not, List, [], ◌∷◌, Some, refl, sym, ◌∙◌, arith}
 use Rattle.std.specs.Ordering.{is_le, is_lt, nat_cmp, is_some_and}
-use Rattle.std.specs.Cmp.Lexicographic.{slice_partial_cmp}
-use Rattle.std.proofs.lemmas.Cmp.{same_from_slice_cmp_tested}
+use Rattle.std.specs.Cmp.Lexicographic.{slice_cmp, slice_partial_cmp}
+use Rattle.std.proofs.lemmas.Cmp.{same_from_slice_cmp, same_from_slice_cmp_tested}
 use Rattle.std.proofs.lemmas.Bool.Decides.{nat_tests}
 use Rattle.eos.specs.Vector.{eq_v, lex_v}
 use lib.Pointwise.{pointwise}
@@ -47,6 +47,13 @@ le_before s t = at_most (row s) (row t) _ refl
 
 pub lt_before : (s t : NetToken) → is_some_and is_lt (slice_partial_cmp (λ x y. Some (nat_cmp x y)) (row s) (row t)) ≡ not (before t s)
 lt_before s t = below (row s) (row t) _ refl
+
+-- the same by `cmp`, which passes what is equal in long strides
+first_below : (x y : List ℕ) (r : Ordering) → r ≡ slice_cmp nat_cmp x y → is_lt r ≡ not (lex_v y x)
+first_below = same_from_slice_cmp nat_cmp is_lt (λ x y. not (lex_v y x)) refl (λ _ _. refl) (λ _ _. refl) (λ x y xs ys o h. grind (arith, nat_tests))
+
+pub cmp_before : (s t : NetToken) → is_lt (slice_cmp nat_cmp (row s) (row t)) ≡ not (before t s)
+cmp_before s t = first_below (row s) (row t) _ refl
 
 -- ---- the derived equality
 

@@ -12,5 +12,5 @@ pub fn place_for(entries: &[Entry], t: &NetToken) -> usize
     requires { M.Sorted before (tokens entries.now) }
     ensures { (result ≡ place_for t.now (tokens entries.now)) × (result ≤ length entries.now) }
 {
-    entries.partition_point(|e| e.token < *t)
+    entries.partition_point(|e| e.token.cmp(t).is_lt())
 }

@@ -40,7 +40,7 @@ fn all_held(entries: &[Entry], z: &PlaceSizes) -> bool
 fn in_order(entries: &[Entry]) -> bool
     ensures { result ≡ ascending entries.now }
 {
-    entries.is_sorted_by(|e, f| e.token < f.token)
+    entries.is_sorted_by(|e, f| e.token.cmp(&f.token).is_lt())
 }
 
 // Whether room is unused.

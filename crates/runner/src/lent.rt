@@ -4,6 +4,7 @@ ghost use Rattle.eos.specs.Causes.{first};
 ghost use Rattle.model.specs.Limits.{room_limit, longest};
 ghost use Rattle.marking.specs.Tokens.{tokens_in, Kept};
 ghost use Rattle.step.specs.Verdict.{left_held, causes_in};
+ghost use Rattle.step.specs.RuleParts.{Unused};
 ghost use Rattle.step.specs.VerdictParts.{Sound, Placed};
 ghost use Rattle.model.specs.Test.{held_model};
 ghost use Rattle.marking.specs.Sizes.{place_sizes};
@@ -19,7 +20,7 @@ use reader::named;
 use step::Rule;
 use step_change::change;
 use step_read::read_step;
-use step_rule::rule_of;
+use step_rule::lay_rule;
 use step_verdict::verdict;
 use text_reader::Reader;
 
@@ -42,7 +43,7 @@ fn fire(
 }
 
 // What the steps of a run share: a held model, how many counts the net-tokens of its places have, how many entries a marking has room for, and
-// room for the lines that a step takes and gives, in fixed memory.
+// room for the lines that a step takes and gives and for the rule of its event, in fixed memory.
 #[derive(Drop)]
 pub struct Stepper<'a> {
     pub model: &'a Model,
@@ -50,9 +51,12 @@ pub struct Stepper<'a> {
     pub room: usize,
     pub taken: [Entry; Marking::ROOM],
     pub given: [Entry; Marking::ROOM],
+    pub rule: Rule,
     ghost held: { held_model model.now ≡ true },
     ghost sized: { sizes ≡ place_sizes model.now },
     ghost bounded: { room ≤ room_limit },
+    ghost asked: { Unused model.now.nets rule.pre.inner },
+    ghost left: { Unused model.now.nets rule.post.inner },
 }
 
 impl<'a> Stepper<'a> {
@@ -67,6 +71,7 @@ impl<'a> Stepper<'a> {
             room,
             taken: unused,
             given: unused,
+            rule: Rule::empty(),
         }
     }
 
@@ -87,8 +92,7 @@ impl<'a> Stepper<'a> {
             &mut self.given,
         );
         let lines = named(s, read)?;
-        let mut rule = Rule::empty();
-        rule_of(self.model, lines.event, &mut rule);
-        fire(self.room, &rule, k, lines.taken, lines.given, r.at)
+        lay_rule(self.model, lines.event, &mut self.rule);
+        fire(self.room, &self.rule, k, lines.taken, lines.given, r.at)
     }
 }

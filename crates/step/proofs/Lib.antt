@@ -19,3 +19,4 @@ pub mod StepExactly
 pub mod StepRefused
 pub mod ChangeLaws
 pub mod StepFaults
+pub mod UnusedRows

@@ -1,8 +1,8 @@
 -- What the parts of the code answer that adds up what an event asks and gives.
-use Rattle.std.specs.Prelude.{ℕ, zero, suc, List, get_or}
+use Rattle.std.specs.Prelude.{ℕ, zero, suc, ◌≤◌, ◌<◌, ◌≡◌, List, length, get_or}
 use Rattle.eos.specs.Vector.{◌⊕◌, times, zeros}
 use Rattle.model.specs.Rules.{nth}
-use Rattle.model.specs.Held.{tabled, row, row_at, row_in, listed, no_net}
+use Rattle.model.specs.Held.{no_row, tabled, row, row_at, row_in, listed, no_net}
 use Rattle.model.specs.declared.ObjectNet.{ObjectNet}
 use Rattle.model.specs.declared.Model.{Model}
 
@@ -28,3 +28,8 @@ post_arcs net = net.post
 -- the same of each net, in its row
 abbrev pub net_sums : (ObjectNet → List (List ℕ)) → Model → List (List ℕ) → List (List ℕ)
 net_sums side m sync = tabled row 8 (listed (net_sum side m.objects sync) 0 m.nets)
+
+-- the rows from n on are not used
+pub record Unused (n : ℕ) (rows : List (List ℕ)) : Type 0 where
+  pub long : length rows ≡ 8
+  pub none : (k : ℕ) → n ≤ k → k < 8 → row_at rows k ≡ no_row

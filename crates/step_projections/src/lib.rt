@@ -2,9 +2,10 @@
 // a line of many costs what a line of one does.
 #![tactic(auto)]
 
-ghost use Rattle.std.specs.Prelude.{◌≡◌, ℕ, ◌*◌, ◌≤◌, get_or, length};
+ghost use Rattle.std.specs.Prelude.{◌≡◌, ℕ, ◌*◌, ◌≤◌, get_or, length, replicate};
 ghost use Rattle.eos.specs.Vector.{◌⊕◌, times};
 ghost use Rattle.model.specs.Limits.{alike_limit, count_limit};
+ghost use Rattle.model.specs.Held.{no_row};
 ghost use Rattle.step.specs.Verdict.{outer_entries};
 ghost use Rattle.step.specs.VerdictParts.{Small, SmallRows, Placed, Rowed, Added, Inner};
 
@@ -49,13 +50,21 @@ fn add_inside(sums: &mut [[u64; 32]; 8], types: &[u8; 32], e: &Entry)
     add_counts(&mut sums[d - 1], e.times, &e.token.counts);
 }
 
-// The insides of net-tokens added up, net by net, into room for the sums: an answer of 2 KB is copied, which is slower (tried).
+// The insides of net-tokens added up, net by net, into sums that are all 0.
+pub fn add_insides(entries: &[Entry], types: &[u8; 32], sums: &mut [[u64; 32]; 8])
+    requires { Placed entries.now × ((p : ℕ) → get_or types.now p 0 ≤ 8) × (sums.old ≡ replicate 8 no_row) }
+    ensures { Inner types.now entries.now sums.new }
+{
+    for e in entries {
+        add_inside(sums, types, e);
+    }
+}
+
+// The same into room for the sums, whatever stands there: an answer of 2 KB is copied, which is slower (tried).
 pub fn inner_of(entries: &[Entry], types: &[u8; 32], sums: &mut [[u64; 32]; 8])
     requires { Placed entries.now × ((p : ℕ) → get_or types.now p 0 ≤ 8) }
     ensures { Inner types.now entries.now sums.new }
 {
     *sums = [[0u64; 32]; 8];
-    for e in entries {
-        add_inside(sums, types, e);
-    }
+    add_insides(entries, types, sums);
 }

@@ -12,7 +12,7 @@ ghost use Rattle.step.specs.VerdictParts.{Sound, Placed};
 use marking::Entry;
 use step::{Refusal, Rule};
 use step_projections::nets::{short_net, unbalanced_net};
-use step_projections::{inner_of, outer_of};
+use step_projections::{add_insides, outer_of};
 
 // Whether the net-tokens taken are one, of the net that is `alone`.
 fn one_of_net(rule: &Rule, taken: &[Entry]) -> bool
@@ -70,12 +70,12 @@ pub fn on_nets(rule: &Rule, taken: &[Entry], given: &[Entry]) -> Result<(), Refu
     ensures { result ≡ verdict_of (length taken.now) (first (inner_causes rule.now taken.now given.now)) }
 {
     let mut held = [[0u64; 32]; 8];
-    inner_of(taken, &rule.types, &mut held);
+    add_insides(taken, &rule.types, &mut held);
     if let Some(net) = short_net(rule.nets, &rule.pre.inner, &held) {
         return Err(Refusal::Short { net: net + 1 });
     }
     let mut made = [[0u64; 32]; 8];
-    inner_of(given, &rule.types, &mut made);
+    add_insides(given, &rule.types, &mut made);
     if let Some(net) = unbalanced_net(rule.nets, &made, &held, &rule.pre.inner, &rule.post.inner) {
         return Err(Refusal::Unequal { net: net + 1 });
     }

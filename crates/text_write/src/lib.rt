@@ -11,8 +11,11 @@ use text_scan::stop_of;
 pub fn width(n: u64) -> usize
     ensures { result ≡ length (decimal n) }
 {
+    if n < 10 {
+        return 1;
+    }
     // No From goes from u32 to usize; the logarithm fits, so there is no refusal to hand on.
-    n.max(1).ilog10() as usize + 1
+    n.ilog10() as usize + 1
 }
 
 // The writer of a text: the bytes that are lent, and the place that it has reached. Each text laid moves it behind that text.
@@ -33,8 +36,21 @@ impl<'a> Writer<'a> {
         self.at = end;
     }
 
-    // A number in decimal, its last digit first.
+    // A number in decimal. Where it has one digit, as most counts have, that is laid at once, which is faster.
     pub fn number(&mut self, n: u64)
+        requires { self.old.at + length (decimal n) ≤ length self.old.out.now }
+        ensures { Lays (decimal n) self.old self.new }
+    {
+        if 10 <= n {
+            return self.digits(n);
+        }
+        // A digit fits: there is no refusal to hand on.
+        self.out[self.at] = b'0' + n as u8;
+        self.at += 1;
+    }
+
+    // The digits of a number, the last one first.
+    fn digits(&mut self, n: u64)
         requires { self.old.at + length (decimal n) ≤ length self.old.out.now }
         ensures { Lays (decimal n) self.old self.new }
     {

@@ -3,17 +3,20 @@ use mathlib.Core.Path.{◌≡◌, ap, sym, ◌∙◌}
 use mathlib.Core.List.{[]}
 use native.Mathlib.Omega.{arith}
 use native.Mathlib.Nat.{sub-zero}
-use lib.ListN.{length, get_or, length-set, length-replicate}
-use Rattle.model.specs.Held.{no_row, no_net, row_at}
+use lib.ListN.{length, get_or, length-set}
+use Rattle.model.specs.Held.{no_net, row_at}
 use Rattle.model.specs.declared.ObjectNet.{ObjectNet}
 use Rattle.model.proofs.ModelSized.{told-sized}
 use Rattle.model.proofs.HeldTestLoops.{at_any}
 use Rattle.step.specs.RuleParts.{arc_sum, net_sum, pre_arcs, post_arcs}
-use Rattle.step.proofs.ArcSums.{nets_begin, nets_next, nets_done}
+use Rattle.step.proofs.ArcSums.{nets_next, nets_done}
+use Rattle.step.proofs.UnusedRows.{laid_over}
 use Rattle.step_rule.proofs.inner_sides.Goals as goal
 
 pub loop-n-init : goal.loop-n-init
-loop-n-init c = (omega arith, length-replicate 8 no_row, length-replicate 8 no_row, rw sub-zero (nets_begin _), rw sub-zero (nets_begin _))
+loop-n-init c =
+    let r = c.requires in
+    (omega arith, r.2.long, r.3.long, rw sub-zero (laid_over _ _ r.0 _ r.2), rw sub-zero (laid_over _ _ r.0 _ r.3))
 
 pub loop-n-preserved : goal.loop-n-preserved
 loop-n-preserved c =

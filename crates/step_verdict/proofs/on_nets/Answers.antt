@@ -14,20 +14,20 @@ use Rattle.step_verdict.proofs.on_nets.Goals as goal
 pub overflow_add-result : goal.overflow_add-result
 overflow_add-result c =
     let q = c.args.rule.now in
-    let f : ℕ → Bool = λ n. le_v (row_at q.pre.inner n) (row_at c.inner_of.new.sums n) in
+    let f : ℕ → Bool = λ n. le_v (row_at q.pre.inner n) (row_at c.add_insides.new.sums n) in
     omega (arith, (failing-least q.nets f c.in-Some.net (told_some (failing q.nets 0 f) c.in-Some.net c.in-Some.ensures)).within, c.requires.0.nets)
 
 pub returns-in-Some : goal.returns-in-Some
 returns-in-Some c =
     let a = c.args in
     sym (stop_short _ a.rule.now a.taken.now a.given.now c.in-Some.net
-    (c.in-Some.ensures ∙ ap told (taken_same a.rule.now a.taken.now _ c.requires.0.nets c.inner_of.ensures)))
+    (c.in-Some.ensures ∙ ap told (taken_same a.rule.now a.taken.now _ c.requires.0.nets c.add_insides.ensures)))
 
 pub overflow_add-result-in-Some-unbalanced_net : goal.overflow_add-result-in-Some-unbalanced_net
 overflow_add-result-in-Some-unbalanced_net c =
     let q = c.args.rule.now in
     let n = c.in-Some-unbalanced_net.net in
-    let f : ℕ → Bool = even_in c.inner_of-2.new.sums c.inner_of.new.sums q.pre.inner q.post.inner in
+    let f : ℕ → Bool = even_in c.add_insides-2.new.sums c.add_insides.new.sums q.pre.inner q.post.inner in
     omega (arith, (failing-least q.nets f n (told_some (failing q.nets 0 f) n c.in-Some-unbalanced_net.ensures)).within, c.requires.0.nets)
 
 pub returns-in-Some-unbalanced_net : goal.returns-in-Some-unbalanced_net
@@ -35,13 +35,13 @@ returns-in-Some-unbalanced_net c =
     let a = c.args in
     let q = a.rule.now in
     sym (stop_unequal _ q a.taken.now a.given.now
-    (c.in_default.ensures ∙ ap told (taken_same q a.taken.now _ c.requires.0.nets c.inner_of.ensures)) c.in-Some-unbalanced_net.net
-    (c.in-Some-unbalanced_net.ensures ∙ ap told (given_same q a.taken.now _ c.requires.0.nets c.inner_of.ensures a.given.now _ c.inner_of-2.ensures)))
+    (c.in_default.ensures ∙ ap told (taken_same q a.taken.now _ c.requires.0.nets c.add_insides.ensures)) c.in-Some-unbalanced_net.net
+    (c.in-Some-unbalanced_net.ensures ∙ ap told (given_same q a.taken.now _ c.requires.0.nets c.add_insides.ensures a.given.now _ c.add_insides-2.ensures)))
 
 pub returns : goal.returns
 returns c =
     let a = c.args in
     let q = a.rule.now in
     sym (pass_nets _ q a.taken.now a.given.now
-    (c.in_default.ensures ∙ ap told (taken_same q a.taken.now _ c.requires.0.nets c.inner_of.ensures))
-    (c.in_default-unbalanced_net.ensures ∙ ap told (given_same q a.taken.now _ c.requires.0.nets c.inner_of.ensures a.given.now _ c.inner_of-2.ensures)))
+    (c.in_default.ensures ∙ ap told (taken_same q a.taken.now _ c.requires.0.nets c.add_insides.ensures))
+    (c.in_default-unbalanced_net.ensures ∙ ap told (given_same q a.taken.now _ c.requires.0.nets c.add_insides.ensures a.given.now _ c.add_insides-2.ensures)))

@@ -52,10 +52,10 @@ returns-in_err-lines-clause-stepped c =
     ∙ step-refused m a.k.now a.s.now a.self.now.room _
     (sym (reading_is m a.k.now a.s.now a.self.now.sizes a.self.now.sized) ∙ (refused_of hold_step _ _ (rw is at c.read_step-read.ensures)).is)))
 
-pub rule_of-requires : goal.rule_of-requires
-rule_of-requires c =
-    let p = (goal.at.rule_of-requires c).In_ok-lines in
-    (c.args.self.now.held, omega (arith, (read p).event-is, (right p).known))
+pub lay_rule-requires : goal.lay_rule-requires
+lay_rule-requires c =
+    let p = (goal.at.lay_rule-requires c).In_ok-lines in
+    (c.args.self.now.held, omega (arith, (read p).event-is, (right p).known), c.args.self.now.asked, c.args.self.now.left)
 
 pub fire-requires : goal.fire-requires
 fire-requires c =
@@ -63,11 +63,11 @@ fire-requires c =
     let t = (read p).step in
     let r = right p in
     let m = c.args.self.now.model.now in
-    let sized = c.rule_of.ensures.sized in
+    let sized = c.lay_rule.ensures.sized in
     let held = c.args.self.now.held in (
       c.args.self.now.bounded,
       c.requires.3,
-      rule_is_sound m sized held t r _ _ c.rule_of.ensures.made (read p).event-is,
+      rule_is_sound m sized held t r _ _ c.lay_rule.ensures.made (read p).event-is,
       read_placed m sized held t.taken r.taken r.take-few _ (read p).taken_are,
       read_placed m sized held t.given r.given r.give_few _ (read p).given_are,
       (both_stands _ _ c.requires.2 c.requires.0).kept,
@@ -78,5 +78,5 @@ returns-clause-stepped c =
     let a = c.args in
     let m = a.self.now.model.now in
     c.fire.ensures
-    ∙ step-ruled m a.k.now a.s.now a.self.now.room c.rule_of.ensures.sized a.self.now.held (both_stands _ _ c.requires.2 c.requires.0) _ _
-    (read (goal.at.returns-clause-stepped c).In_ok-lines) _ c.rule_of.ensures.made
+    ∙ step-ruled m a.k.now a.s.now a.self.now.room c.lay_rule.ensures.sized a.self.now.held (both_stands _ _ c.requires.2 c.requires.0) _ _
+    (read (goal.at.returns-clause-stepped c).In_ok-lines) _ c.lay_rule.ensures.made

@@ -2,12 +2,12 @@ use native.Mathlib.Omega.{arith}
 use Rattle.marking.proofs.KeptLaws.{place_at}
 use Rattle.step.proofs.TokenSums.{beyond}
 use Rattle.step.proofs.InsideLaws.{rowed_none, none-small, inner_start, inner_turn, inner_end}
-use Rattle.step_projections.proofs.inner_of.Goals as goal
+use Rattle.step_projections.proofs.add_insides.Goals as goal
 
 pub loop-e-init : goal.loop-e-init
 loop-e-init c =
     let a = c.args in
-    (rowed_none, (λ n k. omega (arith, none-small n k)), inner_start a.types.now a.entries.now)
+    rw c.requires.2 (rowed_none, (λ n k. omega (arith, none-small n k)), inner_start a.types.now a.entries.now)
 
 pub add_inside-requires : goal.add_inside-requires
 add_inside-requires c =

@@ -1,11 +1,11 @@
--- `number` meets its contract: the digits of n, laid from the last to the first. The loop's invariant: while there is room, the digits of v
+-- `digits` meets its contract: the digits of n, laid from the last to the first. The loop's invariant: while there is room, the digits of v
 -- end at k, and laid over the bytes as they are now they are those of n laid over the bytes as they were; then all are laid.
 use Prim.Native.Nat.{◌+◌, ◌≤◌, ◌<◌}
 use mathlib.Core.Path.{◌≡◌}
 use lib.ListN.{length}
 use lib.Seq.{sets}
 use Rattle.text.specs.Printed.{decimal}
-use Rattle.text_write.proofs.Writer.number.Given as goal
+use Rattle.text_write.proofs.Writer.digits.Given as goal
 
 abbrev pub invariant-loop-k : goal.invariant-loop-k
 invariant-loop-k l =
