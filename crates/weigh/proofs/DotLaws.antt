@@ -28,6 +28,10 @@ dot_step a rest b rest_b w n sum next t p q h e =
     let d : sum +ℤ dot a b ≡ sum +ℤ (w *ℤ pos n +ℤ dot rest rest_b) = ap₂ (λ (x : List ℤ) (y : List ℕ). sum +ℤ dot x y) p q in
     omega (arith, ints, d, e, h)
 
+-- the product of the same weights and counts
+pub dot_same : {a b : List ℤ} {x y : List ℕ} → a ≡ b → x ≡ y → dot a x ≡ dot b y
+dot_same p q = ap₂ dot p q
+
 -- no weight or no count is still to come
 no_more : (a : List ℤ) (b : List ℕ) → (length a ≡ 0) ⊎ (length b ≡ 0) → dot a b ≡ pos 0
 no_more [] b h = refl

@@ -19,7 +19,7 @@ use Rattle.model.specs.Held.{no_net, row_at, told}
 use Rattle.model.specs.declared.Model.{Model}
 use Rattle.model.proofs.SlotLaws.{by_index}
 use Rattle.model.proofs.HeldTestLoops.{at_any}
-use Rattle.weigh.specs.Sums.{Small, GainRow, Gains, move_gain}
+use Rattle.weigh.specs.Sums.{number_of, gain_of, Small, Addable, GainRow, Gains, move_gain}
 
 by_same : {G : Type 0} (i j : ℕ) → (i ≡ j → G) → ((i ≡ j → ⊥) → G) → G
 by_same i j f g = by_index i j (λ p. g (λ e. omega arith)) (λ p. by_index j i (λ q. g (λ e. omega arith)) (λ q. f (omega arith)))
@@ -31,9 +31,35 @@ small_none zero k = omega arith
 small_none (suc n) zero = omega arith
 small_none (suc n) (suc k) = small_none n k
 
--- each of its numbers is small
-pub small_all : (row : List ℤ) → Small row → All (λ g. nat_abs g ≤ 137436856320) row
+-- each of its numbers may be a factor
+pub small_all : (row : List ℤ) → Addable row → All (λ g. nat_abs g ≤ 137436856320) row
 small_all row h k d p = rw (at_any row k d (pos 0) p) (h k)
+
+-- the gains of the first n transitions, in a row of 32
+module _ (w : List ℤ) (pre post : List (List ℕ)) where
+  pub record Gained (n : ℕ) (row : List ℤ) : Type 0 where
+    pub long : length row ≡ 32
+    pub small : Small row
+    pub is : (t : ℕ) → t < n → number_of row t ≡ gain_of w pre post t
+
+  pub gained_none : Gained 0 (replicate 32 (pos 0))
+  gained_none = record { long = refl; small = small_none 32; is = λ t h. absurd (omega arith) }
+
+  pub gained_next : (n : ℕ) (row : List ℤ) (gain : ℤ) → Gained n row → n < 32 → nat_abs gain ≤ 1069531200 → gain ≡ gain_of w pre post n → Gained (n + 1) (set row n gain)
+  gained_next n row gain g h few e = record {
+    long = length-set row n gain ∙ g.long;
+    small = λ k.
+        by_same k n
+        (λ d. rw (d, get_or-set_same row n gain (pos 0) (omega (arith, g.long))) few)
+        (λ d. rw (get_or-set_other row n k gain (pos 0) d) (g.small k));
+    is = λ t p.
+        by_same t n
+        (λ d. rw (d, get_or-set_same row n gain (pos 0) (omega (arith, g.long))) e)
+        (λ d. rw (get_or-set_other row n t gain (pos 0) d) (g.is t (omega (arith, d))));
+  }
+
+  pub gained_all : (row : List ℤ) → Gained 32 row → GainRow w pre post row
+  gained_all row g = record { long = g.long; small = g.small; is = g.is }
 
 -- ---- rows laid one after the other
 
@@ -82,7 +108,7 @@ module _ (m : Model) (weights : List (List ℤ)) where
 
 -- ---- a move's gain
 
-pub move_small : (row : List ℤ) → Small row → (k : ℕ) → nat_abs (move_gain row k) ≤ 137436856320
+pub move_small : (row : List ℤ) → Addable row → (k : ℕ) → nat_abs (move_gain row k) ≤ 137436856320
 unfolding move_gain
 move_small row h zero = omega arith
 move_small row h (suc k) = h k

@@ -1,4 +1,5 @@
 pub mod DotLaws
+pub mod NumberLaws
 pub mod GainLaws
 pub mod TotalLaws
 pub mod CoverTests

@@ -1,10 +1,10 @@
 -- Sums over what is held: what transitions and events gain, what net-tokens weigh, whether weights cover. Weights are held in rows of 32, the
 -- outer weights and then those of each net; so are gains, those of the moves and then those of each net's transitions.
-use Rattle.std.specs.Prelude.{ℕ, zero, suc, ◌-◌, ◌/◌, ◌≤◌, ◌<◌, ◌≡◌, Bool, ◌&&◌, List, [], ◌∷◌, leb, length, take, get_or, ℤ, pos, ◌+ℤ◌, ◌-ℤ◌, ◌*ℤ◌, nat_abs}
+use Rattle.std.specs.Prelude.{ℕ, zero, suc, ◌+◌, ◌-◌, ◌*◌, ◌/◌, ◌≤◌, ◌<◌, ◌≡◌, Bool, ◌&&◌, List, [], ◌∷◌, leb, length, take, get_or, map, ℤ, pos, ◌+ℤ◌, ◌-ℤ◌, ◌*ℤ◌, nat_abs}
 use Rattle.eos.specs.Multiset.{every}
 use Rattle.eos.specs.Firing.{all_below}
 use Rattle.eos.specs.Weights.{dot, positive, is_zero}
-use Rattle.model.specs.Limits.{count_limit}
+use Rattle.model.specs.Limits.{room_limit, alike_limit, count_limit}
 use Rattle.model.specs.Rules.{nth}
 use Rattle.model.specs.Acts.{move_in}
 use Rattle.model.specs.Held.{no_net, no_event, row_at}
@@ -25,15 +25,29 @@ total (suc n) f = total n f +ℤ f n
 abbrev pub number_of : List ℤ → ℕ → ℤ
 number_of row i = get_or row i (pos 0)
 
+-- ---- weights
+
+-- the most that a weight may be, either side of 0
+abbrev pub most_weight : ℕ
+most_weight = 65535
+
+-- rows of weights of any type, by their numbers
+abbrev pub numbers : {A : Type 0} → (A → ℤ) → List (List A) → List (List ℤ)
+numbers number rows = map (map number) rows
+
 -- ---- events
 
 -- what transition t gains: its post weighed, less its pre weighed
 unfoldable pub gain_of : List ℤ → List (List ℕ) → List (List ℕ) → ℕ → ℤ
 gain_of w pre post t = dot w (row_at post t) -ℤ dot w (row_at pre t)
 
--- what a row holds stays small
+-- what a row holds stays small: two sides of 32 weights of at most 65,535, each at most 255 times
 abbrev pub Small : List ℤ → Type 0
-Small row = (k : ℕ) → nat_abs (number_of row k) ≤ 137436856320
+Small row = (k : ℕ) → nat_abs (number_of row k) ≤ 1069531200
+
+-- so small that it may be added up, each number as often as it is counted
+abbrev pub Addable : List ℤ → Type 0
+Addable row = (k : ℕ) → nat_abs (number_of row k) ≤ 137436856320
 
 -- a row of what each transition gains
 pub record GainRow (w : List ℤ) (pre post : List (List ℕ)) (row : List ℤ) : Type 0 where
@@ -73,10 +87,21 @@ balanced_at nets events gains k = is_zero (event_gain nets (get_or events k no_e
 unfoldable pub token_weight : List (List ℤ) → List ℕ → NetToken → ℤ
 token_weight weights types t = number_of (row_at weights 0) (t.place - 1) +ℤ dot (row_at weights (nth types (t.place - 1))) t.counts
 
+-- the most that it is, by the most that a weight is: of its place, and of 32 counts; and as often as it may be counted
+abbrev pub token_most : ℕ → ℕ
+token_most limit = limit + 32 * (limit * count_limit)
+
+abbrev pub entry_most : ℕ → ℕ
+entry_most limit = token_most limit * alike_limit
+
 -- of entries, each as often as it is counted
 unfoldable pub marking_weight : List (List ℤ) → List ℕ → List Entry → ℤ
 marking_weight weights types [] = pos 0
 marking_weight weights types (e ∷ es) = pos e.times *ℤ token_weight weights types e.token +ℤ marking_weight weights types es
+
+-- the most that it is, of the most entries that there may be
+abbrev pub marking_most : ℕ → ℕ
+marking_most limit = room_limit * entry_most limit
 
 -- a place's type is that of black tokens or one of eight nets'
 abbrev pub TypesIn : List ℕ → Type 0

@@ -5,6 +5,7 @@
 ghost use Rattle.std.specs.Prelude.{◌≡◌, ℕ, ◌*◌, ◌≤◌, ⊤, length, map, ℤ, pos, neg_ℤ, nat_abs, ◌≤ℤ◌};
 ghost use Rattle.std.specs.List.{All};
 ghost use Rattle.eos.specs.Weights.{dot};
+ghost use Rattle.weigh.specs.Sums.{most_weight};
 
 // What is added up: a weight, or what weights add up to, which has a limit either side of 0.
 pub trait Factor: Copy {
@@ -25,6 +26,19 @@ impl Factor for i16 {
     ghost limit = { 32768 };
 
     ghost within = { λ _. ⊤ };
+
+    fn wide(self) -> i64 {
+        i64::from(self)
+    }
+}
+
+// A weight that needs more than 16 bits, of at most 65,535 either side of 0.
+impl Factor for i32 {
+    ghost number = { λ n. n };
+
+    ghost limit = { most_weight };
+
+    ghost within = { λ n. nat_abs n ≤ most_weight };
 
     fn wide(self) -> i64 {
         i64::from(self)

@@ -1,33 +1,41 @@
 // What events gain, by weights: an event whose effect is 0 gains nothing.
 #![tactic(auto)]
 
-ghost use Rattle.std.specs.Prelude.{◌≡◌, ℕ, ◌≤◌, ◌<◌, length, get_or, pos, neg_ℤ, ◌-ℤ◌, ◌≤ℤ◌};
+ghost use Rattle.std.specs.Prelude.{◌≡◌, ℕ, ◌≤◌, ◌<◌, length, map, get_or, pos, neg_ℤ, ◌-ℤ◌, ◌≤ℤ◌};
+ghost use Rattle.std.specs.List.{All};
 ghost use Rattle.eos.specs.Causes.{failing};
 ghost use Rattle.eos.specs.Weights.{dot, is_zero};
 ghost use Rattle.model.specs.Acts.{as_act, index_of, move_of};
 ghost use Rattle.model.specs.Held.{no_event, row_at, told};
 ghost use Rattle.weigh.specs.Sums as sums;
-ghost use Rattle.weigh.specs.Sums.{GainRow, Small, move_gain, event_gain, balanced_at, ActIn};
+ghost use Rattle.weigh.specs.Sums.{most_weight, numbers, GainRow, Addable, move_gain, event_gain, balanced_at, ActIn};
 
 use model::{Act, Event, Model};
-use std::array;
-use weigh::dot;
+use weigh::{Factor, dot};
 
 // What a transition gains by a row of weights: its post weighed, less its pre weighed.
-fn gain(weights: &[i16], pre: &[u8], post: &[u8]) -> i64
-    requires { length weights.now ≤ 32 }
-    ensures value { result ≡ dot weights.now post.now -ℤ dot weights.now pre.now }
-    ensures low { neg_ℤ (pos 137436856320) ≤ℤ result }
-    ensures high { result ≤ℤ pos 137436856320 }
+fn gain<W: Factor>(weights: &[W], pre: &[u8], post: &[u8]) -> i64
+    requires few { length weights.now ≤ 32 }
+    requires most { W.limit ≤ most_weight }
+    requires small { All W.within weights.now }
+    ensures value { result ≡ dot (map W.number weights.now) post.now -ℤ dot (map W.number weights.now) pre.now }
+    ensures low { neg_ℤ (pos 1069531200) ≤ℤ result }
+    ensures high { result ≤ℤ pos 1069531200 }
 {
     dot(weights, post) - dot(weights, pre)
 }
 
 // What each of 32 transitions gains by a row of weights.
-fn gain_row(weights: &[i16; 32], pre: &[[u8; 32]; 32], post: &[[u8; 32]; 32]) -> [i64; 32]
-    ensures { GainRow weights.now pre.now post.now result }
+fn gain_row<W: Factor>(weights: &[W; 32], pre: &[[u8; 32]; 32], post: &[[u8; 32]; 32]) -> [i64; 32]
+    requires most { W.limit ≤ most_weight }
+    requires small { All W.within weights.now }
+    ensures { GainRow (map W.number weights.now) pre.now post.now result }
 {
-    array::from_fn(|t| gain(weights, &pre[t], &post[t]))
+    let mut row = [0i64; 32];
+    for t in 0..32 {
+        row[t] = gain(weights, &pre[t], &post[t]);
+    }
+    row
 }
 
 // What transitions gain: a row of the moves, and one of each net's transitions.
@@ -36,7 +44,7 @@ pub struct Gains {
     pub nets: usize,
     pub rows: [[i64; 32]; 9],
     pub ghost few: { nets ≤ 8 },
-    pub ghost small: { (r : ℕ) → Small (row_at rows r) },
+    pub ghost small: { (r : ℕ) → Addable (row_at rows r) },
 }
 
 // What an act gains: its move does, and idling, at a place or alone, gains nothing.
@@ -53,10 +61,12 @@ fn act_gain(act: Act, gains: &[i64; 32]) -> i64
 
 impl Gains {
     // What each move and each net's transitions of a model gain, in the rows of their weights.
-    pub fn of(m: &Model, weights: &[[i16; 32]; 9]) -> Gains
-        requires { m.now.nets ≤ 8 }
+    pub fn of<W: Factor>(m: &Model, weights: &[[W; 32]; 9]) -> Gains
+        requires few { m.now.nets ≤ 8 }
+        requires most { W.limit ≤ most_weight }
+        requires small { All (All W.within) weights.now }
         ensures nets { result.nets ≡ m.now.nets }
-        ensures rows { sums.Gains m.now weights.now result.rows }
+        ensures rows { sums.Gains m.now (numbers W.number weights.now) result.rows }
     {
         let mut rows = [[0i64; 32]; 9];
         rows[0] = gain_row(&weights[0], &m.pre, &m.post);

@@ -1,29 +1,26 @@
--- `gain_row` lists what each transition gains.
-use Rattle.std.proofs.Common.{rules, ◌∙◌, ap, ℕ, List, arith}
-use Rattle.std.proofs.iter.Serving.{serving}
-use lib.IntN.{ℤ, pos}
-use lib.ListN.{get_or-eq_default}
-use Rattle.model.proofs.SlotLaws.{made_listed, listed_at, by_index}
-use Rattle.weigh.specs.Sums.{number_of, gain_of}
+use mathlib.Core.Path.{◌≡◌}
+use native.Mathlib.Omega.{arith}
+use mir.Syntax.{w64}
+use mir.Val.{to_z, of_z}
+use Rattle.std.proofs.lemmas.Int.{ints}
+use Rattle.weigh.specs.Sums.{gain_of}
 use Rattle.weigh.proofs.DotLaws.{between}
+use Rattle.weigh.proofs.GainLaws.{gained_none, gained_next, gained_all}
 use Rattle.weigh_events.proofs.gain_row.Goals as goal
 
-pub from_fn-requires : goal.from_fn-requires
-from_fn-requires c = grind serving
+pub loop-t-init : goal.loop-t-init
+loop-t-init g c = gained_none _ _ _
+
+pub loop-t-preserved : goal.loop-t-preserved
+unfolding gain_of
+loop-t-preserved g c =
+    let r = c.gain.result in
+    let e = c.gain.ensures in
+    let held : to_z w64 (of_z w64 r) ≡ r = omega (arith, ints, e.low, e.high) in
+    rw held (gained_next _ _ _ _ _ r c.loop-t.invariant c.loop-t-test.true (between r 1069531200 e.low e.high) e.value)
 
 pub returns : goal.returns
-unfolding gain_of
-returns c =
-    let a = c.args in
-    let row = c.from_fn.result in
-    let made = c.from_fn.ensures.items in
-    let gains : ℕ → ℤ = gain_of a.weights.now a.pre.now a.post.now in
-    let listed = made_listed _ _ gains 32 (λ t h b q k. search rules) _ (pos 0) made in
-    record {
-      long = made.long;
-      small = λ k.
-          by_index 32 k
-          (λ h. let call = (made.at k (pos 0) h).2 in between (number_of row k) 137436856320 (search (rules, call)) (search (rules, call)))
-          (λ h. let past = get_or-eq_default row (pos 0) {n = k} (omega (arith, made.long, h)) in rw past (omega arith));
-      is = λ t h. ap (λ (l : List ℤ). number_of l t) listed ∙ listed_at gains 32 t (pos 0) h;
-    }
+returns g c =
+    let l = c.loop-t in
+    let e : l.t ≡ 32 = omega arith in
+    gained_all _ _ _ _ (rw e at l.invariant)

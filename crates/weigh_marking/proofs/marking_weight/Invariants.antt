@@ -4,11 +4,12 @@ use mathlib.Core.Path.{◌≡◌}
 use lib.IntN.{pos, neg_ℤ, ◌+ℤ◌}
 use lib.ListN.{drop}
 use lib.Signed.{◌≤ℤ◌}
-use Rattle.weigh.specs.Sums.{marking_weight}
+use Rattle.weigh.specs.Sums.{numbers, marking_weight, entry_most}
 use Rattle.weigh_marking.proofs.marking_weight.Given as goal
 
 abbrev pub invariant-loop-e : goal.invariant-loop-e
-invariant-loop-e l =
-    (marking_weight l.weights l.types l.entries ≡ l.sum +ℤ marking_weight l.weights l.types (drop l.e-index l.entries))
-    × (neg_ℤ (pos (l.e-index * 4503464404024320)) ≤ℤ l.sum)
-    × (l.sum ≤ℤ pos (l.e-index * 4503464404024320))
+invariant-loop-e g l =
+    let rows = numbers g.W.Factor.number l.weights in
+    (marking_weight rows l.types l.entries ≡ l.sum +ℤ marking_weight rows l.types (drop l.e-index l.entries))
+    × (neg_ℤ (pos (l.e-index * entry_most g.W.Factor.limit)) ≤ℤ l.sum)
+    × (l.sum ≤ℤ pos (l.e-index * entry_most g.W.Factor.limit))
