@@ -84,7 +84,7 @@ fn by_type(objects: &[ObjectNet; 8]) -> [u8; 9]
 }
 
 // For each place, how many counts a net-token has.
-fn sizes(m: &Model) -> [u8; 32]
+pub fn sizes(m: &Model) -> [u8; 32]
     requires { held_model m.now ≡ true }
     ensures { result ≡ sizes_in m.now }
 {

@@ -61,7 +61,7 @@ pub fn values<V: Value>(
 }
 
 // The list of n values from `at` to the end of its line, which begins at `top`.
-fn list_end<V: Value>(
+pub fn list_end<V: Value>(
     s: &[u8],
     top: usize,
     at: usize,

@@ -46,7 +46,7 @@ pub fn literal(s: &[u8], at: usize, t: &[u8]) -> Result<usize, usize>
 }
 
 // The number of the line that begins at `at`, from 1.
-fn line_at(s: &[u8], at: usize) -> usize
+pub fn line_at(s: &[u8], at: usize) -> usize
     ensures { result ≡ line_at s.now at }
 {
     let before = &s[..at.min(s.len())];
@@ -164,7 +164,7 @@ pub fn ended<T: Copy>(s: &[u8], read: Parsed<T>, stop: u8) -> Result<Parsed<T>, 
 }
 
 // A number and the byte `stop` right after it.
-fn item(s: &[u8], at: usize, stop: u8) -> Result<Parsed<u32>, usize>
+pub fn item(s: &[u8], at: usize, stop: u8) -> Result<Parsed<u32>, usize>
     ensures { result ≡ capped (item number stop s.now at) }
 {
     ended(s, number(s, at)?, stop)
@@ -230,7 +230,7 @@ fn signed_if(s: &[u8], at: usize, minus: bool) -> Result<Parsed<i32>, usize>
 }
 
 // The same, and the byte `stop` right after it.
-fn value_item(s: &[u8], at: usize, stop: u8, minus: bool) -> Result<Parsed<i32>, usize>
+pub fn value_item(s: &[u8], at: usize, stop: u8, minus: bool) -> Result<Parsed<i32>, usize>
     ensures { result ≡ capped_signed (item (signed_if minus) stop s.now at) }
 {
     ended(s, signed_if(s, at, minus)?, stop)
