@@ -1,6 +1,6 @@
 -- Block by block is the whole step: what is taken, and what is given behind it.
 use Prim.Native.Nat.{ℕ}
-use mathlib.Core.Path.{◌≡◌, sym, subst}
+use mathlib.Core.Path.{◌≡◌, refl, sym, subst}
 use mathlib.Core.List.{List, map}
 use Rattle.std.specs.Prelude.{Result}
 use Rattle.std.specs.declared.result.Result.TheVariants.{Ok, Err}
@@ -34,3 +34,8 @@ module _ (lim : Limits) (z : Sizes) (events : ℕ) (old mid new : Reader) where
   step-joined (Ok t) (Ok given) first second = step_read lim z events old t first given second
   step-joined (Ok t) (Err e) first second = ungiven lim z events old t first e second
   step-joined (Err e) given first second = subst (λ (r : Reader). Reads (kept hold_step (read_step lim z events old.src.now old.at)) old r (Err e)) (sym second) (untaken lim z events old e first)
+
+-- a take that is refused ends the step
+pub step_untaken : (lim : Limits) (z : Sizes) (events : ℕ) (old new : Reader) (e : Fault) → Reads (kept hold_taking (read_taking lim z events old.src.now old.at)) old new (Err e)
+    → Reads (kept hold_step (read_step lim z events old.src.now old.at)) old new (Err e)
+step_untaken lim z events old new e taken = step-joined lim z events old new new (Err e) (Err e) taken refl
