@@ -26,7 +26,7 @@ use Rattle.model.specs.declared.Model.{Model}
 use Rattle.model.proofs.HeldTests.{held-is, most-moves, most-places, most-nets}
 use Rattle.model.proofs.HeldActs.{act-is, act_range}
 use Rattle.keeper.specs.Held.{hold_weights}
-use Rattle.weigh.specs.Sums.{total, gain_of, Gains, move_gain, event_gain, balanced_at, ActIn}
+use Rattle.weigh.specs.Sums.{total, gain_of, GainsWithin, move_gain, event_gain, balanced_at, ActIn}
 use Rattle.weigh.proofs.TotalLaws.{total_same, total_minus}
 use Rattle.keeper.proofs.DotLaws.{dot_total, minus_times}
 use Rattle.model.proofs.UsedLaws.{event_used}
@@ -75,7 +75,7 @@ module _ (m : Model) (w : Weights) (kept : Kept m w) (k : ℕ) (listed : k < m.l
   act_right : right_act (frame_in m) act ≡ true
   act_right = (act-is (frame_in m) held.kind held.index (event_used m (held-is m kept.held) k listed).act).right
 
-  module _ (gains : List (List ℤ)) (is : Gains m rows gains) where
+  module _ {most : ℕ} (gains : List (List ℤ)) (is : GainsWithin most m rows gains) where
     net_gain : (n : ℕ) → n < m.nets → dot (row_at gains (suc n)) (row_at held.sync n) ≡ total 32 (counted posts n) -ℤ total 32 (counted pres n)
     unfolding gain_of
     net_gain n p =
@@ -126,8 +126,8 @@ act_in m held k listed =
 pub event_listed : (m : Model) (k : ℕ) → k < m.listed → get_or (take m.listed m.events) k no_event ≡ get_or m.events k no_event
 event_listed m k h = get_or-take m.listed m.events k no_event h
 
--- the first event that is not balanced, by the gains of the held weights
-pub first-unbalanced : (m : Model) (w : Weights) → Kept m w → (gains : List (List ℤ)) → Gains m (hold_weights w).rows gains
+-- the first event that is not balanced, by the gains of the held weights, whatever their limit
+pub first-unbalanced : {most : ℕ} (m : Model) (w : Weights) → Kept m w → (gains : List (List ℤ)) → GainsWithin most m (hold_weights w).rows gains
     → m.listed ≤ length m.events
     → told (failing (length (take m.listed m.events)) 0 (balanced_at m.nets (take m.listed m.events) gains))
     ≡ told (failing m.listed 0 (λ k. is_zero (effect (model_of m) w (eos.event (model_of m) k))))

@@ -88,7 +88,7 @@ module _ (old mid : Reader) where
   plant = read_plant old.src.now old.at
 
   -- the model is refused
-  plant_refused : (e : Fault) → Reads (kept hold_plant plant) old mid (Err e) → Err e ≡ accepted (kept hold_loaded (read_model_at old.src.now old.at))
+  pub plant_refused : (e : Fault) → Reads (kept hold_plant plant) old mid (Err e) → Err e ≡ accepted (kept hold_loaded (read_model_at old.src.now old.at))
   unfolding read_model_at read_lines then accepted kept
   plant_refused e k = rw (refused_of hold_plant plant e k).is
 

@@ -19,14 +19,14 @@ use Rattle.model.specs.Held.{no_net, row_at, told}
 use Rattle.model.specs.declared.Model.{Model}
 use Rattle.model.proofs.SlotLaws.{by_index}
 use Rattle.model.proofs.HeldTestLoops.{at_any}
-use Rattle.weigh.specs.Sums.{number_of, gain_of, Small, Addable, GainRow, Gains, move_gain}
+use Rattle.weigh.specs.Sums.{number_of, gain_of, most_gain, Within, Small, Addable, GainRowWithin, GainsWithin, GainRow, move_gain}
 
 by_same : {G : Type 0} (i j : ℕ) → (i ≡ j → G) → ((i ≡ j → ⊥) → G) → G
 by_same i j f g = by_index i j (λ p. g (λ e. omega arith)) (λ p. by_index j i (λ q. g (λ e. omega arith)) (λ q. f (omega arith)))
 
 -- ---- a row
 
-pub small_none : (n : ℕ) → Small (replicate n (pos 0))
+pub small_none : {most : ℕ} (n : ℕ) → Within most (replicate n (pos 0))
 small_none zero k = omega arith
 small_none (suc n) zero = omega arith
 small_none (suc n) (suc k) = small_none n k
@@ -64,47 +64,54 @@ module _ (w : List ℤ) (pre post : List (List ℕ)) where
 -- ---- rows laid one after the other
 
 module _ (m : Model) (weights : List (List ℤ)) where
-  -- the row of the moves, and those of the first n nets
-  pub record Laid (n : ℕ) (table : List (List ℤ)) : Type 0 where
+  -- the row of the moves, and those of the first n nets, at most so much
+  pub record LaidWithin (most n : ℕ) (table : List (List ℤ)) : Type 0 where
     pub long : length table ≡ 9
-    pub small : (r : ℕ) → Small (row_at table r)
-    pub moves : GainRow (row_at weights 0) m.pre m.post (row_at table 0)
+    pub small : (r : ℕ) → Within most (row_at table r)
+    pub moves : GainRowWithin most (row_at weights 0) m.pre m.post (row_at table 0)
     pub nets : (k : ℕ) → k < n
-        → GainRow (row_at weights (suc k)) (get_or m.objects k no_net).pre (get_or m.objects k no_net).post (row_at table (suc k))
+        → GainRowWithin most (row_at weights (suc k)) (get_or m.objects k no_net).pre (get_or m.objects k no_net).post (row_at table (suc k))
 
-  rows_set : (table : List (List ℤ)) (i : ℕ) (row : List ℤ) → ((r : ℕ) → Small (row_at table r)) → Small row → (r : ℕ) → Small (row_at (set table i row) r)
-  rows_set table i row h p r =
-      by_same r i
-      (λ e. by_index (length table) i (λ q. rw (e, get_or-set_same table i row [] q) p) (λ q. rw (set_out table i row q) (h r)))
-      (λ d. rw (get_or-set_other table i r row [] d) (h r))
+  -- so they are by weights of at most 65,535
+  abbrev pub Laid : ℕ → List (List ℤ) → Type 0
+  Laid n table = LaidWithin most_gain n table
 
-  rows_none : (n r : ℕ) → Small (row_at (replicate n (replicate 32 (pos 0))) r)
-  rows_none zero r = λ k. omega arith
-  rows_none (suc n) zero = small_none 32
-  rows_none (suc n) (suc r) = rows_none n r
+  module _ {most : ℕ} where
+    rows_set : (table : List (List ℤ)) (i : ℕ) (row : List ℤ) → ((r : ℕ) → Within most (row_at table r)) → Within most row
+        → (r : ℕ) → Within most (row_at (set table i row) r)
+    rows_set table i row h p r =
+        by_same r i
+        (λ e. by_index (length table) i (λ q. rw (e, get_or-set_same table i row [] q) p) (λ q. rw (set_out table i row q) (h r)))
+        (λ d. rw (get_or-set_other table i r row [] d) (h r))
 
-  pub laid_none : (row : List ℤ) → GainRow (row_at weights 0) m.pre m.post row → Laid 0 (set (replicate 9 (replicate 32 (pos 0))) 0 row)
-  laid_none row g = record {
-    long = refl;
-    small = rows_set (replicate 9 (replicate 32 (pos 0))) 0 row (rows_none 9) g.small;
-    moves = g;
-    nets = λ k p. absurd (omega arith);
-  }
+    rows_none : (n r : ℕ) → Within most (row_at (replicate n (replicate 32 (pos 0))) r)
+    rows_none zero r = λ k. omega arith
+    rows_none (suc n) zero = small_none 32
+    rows_none (suc n) (suc r) = rows_none n r
 
-  pub laid_next : (n : ℕ) (table : List (List ℤ)) (row : List ℤ) → Laid n table → n < 8
-      → GainRow (row_at weights (suc n)) (get_or m.objects n no_net).pre (get_or m.objects n no_net).post row → Laid (n + 1) (set table (n + 1) row)
-  laid_next n table row l h g = record {
-    long = length-set table (n + 1) row ∙ l.long;
-    small = rows_set table (n + 1) row l.small g.small;
-    moves = rw (get_or-set_other table (n + 1) 0 row [] (λ e. omega arith)) l.moves;
-    nets = λ k p.
-        by_same k n
-        (λ d. rw (d, ← (add-one n), get_or-set_same table (n + 1) row [] (omega (arith, l.long)), add-one n) g)
-        (λ d. rw (get_or-set_other table (n + 1) (suc k) row [] (λ e. d (omega arith))) (l.nets k (omega (arith, d))));
-  }
+    pub laid_none : (row : List ℤ) → GainRowWithin most (row_at weights 0) m.pre m.post row → LaidWithin most 0 (set (replicate 9 (replicate 32 (pos 0))) 0 row)
+    laid_none row g = record {
+      long = refl;
+      small = rows_set (replicate 9 (replicate 32 (pos 0))) 0 row (rows_none 9) g.small;
+      moves = g;
+      nets = λ k p. absurd (omega arith);
+    }
 
-  pub laid_done : (table : List (List ℤ)) → Laid m.nets table → Gains m weights table
-  laid_done table l = record { small = l.small; moves = l.moves; nets = l.nets }
+    pub laid_next : (n : ℕ) (table : List (List ℤ)) (row : List ℤ) → LaidWithin most n table → n < 8
+        → GainRowWithin most (row_at weights (suc n)) (get_or m.objects n no_net).pre (get_or m.objects n no_net).post row
+        → LaidWithin most (n + 1) (set table (n + 1) row)
+    laid_next n table row l h g = record {
+      long = length-set table (n + 1) row ∙ l.long;
+      small = rows_set table (n + 1) row l.small g.small;
+      moves = rw (get_or-set_other table (n + 1) 0 row [] (λ e. omega arith)) l.moves;
+      nets = λ k p.
+          by_same k n
+          (λ d. rw (d, ← (add-one n), get_or-set_same table (n + 1) row [] (omega (arith, l.long)), add-one n) g)
+          (λ d. rw (get_or-set_other table (n + 1) (suc k) row [] (λ e. d (omega arith))) (l.nets k (omega (arith, d))));
+    }
+
+    pub laid_done : (table : List (List ℤ)) → LaidWithin most m.nets table → GainsWithin most m weights table
+    laid_done table l = record { small = l.small; moves = l.moves; nets = l.nets }
 
 -- ---- a move's gain
 

@@ -41,26 +41,41 @@ numbers number rows = map (map number) rows
 unfoldable pub gain_of : List ℤ → List (List ℕ) → List (List ℕ) → ℕ → ℤ
 gain_of w pre post t = dot w (row_at post t) -ℤ dot w (row_at pre t)
 
--- what a row holds stays small: two sides of 32 weights of at most 65,535, each at most 255 times
+-- the most that a transition gains, either side of 0: two sides of 32 weights of at most 65,535, each at most 255 times
+abbrev pub most_gain : ℕ
+most_gain = 1069531200
+
+-- each number of a row is at most so much, either side of 0
+abbrev pub Within : ℕ → List ℤ → Type 0
+Within most row = (k : ℕ) → nat_abs (number_of row k) ≤ most
+
+-- what a row holds stays small
 abbrev pub Small : List ℤ → Type 0
-Small row = (k : ℕ) → nat_abs (number_of row k) ≤ 1069531200
+Small row = Within most_gain row
 
 -- so small that it may be added up, each number as often as it is counted
 abbrev pub Addable : List ℤ → Type 0
-Addable row = (k : ℕ) → nat_abs (number_of row k) ≤ 137436856320
+Addable row = Within 137436856320 row
 
--- a row of what each transition gains
-pub record GainRow (w : List ℤ) (pre post : List (List ℕ)) (row : List ℤ) : Type 0 where
+-- a row of what each transition gains, at most so much
+pub record GainRowWithin (most : ℕ) (w : List ℤ) (pre post : List (List ℕ)) (row : List ℤ) : Type 0 where
   pub long : length row ≡ 32
-  pub small : Small row
+  pub small : Within most row
   pub is : (t : ℕ) → t < 32 → number_of row t ≡ gain_of w pre post t
 
--- the rows of a model: what its moves gain, and each net's transitions
-pub record Gains (m : Model) (weights gains : List (List ℤ)) : Type 0 where
-  pub small : (r : ℕ) → Small (row_at gains r)
-  pub moves : GainRow (row_at weights 0) m.pre m.post (row_at gains 0)
+-- the rows of a model: what its moves gain, and each net's transitions, at most so much
+pub record GainsWithin (most : ℕ) (m : Model) (weights gains : List (List ℤ)) : Type 0 where
+  pub small : (r : ℕ) → Within most (row_at gains r)
+  pub moves : GainRowWithin most (row_at weights 0) m.pre m.post (row_at gains 0)
   pub nets : (n : ℕ) → n < m.nets
-      → GainRow (row_at weights (suc n)) (get_or m.objects n no_net).pre (get_or m.objects n no_net).post (row_at gains (suc n))
+      → GainRowWithin most (row_at weights (suc n)) (get_or m.objects n no_net).pre (get_or m.objects n no_net).post (row_at gains (suc n))
+
+-- so they are by weights of at most 65,535
+abbrev pub GainRow : List ℤ → List (List ℕ) → List (List ℕ) → List ℤ → Type 0
+GainRow w pre post row = GainRowWithin most_gain w pre post row
+
+abbrev pub Gains : Model → List (List ℤ) → List (List ℤ) → Type 0
+Gains m weights gains = GainsWithin most_gain m weights gains
 
 -- what a move gains, numbered from 1; 0 is no move
 unfoldable pub move_gain : List ℤ → ℕ → ℤ
